@@ -1,8 +1,9 @@
 //! Label sets.
 ghost use Rattle.std.specs.Prelude.{◌≡◌, ◌++◌, ◌==◌, [], length, slice_get, option_map, IfOk, OnOk, OnErr, IsErrOf, IsTrue, false};
+ghost use Rattle.std.specs.List.{list_any};
 ghost use Rattle.label_set.specs.Bytes as names;
 ghost use Rattle.label_set.specs.Sets.{IsSet, below, above, value_of, with_label, without_label};
-ghost use Rattle.label_set.specs.SetText.{escaped_byte, escaped, label_text, labels_after, other_labels, in_braces, text_with_name, set_text};
+ghost use Rattle.label_set.specs.SetText.{is_special, escaped_byte, escaped, label_text, labels_after, other_labels, in_braces, text_with_name, set_text};
 
 use crate::texts::{Name, NoMemory, Pair, is_label_name, is_metric_name};
 use std::alloc::{AllocError, Global};
@@ -227,8 +228,32 @@ fn push_escaped(text: &mut Vec<u8>, byte: u8) -> Result<(), NoMemory>
     Ok(())
 }
 
-/// Appends bytes with their escapes.
+#[tactic(auto, unfolding(crate::specs::SetText::is_special))]
+fn has_escape(byte: u8) -> bool
+    ensures { result ≡ is_special byte }
+{
+    byte == b'\\' || byte == b'"' || byte == b'\n'
+}
+
+fn any_escape(bytes: &[u8]) -> bool
+    ensures { result ≡ list_any is_special bytes.now }
+{
+    bytes.iter().any(|b| has_escape(*b))
+}
+
+/// Appends bytes with their escapes; bytes with none at once.
+#[tactic(auto, using(crate::proofs::TextLemmas::escaped_plain))]
 fn push_all_escaped(text: &mut Vec<u8>, bytes: &[u8]) -> Result<(), NoMemory>
+    ensures { OnOk result (text.new.items ≡ text.old.items ++ escaped bytes.now) }
+{
+    if any_escape(bytes) {
+        return push_each_escaped(text, bytes);
+    }
+    text.extend_from_slice(bytes)?;
+    Ok(())
+}
+
+fn push_each_escaped(text: &mut Vec<u8>, bytes: &[u8]) -> Result<(), NoMemory>
     ensures { OnOk result (text.new.items ≡ text.old.items ++ escaped bytes.now) }
 {
     for byte in bytes {
@@ -443,5 +468,123 @@ impl SetList {
         ensures { result.now ≡ self.now }
     {
         self.items.as_slice()
+    }
+}
+
+#[cfg(test)]
+mod tests {
+    use super::*;
+    use crate::texts::{Blob, NameList, PairList};
+    use std::test::Fail;
+
+    fn set_of(alloc: Global, labels: &[(&str, &str)]) -> Result<LabelSet, LabelError> {
+        let mut set = LabelSet::empty();
+        for label in labels {
+            set = set.with(alloc, label.0, label.1)?;
+        }
+        Ok(set)
+    }
+
+    fn is_shared_by_threads<T: Send + Sync>(_value: &T) -> bool {
+        true
+    }
+
+    #[test]
+    fn texts_are_copied(rt: HostRuntime) -> Result<(), Fail> {
+        let alloc = rt.alloc();
+        let name = Name::from_str(alloc, "job")?.copy(alloc)?;
+        assert_eq!(rt; name.as_str(), "job");
+        let blob = Blob::from_slice(alloc, b"\x00a")?.copy(alloc)?;
+        assert_eq!(rt; blob.as_slice(), b"\x00a".as_slice());
+        let pair = Pair::from_strs(alloc, "a", "b")?.copy(alloc)?;
+        let names = NameList {
+            items: vec![in alloc; name]?,
+        };
+        assert_eq!(rt; names.as_slice().len(), 1);
+        let pairs = PairList {
+            items: vec![in alloc; pair]?,
+        };
+        assert_eq!(rt; pairs.as_slice()[0].value.as_str(), "b");
+        Ok(())
+    }
+
+    #[test]
+    fn names_are_told_apart(rt: HostRuntime) {
+        let cases = [
+            ("", false, false),
+            ("a", true, true),
+            ("_A9z", true, true),
+            ("9a", false, false),
+            ("a:b", false, true),
+            (":", false, true),
+            ("a-b", false, false),
+            ("é", false, false),
+        ];
+        for (text, label, metric) in cases {
+            assert_eq!(rt; is_label_name(text), label, "label {text}");
+            assert_eq!(rt; is_metric_name(text), metric, "metric {text}");
+        }
+    }
+
+    #[test]
+    fn labels_come_and_go(rt: HostRuntime) -> Result<(), Fail> {
+        let alloc = rt.alloc();
+        let set = set_of(
+            alloc,
+            &[
+                ("job", "x"),
+                ("a", "1"),
+                ("job", "y"),
+                ("b", "2"),
+                ("b", ""),
+            ],
+        )?;
+        assert_eq!(rt; set.len(), 2);
+        assert_eq!(rt; set.get("job"), Some("y"));
+        assert_eq!(rt; set.get("b"), None);
+        assert_eq!(rt; set.at(0), Some(("a", "1")));
+        assert_eq!(rt; set.at(2), None);
+        assert!(rt; matches!(set.with(alloc, "a-b", "1"), Err(LabelError::BadName)));
+        let copy = set.copy()?;
+        assert!(rt; copy == set && is_shared_by_threads(&copy));
+        let less = set.without(alloc, "a")?;
+        assert_eq!(rt; less.pairs().len(), 1);
+        assert!(rt; less.cmp(&set).is_gt() && LabelSet::empty().is_empty());
+        let made = LabelSet::from_pairs(alloc, Vec::new(alloc))?;
+        let sets = SetList {
+            items: vec![in alloc; made, less]?,
+        };
+        assert_eq!(rt; sets.as_slice().len(), 2);
+        Ok(())
+    }
+
+    #[test]
+    fn sets_are_printed(rt: HostRuntime) -> Result<(), Fail> {
+        let alloc = rt.alloc();
+        let cases: [(&[(&str, &str)], &str); 7] = [
+            (&[], "{}"),
+            (&[("__name__", "up")], "up"),
+            (&[("b", "2"), ("a", "1")], "{a=\"1\",b=\"2\"}"),
+            (
+                &[("__name__", "up"), ("job", "x"), ("Z", "z")],
+                "up{Z=\"z\",job=\"x\"}",
+            ),
+            (
+                &[("__name__", "a:b"), ("path", "C:\\ \"q\"\n")],
+                "a:b{path=\"C:\\\\ \\\"q\\\"\\n\"}",
+            ),
+            (&[("__name__", "a\"b")], "{\"a\\\"b\"}"),
+            (
+                &[("__name__", "no metric"), ("a", "1")],
+                "{\"no metric\",a=\"1\"}",
+            ),
+        ];
+        for (labels, text) in cases {
+            let set = set_of(alloc, labels)?;
+            let mut out = vec![in alloc; b'>']?;
+            set.write_text(alloc, &mut out)?;
+            assert_eq!(rt; &out[1..], text.as_bytes(), "{text}");
+        }
+        Ok(())
     }
 }
