@@ -2,7 +2,7 @@
 use Rattle.std.specs.Prelude.{◌≡◌, ℕ, ◌+◌, ◌-◌, Bool, not, ◌&&◌, ◌||◌, List, [], ◌∷◌, ◌++◌, length, take, drop, slice_index, Option, Some, None, Result, Ok, Err, MatchResult, if◌then◌else◌, ◌==◌, nat_le}
 use Rattle.std.specs.List.{prefix_len}
 use Rattle.label_set.specs.Bytes.{is_metric_name}
-use Rattle.expo_reader.specs.Values.{is_digits}
+use Rattle.value_text.specs.Values.{is_digits}
 use Rattle.expo_reader.specs.declared.rows.BodyRow.{BodyRow}
 use Rattle.expo_reader.specs.declared.bodies.BodyCause.{BodyCause}
 use Rattle.expo_reader.specs.declared.bodies.BodyCause.TheVariants.{NotYet, NoMemory}

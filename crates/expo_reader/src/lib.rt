@@ -6,8 +6,6 @@
 pub mod bodies;
 mod lines;
 pub mod rows;
-pub mod value_text;
 
 pub use bodies::{BodyCause, ReadBody, Unread, read_body};
 pub use rows::BodyRow;
-pub use value_text::{BadValue, ValueError, ValueText};

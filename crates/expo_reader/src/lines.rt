@@ -1,15 +1,17 @@
 //! Lines of a body, one at a time.
 ghost use Rattle.std.specs.Prelude.{◌≡◌, ◌≤◌, ◌+◌, length, drop, IfOk, IsTrue, string_bytes};
+ghost use Rattle.std.specs.Char.{is_ascii_digit};
 ghost use Rattle.std.specs.List.{list_all};
 ghost use Rattle.label_set.specs.Bytes.{is_metric_byte, is_metric_name, is_metric_start, is_name_start};
 ghost use Rattle.expo_reader.specs.Bodies.{Gives, is_plain, is_plain_value, line_len, line_reading, name_len, plain_row};
 ghost use Rattle.expo_reader.specs.Bodies.{is_closed as closed};
+ghost use Rattle.value_text.specs.Values.{is_digits};
 
 use crate::bodies::BodyCause;
 use crate::rows::BodyRow;
-use crate::value_text::{ValueText, all_digits};
 use label_set::{Blob, Name, NoMemory, PairList};
 use std::alloc::Global;
+use value_text::ValueText;
 
 /// Whether nothing follows the last line feed.
 #[tactic(auto, unfolding(crate::specs::Bodies::is_closed))]
@@ -107,6 +109,19 @@ fn is_value(bytes: &[u8]) -> bool
     ensures { result ≡ is_plain_value bytes.now }
 {
     all_digits(bytes) && bytes.len() <= 128
+}
+
+/// Whether the bytes are digits and nothing else, one at least.
+fn all_digits(bytes: &[u8]) -> bool
+    ensures { result ≡ is_digits bytes.now }
+{
+    !bytes.is_empty() && each_digit(bytes)
+}
+
+fn each_digit(bytes: &[u8]) -> bool
+    ensures { result ≡ list_all is_ascii_digit bytes.now }
+{
+    bytes.iter().all(|b| b.is_ascii_digit())
 }
 
 /// Whether the bytes are a metric name.
