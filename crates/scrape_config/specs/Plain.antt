@@ -1,11 +1,12 @@
 -- Plain configurations: one job whose static targets are listed, with every setting at its default.
 use Rattle.std.specs.Prelude.{ℕ, ◌+◌, pos, Bool, true, List, [], ◌∷◌, ◌++◌, length, drop, slice_index, not, ◌&&◌, ◌==◌, nat_le, codes, Option, Some, None, option_map, option_and_then, if◌then◌else◌}
 use Rattle.std.specs.Char.{is_ascii_lowercase, is_ascii_digit}
-use Rattle.std.specs.List.{list_any, list_all, prefix_len}
+use Rattle.std.specs.List.{list_any, list_all, prefix_len, flat_map}
 use Rattle.std.specs.Str.{bytes_eq, is_utf8}
 use Rattle.serde_json.specs.Data.{Data, Items, no_items, item, Members, no_members, member}
 use Rattle.serde_json.specs.Find.{get, as_str, as_array, as_object}
 use Rattle.serde_json.specs.Read.{read}
+use Rattle.scrape_config.specs.declared.conf.Group.{Group}
 use Rattle.scrape_config.specs.declared.conf.Job.{Job}
 use Rattle.scrape_config.specs.declared.conf.Conf.{Conf}
 
@@ -94,3 +95,10 @@ plain_value d = option_map (λ j. record { jobs = j ∷ [] }) (option_and_then p
 -- the configuration of a plain text, and none of another
 unfoldable pub plain_conf : List ℕ → Option Conf
 plain_conf bytes = if is_utf8 bytes then option_and_then plain_value (read bytes) else None
+
+-- the listed targets of a job, and of a configuration
+abbrev pub listed_in : Job → List (List ℕ)
+listed_in j = flat_map (λ (g : Group). g.targets) j.conf.groups
+
+abbrev pub listed : Conf → List (List ℕ)
+listed c = flat_map listed_in c.jobs

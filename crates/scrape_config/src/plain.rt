@@ -1,9 +1,9 @@
 //! Reading plain configurations.
-ghost use Rattle.std.specs.Prelude.{◌≡◌, ◌≤◌, length, codes, None, Some, option_map, option_and_then, IfOk, IsErrOf};
+ghost use Rattle.std.specs.Prelude.{◌≡◌, ◌≤◌, length, codes, None, Some, true, option_map, option_and_then, IfOk, IsErrOf};
 ghost use Rattle.std.specs.List.{list_all};
 ghost use Rattle.std.specs.Char.{is_ascii_digit};
 ghost use Rattle.serde_json.specs.View.{view, members_view, items_view};
-ghost use Rattle.scrape_config.specs.Plain.{starts_above_zero, is_plain_port, letters, is_port_part, is_plain_target, are_distinct, are_plain_targets, texts_of, single, field_of, single_in, plain_name, plain_targets, plain_job, plain_value, plain_conf};
+ghost use Rattle.scrape_config.specs.Plain.{starts_above_zero, is_plain_port, letters, is_port_part, is_plain_target, are_distinct, are_plain_targets, texts_of, single, field_of, single_in, plain_name, plain_targets, plain_job, plain_value, plain_conf, listed_in, listed};
 
 use crate::conf::{Conf, ConfError, Group, GroupList, Job, JobConf, JobList};
 use indexmap::IndexSet;
@@ -18,6 +18,7 @@ use std::str;
 #[tactic(auto, unfolding(crate::specs::Plain::plain_conf))]
 pub fn read_conf(alloc: Global, bytes: &[u8]) -> Result<Conf, ConfError>
     ensures conf { IfOk result (λ c. plain_conf bytes.now ≡ Some c) }
+    ensures few { IfOk result (λ c. length (listed c) ≤ 10000) }
     ensures not_yet { IsErrOf result ConfError.NotYet → plain_conf bytes.now ≡ None }
 {
     let Ok(text) = str::from_utf8(bytes) else {
@@ -38,6 +39,7 @@ pub fn read_conf(alloc: Global, bytes: &[u8]) -> Result<Conf, ConfError>
 #[tactic(auto, unfolding(crate::specs::Plain::plain_value))]
 fn conf_in(alloc: Global, value: &Value) -> Result<Conf, ConfError>
     ensures conf { IfOk result (λ c. plain_value (view value.now) ≡ Some c) }
+    ensures few { IfOk result (λ c. length (listed c) ≤ 10000) }
     ensures not_yet { IsErrOf result ConfError.NotYet → plain_value (view value.now) ≡ None }
 {
     let Some(job) = single_field(value, 1, "scrape_configs") else {
@@ -54,6 +56,7 @@ fn conf_in(alloc: Global, value: &Value) -> Result<Conf, ConfError>
 #[tactic(auto, unfolding(crate::specs::Plain::plain_job))]
 fn job_in(alloc: Global, value: &Value) -> Result<Job, ConfError>
     ensures job { IfOk result (λ j. plain_job (view value.now) ≡ Some j) }
+    ensures few { IfOk result (λ j. length (listed_in j) ≤ 10000) }
     ensures not_yet { IsErrOf result ConfError.NotYet → plain_job (view value.now) ≡ None }
 {
     let Some(name) = name_in(value) else {
@@ -123,6 +126,7 @@ fn single_item(items: &[Value]) -> Option<&Value>
 #[tactic(auto, unfolding(crate::specs::Plain::plain_targets))]
 fn targets_in(alloc: Global, group: &Value) -> Result<NameList, ConfError>
     ensures targets { IfOk result (λ ts. plain_targets (view group.now) ≡ Some ts) }
+    ensures few { IfOk result (λ ts. length ts ≤ 10000) }
     ensures not_yet { IsErrOf result ConfError.NotYet → plain_targets (view group.now) ≡ None }
 {
     let Some(values) = field(group, 1, "targets") else {
@@ -158,7 +162,8 @@ fn texts_in(alloc: Global, values: &[Value]) -> Result<Vec<Name>, ConfError>
 
 #[tactic(auto, unfolding(crate::specs::Plain::are_plain_targets))]
 fn are_targets(alloc: Global, texts: &[Name]) -> Result<bool, NoMemory>
-    ensures { IfOk result (λ b. b ≡ are_plain_targets texts.now) }
+    ensures value { IfOk result (λ b. b ≡ are_plain_targets texts.now) }
+    ensures few { IfOk result (λ b. b ≡ true → length texts.now ≤ 10000) }
 {
     if texts.is_empty() || texts.len() > 10_000 || !all_targets(texts) {
         return Ok(false);
