@@ -3,14 +3,20 @@
 //! Contracts see a core as its journal, the list of the events that it took; `specs/Machine.antt` says what the answers and the book of a journal are.
 #![tactic(auto)]
 
+mod acts;
 pub mod answers;
 pub mod appender_book;
 pub mod life_roll;
+pub mod machine;
+mod outcomes;
 pub mod report_samples;
 pub mod rising;
 pub mod sample_rows;
+mod scrapes;
+pub mod target_set;
 
 pub use answers::Answer;
 pub use appender_book::{Book, Entry, EntryList, Kind};
+pub use machine::Core;
 pub use report_samples::{Report, ReportCounts};
 pub use sample_rows::{Sample, SampleList, Scrape, ScrapeFault};
