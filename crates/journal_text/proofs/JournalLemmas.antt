@@ -1,7 +1,7 @@
 -- Journals: a text spells one journal at most, and a text with a fault spells none and has no other fault.
-use Rattle.std.proofs.Common.{◌≡◌, ◌≢◌, ℕ, zero, suc, ◌<◌, ◌^◌, ℤ, pos, negsuc, List, [], ◌∷◌, ◌++◌, length, All, Option, Some, None, Result, Ok, Err, refl, sym, ap, ap₂, ◌∙◌, subst, arith, append_assoc, append-nil}
+use Rattle.std.proofs.Common.{◌≡◌, ◌≢◌, ℕ, zero, suc, ◌+◌, ◌<◌, ◌^◌, ℤ, pos, negsuc, List, [], ◌∷◌, ◌++◌, length, take, get_or, All, Option, Some, None, Result, Ok, Err, refl, sym, ap, ap₂, ◌∙◌, subst, arith, append_assoc, append-nil}
 use Rattle.std.proofs.lemmas.Bool.{le-leb, lt-leb}
-use Rattle.std.proofs.lemmas.List.{append_cancel_left}
+use Rattle.std.proofs.lemmas.List.{append_cancel_left, take_more}
 use Rattle.std.proofs.lemmas.List.Elements.{All-append}
 use Rattle.std.proofs.lemmas.Option.{none-some, same_Some}
 use Rattle.journal_text.specs.declared.lines.Line.{Line}
@@ -13,7 +13,7 @@ use Rattle.journal_text.specs.declared.faults.ScriptCause.TheVariants as cause
 use Rattle.journal_text.specs.declared.faults.ScriptFault.{ScriptFault}
 use Rattle.journal_text.specs.Lines.{number, line_text, IsMoment}
 use Rattle.journal_text.specs.Events.{line_of, rest_of, spelling, first_line, events_text, journal_text, IsInLimits, HasNames, now_after, now_from, now_of, MayFollow, IsInOrderFrom, IsJournal, IsKept}
-use Rattle.journal_text.specs.Readings.{event_in}
+use Rattle.journal_text.specs.EventReadings.{event_in}
 use Rattle.journal_text.specs.Faults.{BeginsLine, BeginsEvent, Fails, FailsAt, IsFault, IsFaultBy, SpellsNone, IsJournalOf, IsOnlyFault}
 use Rattle.journal_text.proofs.EventLemmas.{event_in-text, Verdict, verdict}
 
@@ -289,3 +289,11 @@ kept_more es last e kept limits names follows = record {
   last_is = ap (λ n. now_after n e) kept.last_is ∙ sym (now_of-more es e);
   small = now_small last e limits kept.small;
 }
+
+-- the text of the events up to a place, with the one at that place
+pub journal_text-next : (es : List Event) (i : ℕ) (e : Event) → i < length es → e ≡ get_or es i e → journal_text (take (i + 1) es) ≡ journal_text (take i es) ++ spelling e
+journal_text-next es i e within is =
+    ap journal_text (take_more es i e within ∙ ap (λ x. take i es ++ x ∷ []) (sym is))
+    ∙ sym (append-nil (journal_text (take i es ++ e ∷ [])))
+    ∙ journal_text-more (take i es) e []
+    ∙ ap (λ t. journal_text (take i es) ++ t) (append-nil (spelling e))
