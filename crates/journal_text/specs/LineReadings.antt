@@ -1,5 +1,5 @@
 -- How a line is read: a word, and then its numbers.
-use Rattle.std.specs.Prelude.{ℕ, Bool, List, length, drop, nat_eq, if◌then◌else◌, codes, ℤ, Option, Some, None, option_map, option_and_then}
+use Rattle.std.specs.Prelude.{ℕ, List, length, drop, nat_eq, if◌then◌else◌, codes, ℤ, Option, Some, None, option_map, option_and_then}
 use Rattle.std.specs.List.{starts_with}
 use Rattle.std.specs.Option.{option_map_or}
 use Rattle.journal_text.specs.declared.lines.Line.{Line}

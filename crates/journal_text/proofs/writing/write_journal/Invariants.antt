@@ -1,4 +1,4 @@
-use Rattle.std.proofs.Common.{◌≡◌, ◌++◌, take}
+use Rattle.std.proofs.Common.{◌≡◌, take}
 use Rattle.journal_text.specs.Events.{journal_text}
 use Rattle.journal_text.proofs.writing.write_journal.Given as goal
 
