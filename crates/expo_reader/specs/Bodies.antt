@@ -1,0 +1,85 @@
+-- Bodies of the text exposition format, line by line (Prometheus documentation, "Exposition formats").
+use Rattle.std.specs.Prelude.{◌≡◌, ℕ, ◌+◌, ◌-◌, Bool, not, ◌&&◌, ◌||◌, List, [], ◌∷◌, ◌++◌, length, take, drop, slice_index, Option, Some, None, Result, Ok, Err, MatchResult, if◌then◌else◌, ◌==◌, nat_le}
+use Rattle.std.specs.List.{prefix_len}
+use Rattle.label_set.specs.Bytes.{is_metric_name}
+use Rattle.expo_reader.specs.Values.{is_digits}
+use Rattle.expo_reader.specs.declared.rows.BodyRow.{BodyRow}
+use Rattle.expo_reader.specs.declared.bodies.BodyCause.{BodyCause}
+use Rattle.expo_reader.specs.declared.bodies.BodyCause.TheVariants.{NotYet, NoMemory}
+
+-- a body and its rows
+pub record Body : Type 0 where
+  pub bytes : List ℕ
+  pub rows : List BodyRow
+
+-- the byte joins the first line
+abbrev pub onto_first : ℕ → List (List ℕ) → List (List ℕ)
+onto_first b [] = (b ∷ []) ∷ []
+onto_first b (l ∷ ls) = (b ∷ l) ∷ ls
+
+-- a body is cut at each line feed; what follows the last one is a line where it isn't empty
+unfoldable pub lines_of : List ℕ → List (List ℕ)
+lines_of [] = []
+lines_of (b ∷ bs) = if b == 10 then [] ∷ lines_of bs else onto_first b (lines_of bs)
+
+-- how many bytes stand before the first line feed
+abbrev pub line_len : List ℕ → ℕ
+line_len bs = prefix_len (λ b. not (b == 10)) bs
+
+-- how many bytes stand before the first space
+abbrev pub name_len : List ℕ → ℕ
+name_len line = prefix_len (λ b. not (b == 32)) line
+
+-- 1 to 128 digits
+unfoldable pub is_plain_value : List ℕ → Bool
+is_plain_value bs = is_digits bs && nat_le (length bs) 128
+
+-- a metric name, one space and a plain value
+unfoldable pub is_plain : List ℕ → Bool
+is_plain line = is_metric_name (take (name_len line) line) && is_plain_value (drop (name_len line + 1) line)
+
+-- the row of a name and a value alone
+abbrev pub plain_row : ℕ → List ℕ → List ℕ → BodyRow
+plain_row number name value = record { line = number; raw = name; name = name; labels = []; value = value; stamp = None }
+
+-- what the line of a number says: a row, nothing where it is skipped, or why it isn't read
+unfoldable pub line_reading : ℕ → List ℕ → Result (Option BodyRow) BodyCause
+line_reading number line =
+    if is_plain line then Ok (Some (plain_row number (take (name_len line) line) (drop (name_len line + 1) line))) else Err NotYet
+
+-- rows in front of those that are read, or why they aren't read
+abbrev pub joined : List BodyRow → Result (List BodyRow) BodyCause → Result (List BodyRow) BodyCause
+joined rows (Ok more) = Ok (rows ++ more)
+joined rows (Err cause) = Err cause
+
+-- the row of a line, if it has one
+abbrev pub row_list : Option BodyRow → List BodyRow
+row_list None = []
+row_list (Some row) = row ∷ []
+
+-- what a line says in front of what the lines below it say; the first line that isn't read decides
+abbrev pub line_then : Result (Option BodyRow) BodyCause → Result (List BodyRow) BodyCause → Result (List BodyRow) BodyCause
+line_then (Ok row) more = joined (row_list row) more
+line_then (Err cause) more = Err cause
+
+-- the rows of lines in their order, the first of which has that number
+unfoldable pub rows_from : ℕ → List (List ℕ) → Result (List BodyRow) BodyCause
+rows_from number [] = Ok []
+rows_from number (l ∷ ls) = line_then (line_reading number l) (rows_from (number + 1) ls)
+
+-- nothing follows the last line feed
+unfoldable pub is_closed : List ℕ → Bool
+is_closed bytes = (length bytes == 0) || (slice_index bytes (length bytes - 1) == 10)
+
+-- the rows of a body, its lines counted from 1, or why it isn't read
+unfoldable pub reading : List ℕ → Result (List BodyRow) BodyCause
+reading bytes = if is_closed bytes then rows_from 1 (lines_of bytes) else Err NotYet
+
+-- the cause is the one that was said, unless memory ran out
+abbrev pub CauseIs : {A : Type 0} → BodyCause → Result A BodyCause → Type 0
+CauseIs NoMemory said = Unit {0}
+CauseIs NotYet said = said ≡ Err NotYet
+
+-- what was returned is what was said, unless memory ran out
+abbrev pub Gives : {A B : Type 0} → (A → B) → Result A BodyCause → Result B BodyCause → Type 0
+Gives view result said = MatchResult result (λ v. said ≡ Ok (view v)) (λ c. CauseIs c said)

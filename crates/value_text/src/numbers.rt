@@ -1,0 +1,120 @@
+//! Timestamps and durations.
+ghost use Rattle.std.specs.Prelude.{◌≡◌, ◌++◌, ◌≤ℤ◌, IfOk, MatchResult, None, OnErr, OnOk, Some, pos};
+ghost use Rattle.value_text.specs.Numbers.{millis, number, seconds3, three_digits};
+
+use crate::grammar::{is_digits, without_sign};
+use label_set::NoMemory;
+use std::alloc::{AllocError, Global};
+use std::str;
+
+/// The bytes are no timestamp.
+#[derive(Clone, Copy, PartialEq, Eq, Debug)]
+pub struct BadNumber;
+
+/// Reads the milliseconds of a timestamp: a sign or none and digits, from -2^63 to 2^63 - 1.
+pub fn read_millis(bytes: &[u8]) -> Result<i64, BadNumber>
+    ensures { MatchResult result (λ ms. millis bytes.now ≡ Some ms) (λ _. millis bytes.now ≡ None) }
+{
+    if !is_digits(without_sign(bytes)) {
+        return Err(BadNumber);
+    }
+    match str::from_utf8(bytes) {
+        Ok(text) => parsed(text),
+        Err(_) => Err(BadNumber),
+    }
+}
+
+fn parsed(text: &str) -> Result<i64, BadNumber>
+    ensures { MatchResult result (λ ms. millis text.now ≡ Some ms) (λ _. millis text.now ≡ None) }
+{
+    match text.parse::<i64>() {
+        Ok(ms) => Ok(ms),
+        Err(_) => Err(BadNumber),
+    }
+}
+
+/// Appends milliseconds as seconds with three decimals. Where memory runs out the text is as before.
+pub fn write_seconds3(alloc: Global, ms: i64, text: &mut Vec<u8>) -> Result<(), NoMemory>
+    requires { pos 0 ≤ℤ ms }
+    ensures appended { OnOk result (text.new.items ≡ text.old.items ++ seconds3 (number ms)) }
+    ensures kept { OnErr result (text.new.items ≡ text.old.items) }
+{
+    let seconds = seconds_text(alloc, ms)?;
+    text.extend_from_slice(&seconds)?;
+    Ok(())
+}
+
+/// Milliseconds as seconds with three decimals.
+#[tactic(auto, unfolding(crate::specs::Numbers::seconds3))]
+pub fn seconds_text(alloc: Global, ms: i64) -> Result<Vec<u8>, AllocError>
+    requires { pos 0 ≤ℤ ms }
+    ensures { IfOk result (λ v. v.items ≡ seconds3 (number ms)) }
+{
+    let count = to_number(ms);
+    let mut text = (count / 1000).to_string(alloc)?.into_bytes();
+    text.push(b'.')?;
+    text.extend_from_slice(&decimals(count))?;
+    Ok(text)
+}
+
+fn to_number(ms: i64) -> u64
+    requires { pos 0 ≤ℤ ms }
+    ensures { result ≡ number ms }
+{
+    ms as u64
+}
+
+/// The last three digits.
+fn decimals(count: u64) -> [u8; 3]
+    ensures { result ≡ three_digits count }
+{
+    [
+        b'0' + (count / 100 % 10) as u8,
+        b'0' + (count / 10 % 10) as u8,
+        b'0' + (count % 10) as u8,
+    ]
+}
+
+#[cfg(test)]
+mod tests {
+    use super::*;
+
+    #[test]
+    fn reads_timestamps(rt: HostRuntime) {
+        for (text, ms) in [
+            ("0", 0),
+            ("+5", 5),
+            ("-3982045", -3982045),
+            ("1395066363000", 1395066363000),
+            ("9223372036854775807", i64::MAX),
+            ("-9223372036854775808", i64::MIN),
+            ("00000000000000000000000000007", 7),
+        ] {
+            assert_eq!(rt; read_millis(text.as_bytes()), Ok(ms), "{text}");
+        }
+        for text in [
+            "",
+            "+",
+            "-",
+            "1.0",
+            "1e3",
+            " 1",
+            "9223372036854775808",
+            "-9223372036854775809",
+            "18446744073709551616",
+        ] {
+            assert_eq!(rt; read_millis(text.as_bytes()), Err(BadNumber), "{text}");
+        }
+    }
+
+    #[test]
+    fn writes_seconds(rt: HostRuntime) -> Result<(), NoMemory> {
+        let mut text = Vec::new(rt.alloc());
+        for ms in [15, 10000, 0, 3982045] {
+            write_seconds3(rt.alloc(), ms, &mut text)?;
+            text.push(b' ')?;
+        }
+        assert_eq!(rt; text.as_slice(), b"0.015 10.000 0.000 3982.045 ".as_slice());
+        Ok(())
+    }
+}

@@ -1,0 +1,191 @@
+//! Values, kept as their bytes.
+ghost use Rattle.std.specs.Prelude.{◌≡◌, ◌≤◌, ◌≤ℤ◌, ◌↔◌, length, IfOk, IsErrOf, IsOk, IsTrue, false, pos};
+ghost use Rattle.std.specs.Fmt.{decimal};
+ghost use Rattle.value_text.specs.Values.{is_value};
+ghost use Rattle.value_text.specs.Numbers.{number, seconds3};
+
+use crate::grammar;
+use crate::numbers::seconds_text;
+use label_set::NoMemory;
+use std::alloc::{AllocError, Global};
+use std::marker::Model;
+
+/// The bytes are no value.
+#[derive(Clone, Copy, PartialEq, Eq, Debug)]
+pub struct BadValue;
+
+/// Why a value was not kept.
+#[derive(Clone, Copy, PartialEq, Eq, Debug)]
+pub enum ValueError {
+    /// The bytes are no value.
+    BadValue,
+    /// An allocation failed.
+    NoMemory,
+}
+
+impl From<AllocError> for ValueError {
+    ghost use Rattle.std.specs.Prelude.{◌≡◌};
+    ghost use Rattle.value_text.specs.declared.texts.ValueError.TheVariants.{NoMemory};
+
+    ghost from_gives = { λ _ error. error ≡ NoMemory };
+
+    fn from(_: AllocError) -> ValueError {
+        ValueError::NoMemory
+    }
+}
+
+/// The text of a value, at most 128 bytes.
+#[derive(Drop, Debug)]
+pub struct ValueText {
+    bytes: Vec<u8>,
+}
+
+impl Model for ValueText {
+    ghost use Rattle.std.specs.Prelude.{ℕ, List, IsTrue};
+    ghost use Rattle.value_text.specs.Values.{is_value};
+
+    ghost Value = { List ℕ };
+
+    ghost view = { λ v. v.bytes.items };
+
+    ghost invariant = { λ v. IsTrue (is_value v.bytes.items) };
+}
+
+impl ValueText {
+    /// Whether the bytes are a value.
+    pub fn check(bytes: &[u8]) -> Result<(), BadValue>
+        ensures { IsOk result ↔ IsTrue (is_value bytes.now) }
+    {
+        if grammar::is_value(bytes) {
+            Ok(())
+        } else {
+            Err(BadValue)
+        }
+    }
+
+    /// Keeps the bytes of a value.
+    pub fn keep(alloc: Global, bytes: &[u8]) -> Result<ValueText, ValueError>
+        ensures kept { IfOk result (λ v. v ≡ bytes.now) }
+        ensures value { IfOk result (λ _. IsTrue (is_value bytes.now)) }
+        ensures bad { IsErrOf result ValueError.BadValue → is_value bytes.now ≡ false }
+    {
+        if !grammar::is_value(bytes) {
+            return Err(ValueError::BadValue);
+        }
+        Ok(ValueText {
+            bytes: Vec::from_slice(alloc, bytes)?,
+        })
+    }
+
+    /// Keeps bytes that are known to be a value.
+    pub fn keep_checked(alloc: Global, bytes: &[u8]) -> Result<ValueText, NoMemory>
+        requires { IsTrue (is_value bytes.now) }
+        ensures { IfOk result (λ v. v ≡ bytes.now) }
+    {
+        Ok(ValueText {
+            bytes: Vec::from_slice(alloc, bytes)?,
+        })
+    }
+
+    /// A count, in decimal digits.
+    pub fn of_count(alloc: Global, count: u64) -> Result<ValueText, NoMemory>
+        ensures { IfOk result (λ v. v ≡ decimal count) }
+    {
+        let text = count.to_string(alloc)?;
+        Ok(ValueText {
+            bytes: text.into_bytes(),
+        })
+    }
+
+    /// Milliseconds, as seconds with three decimals.
+    pub fn of_millis(alloc: Global, ms: i64) -> Result<ValueText, NoMemory>
+        requires { pos 0 ≤ℤ ms }
+        ensures { IfOk result (λ v. v ≡ seconds3 (number ms)) }
+    {
+        Ok(ValueText {
+            bytes: seconds_text(alloc, ms)?,
+        })
+    }
+
+    /// The bytes of the value.
+    pub fn bytes(&self) -> &[u8]
+        ensures bytes { result.now ≡ self.now }
+        ensures value { IsTrue (is_value self.now) }
+    {
+        &self.bytes
+    }
+
+    /// A copy.
+    pub fn copy(&self, alloc: Global) -> Result<ValueText, NoMemory>
+        ensures { IfOk result (λ v. v ≡ self.now) }
+    {
+        Ok(ValueText {
+            bytes: Vec::from_slice(alloc, &self.bytes)?,
+        })
+    }
+}
+
+#[cfg(test)]
+mod tests {
+    use super::*;
+
+    #[test]
+    fn keeps_values(rt: HostRuntime) -> Result<(), NoMemory> {
+        for text in [
+            "0",
+            "+Inf",
+            "-infinity",
+            "NaN",
+            ".5e+3",
+            "1.458255915e9",
+            "7.",
+            "-1E-9",
+        ] {
+            assert!(rt; ValueText::check(text.as_bytes()).is_ok(), "{text}");
+        }
+        for text in [
+            "", "-nan", "x", "1e", ".", "0x1", "1_0", "1 ", "--1", "infinit",
+        ] {
+            assert!(rt; ValueText::check(text.as_bytes()).is_err(), "{text}");
+        }
+        let Ok(kept) = ValueText::keep(rt.alloc(), b"12.47") else {
+            panic!(rt; "12.47 is a value");
+        };
+        assert_eq!(rt; kept.copy(rt.alloc())?.bytes(), b"12.47".as_slice());
+        let checked = ValueText::keep_checked(rt.alloc(), b"1")?;
+        assert_eq!(rt; checked.bytes(), b"1".as_slice());
+        Ok(())
+    }
+
+    #[test]
+    fn keeps_128_bytes(rt: HostRuntime) -> Result<(), AllocError> {
+        let mut text = Vec::new(rt.alloc());
+        for _ in 0..128 {
+            text.push(b'7')?;
+        }
+        assert!(rt; ValueText::keep(rt.alloc(), &text).is_ok());
+        text.push(b'7')?;
+        assert_eq!(rt;
+            ValueText::keep(rt.alloc(), &text).err(),
+            Some(ValueError::BadValue)
+        );
+        Ok(())
+    }
+
+    #[test]
+    fn writes_counts_and_durations(rt: HostRuntime) -> Result<(), NoMemory> {
+        assert_eq!(rt;
+            ValueText::of_count(rt.alloc(), 0)?.bytes(),
+            b"0".as_slice()
+        );
+        assert_eq!(rt;
+            ValueText::of_count(rt.alloc(), 1027)?.bytes(),
+            b"1027".as_slice()
+        );
+        assert_eq!(rt;
+            ValueText::of_millis(rt.alloc(), 15)?.bytes(),
+            b"0.015".as_slice()
+        );
+        Ok(())
+    }
+}
