@@ -14,7 +14,8 @@ use Rattle.journal_text.specs.declared.faults.ScriptCause.{ScriptCause}
 use Rattle.journal_text.specs.declared.faults.ScriptCause.TheVariants as cause
 use Rattle.journal_text.specs.Lines.{line_text, InRange}
 use Rattle.journal_text.specs.Events.{line_of, rest_of, spelling, IsInLimits, HasNames, now_after, MayFollow}
-use Rattle.journal_text.specs.Readings.{line_in, block, content_len, content_after, targets_with, event_with, in_order, event_or, content_or, line_or, event_in}
+use Rattle.journal_text.specs.LineReadings.{line_in}
+use Rattle.journal_text.specs.EventReadings.{block, content_len, content_after, targets_with, event_with, in_order, event_or, content_or, line_or, event_in}
 use Rattle.journal_text.specs.Faults.{Fails}
 use Rattle.journal_text.proofs.NumberLemmas.{split_at, drop_past}
 use Rattle.journal_text.proofs.LineLemmas.{line_in-some, line_in-text}

@@ -1,7 +1,7 @@
 -- Journals: a text spells one journal at most, and a text with a fault spells none and has no other fault.
-use Rattle.std.proofs.Common.{◌≡◌, ◌≢◌, ℕ, zero, suc, ◌<◌, ◌^◌, ℤ, pos, negsuc, List, [], ◌∷◌, ◌++◌, length, All, Option, Some, None, Result, Ok, Err, refl, sym, ap, ap₂, ◌∙◌, subst, arith, append_assoc, append-nil}
+use Rattle.std.proofs.Common.{◌≡◌, ◌≢◌, ℕ, zero, suc, ◌+◌, ◌<◌, ◌^◌, ℤ, pos, negsuc, List, [], ◌∷◌, ◌++◌, length, length-append, take, get_or, All, Option, Some, None, Result, Ok, Err, refl, sym, ap, ap₂, ◌∙◌, subst, arith, append_assoc, append-nil}
 use Rattle.std.proofs.lemmas.Bool.{le-leb, lt-leb}
-use Rattle.std.proofs.lemmas.List.{append_cancel_left}
+use Rattle.std.proofs.lemmas.List.{append_cancel_left, take_more, get_or_at, get_or_append_left}
 use Rattle.std.proofs.lemmas.List.Elements.{All-append}
 use Rattle.std.proofs.lemmas.Option.{none-some, same_Some}
 use Rattle.journal_text.specs.declared.lines.Line.{Line}
@@ -13,7 +13,7 @@ use Rattle.journal_text.specs.declared.faults.ScriptCause.TheVariants as cause
 use Rattle.journal_text.specs.declared.faults.ScriptFault.{ScriptFault}
 use Rattle.journal_text.specs.Lines.{number, line_text, IsMoment}
 use Rattle.journal_text.specs.Events.{line_of, rest_of, spelling, first_line, events_text, journal_text, IsInLimits, HasNames, now_after, now_from, now_of, MayFollow, IsInOrderFrom, IsJournal, IsKept}
-use Rattle.journal_text.specs.Readings.{event_in}
+use Rattle.journal_text.specs.EventReadings.{event_in}
 use Rattle.journal_text.specs.Faults.{BeginsLine, BeginsEvent, Fails, FailsAt, IsFault, IsFaultBy, SpellsNone, IsJournalOf, IsOnlyFault}
 use Rattle.journal_text.proofs.EventLemmas.{event_in-text, Verdict, verdict}
 
@@ -288,4 +288,46 @@ kept_more es last e kept limits names follows = record {
   journal = journal_more es e kept.journal limits names follows;
   last_is = ap (λ n. now_after n e) kept.last_is ∙ sym (now_of-more es e);
   small = now_small last e limits kept.small;
+}
+
+-- the text of the events up to a place, with the one at that place
+pub journal_text-next : (es : List Event) (i : ℕ) (e : Event) → i < length es → e ≡ get_or es i e → journal_text (take (i + 1) es) ≡ journal_text (take i es) ++ spelling e
+journal_text-next es i e within is =
+    ap journal_text (take_more es i e within ∙ ap (λ x. take i es ++ x ∷ []) (sym is))
+    ∙ sym (append-nil (journal_text (take i es ++ e ∷ [])))
+    ∙ journal_text-more (take i es) e []
+    ∙ ap (λ t. journal_text (take i es) ++ t) (append-nil (spelling e))
+
+-- an event that comes behind others in a journal: it keeps its limits and may follow, and the others are a journal
+pub record Next (es : List Event) (e : Event) : Type 0 where
+  pub limits : IsInLimits e
+  pub names : HasNames e
+  pub follows : MayFollow (now_of es) e
+  pub front : IsJournal es
+
+all_at : {X : Type 0} (P : X → Type 0) (xs : List X) (x : X) (ys : List X) → All P (xs ++ x ∷ ys) → P x
+all_at P xs x ys all =
+    subst P (get_or_at xs x ys x (length xs) refl) (all (length xs) x (omega (arith, length-append xs (x ∷ ys))))
+
+all_front : {X : Type 0} (P : X → Type 0) (xs ys : List X) → All P (xs ++ ys) → All P xs
+all_front P xs ys all = λ k d within. subst P (get_or_append_left xs ys d k within) (all k d (omega (arith, length-append xs ys)))
+
+order_front : (now : ℕ) (es fs : List Event) → IsInOrderFrom now (es ++ fs) → IsInOrderFrom now es
+order_front now [] fs order = tt
+order_front now (e ∷ es) fs order = (order.0, order_front (now_after now e) es fs order.1)
+
+order_next : (now : ℕ) (es : List Event) (e : Event) (rest : List Event) → IsInOrderFrom now (es ++ e ∷ rest) → MayFollow (now_from now es) e
+order_next now [] e rest order = order.0
+order_next now (f ∷ fs) e rest order = order_next (now_after now f) fs e rest order.1
+
+pub next_of : (es : List Event) (e : Event) (rest : List Event) → IsJournal (es ++ e ∷ rest) → Next es e
+next_of es e rest journal = record {
+  limits = all_at IsInLimits es e rest journal.limits;
+  names = all_at HasNames es e rest journal.names;
+  follows = order_next 0 es e rest journal.order;
+  front = record {
+    limits = all_front IsInLimits es (e ∷ rest) journal.limits;
+    names = all_front HasNames es (e ∷ rest) journal.names;
+    order = order_front 0 es (e ∷ rest) journal.order;
+  };
 }

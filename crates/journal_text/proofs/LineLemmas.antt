@@ -10,7 +10,8 @@ use Rattle.std.proofs.lemmas.Bool.Decides.{Decides-eqb}
 use Rattle.journal_text.specs.declared.lines.Line.{Line}
 use Rattle.journal_text.specs.declared.lines.Line.TheVariants.{Load, Targets, Tick, Sweep, Body, Lost, Garbled, Unsent, Oversize, Halt}
 use Rattle.journal_text.specs.Lines.{number, line_text, IsMoment, IsWord, InRange}
-use Rattle.journal_text.specs.Readings.{field, moment_field, word_field, pair_fields, load_line, targets_line, tick_line, sweep_line, body_line, lost_line, garbled_line, unsent_line, oversize_line, halt_line, after, behind, finish_line_in, line_in}
+use Rattle.journal_text.specs.NumberReadings.{field, moment_field, word_field}
+use Rattle.journal_text.specs.LineReadings.{pair_fields, load_line, targets_line, tick_line, sweep_line, body_line, lost_line, garbled_line, unsent_line, oversize_line, halt_line, after, behind, finish_line_in, line_in}
 use Rattle.journal_text.proofs.NumberLemmas.{field-decimal, field-some, option_map_some}
 
 -- a moment and a byte behind it

@@ -6,7 +6,7 @@ use Rattle.journal_text.specs.declared.faults.ScriptCause.TheVariants as cause
 use Rattle.journal_text.specs.declared.faults.ScriptError.{ScriptError}
 use Rattle.journal_text.specs.declared.faults.ScriptError.TheVariants.{Bad, NoMemory}
 use Rattle.journal_text.specs.Events.{spelling, journal_text, now_of, IsJournal}
-use Rattle.journal_text.specs.Readings.{event_in}
+use Rattle.journal_text.specs.EventReadings.{event_in}
 use Rattle.journal_text.specs.Faults.{Fails, IsFaultBy, IsJournalOf, Refuses, StopsFor}
 use Rattle.journal_text.proofs.EventLemmas.{Read, Verdict, verdict}
 use Rattle.journal_text.proofs.JournalLemmas.{only_fault, only_journal, spelling_some, journal_text-more}

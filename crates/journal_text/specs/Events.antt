@@ -86,6 +86,7 @@ HasNames (Halt moment) = Unit {0}
 abbrev pub now_after : ℕ → Event → ℕ
 now_after now event = unwrap_or (moment_of event) now
 
+-- the last moment of events, where `now` was the last one before them
 abbrev pub now_from : ℕ → List Event → ℕ
 now_from now [] = now
 now_from now (e ∷ es) = now_from (now_after now e) es

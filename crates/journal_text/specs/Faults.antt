@@ -22,24 +22,25 @@ BeginsEvent bytes = (e : Event) × (rest : List ℕ) × IsInLimits e × HasNames
 abbrev pub BeginsEarlier : ℕ → List ℕ → Type 0
 BeginsEarlier now bytes = (e : Event) × (rest : List ℕ) × IsInLimits e × HasNames e × (bytes ≡ spelling e ++ rest) × (now_after now e < now)
 
--- the bytes of whole events in order end at the offset, more follows, and fails so
-pub record FailsAt (bytes : List ℕ) (offset : ℕ) (Fails : ℕ → List ℕ → Type 0) : Type 0 where
+-- the text of a journal ends at the offset, more follows, and no event of that journal can begin there, for this reason
+pub record FailsAt (bytes : List ℕ) (offset : ℕ) (Why : ℕ → List ℕ → Type 0) : Type 0 where
   pub events : List Event
   pub rest : List ℕ
   pub journal : IsJournal events
   pub text : bytes ≡ journal_text events ++ rest
   pub offset_is : offset ≡ length (journal_text events)
   pub more : rest ≢ []
-  pub fails : Fails (now_of events) rest
+  pub fails : Why (now_of events) rest
 
--- why an event doesn't read
+-- why no event can begin here, where the last moment is `now`: no line does; or a line does, but not as many bytes as it
+-- announces with a line feed behind them, or names that aren't text; or a whole event does, whose moment goes back
 abbrev pub Fails : ScriptCause → ℕ → List ℕ → Type 0
 Fails Header now rest = ⊥
 Fails LineCause now rest = ¬ BeginsLine rest
 Fails Rest now rest = BeginsLine rest × (¬ BeginsEvent rest)
 Fails Order now rest = BeginsEarlier now rest
 
--- the first line is missing, or an event doesn't read
+-- the text doesn't begin with the first line, which is a fault at 0, or no event can begin behind a journal's text
 abbrev pub IsFaultBy : ScriptCause → List ℕ → ℕ → Type 0
 IsFaultBy Header bytes offset = (offset ≡ 0) × ((rest : List ℕ) → bytes ≢ first_line ++ rest)
 IsFaultBy LineCause bytes offset = FailsAt bytes offset (Fails LineCause)

@@ -1,4 +1,5 @@
--- The lines of a journal's text, version 1: a word, then numbers in decimal, each behind one blank, then a line feed.
+-- The lines of a journal's text, which is a format of this project's own, version 1:
+-- a word, then numbers in decimal with no sign and no leading zero, each behind one blank, then a line feed.
 use Rattle.std.specs.Prelude.{ℕ, ◌<◌, ◌≤◌, ◌^◌, List, [], ◌∷◌, ◌++◌, codes, ℤ, pos, negsuc}
 use Rattle.std.specs.Fmt.{decimal}
 use Rattle.journal_text.specs.declared.lines.Line.{Line}

@@ -9,8 +9,12 @@ pub mod journal;
 pub mod lines;
 mod numbers;
 mod reading;
+#[cfg(test)]
+mod tests;
+mod writing;
 
 pub use events::Event;
 pub use faults::{ScriptCause, ScriptError, ScriptFault};
 pub use journal::Journal;
 pub use reading::read_journal;
+pub use writing::write_journal;

@@ -1,7 +1,7 @@
 //! Lines.
 ghost use Rattle.std.specs.Prelude.{◌≡◌, ℕ, ℤ, List, option_map, IfSome};
 ghost use Rattle.journal_text.specs.Lines.{InRange};
-ghost use Rattle.journal_text.specs.Readings as spec;
+ghost use Rattle.journal_text.specs.LineReadings as spec;
 ghost use Rattle.journal_text.specs.declared.lines.Line.{Line};
 
 use crate::numbers::{field, moment};
@@ -63,7 +63,7 @@ const MAX_NAME: u64 = 4_096;
 const MAX_BODY: u64 = 67_108_864;
 
 /// A moment and a number, and the end of the line.
-#[tactic(auto, unfolding(crate::specs::Readings::pair_fields))]
+#[tactic(auto, unfolding(crate::specs::LineReadings::pair_fields))]
 fn pair_fields(bytes: &[u8]) -> Option<(i64, u64, &[u8])>
     ensures { option_map {U = ℤ × ℕ × List ℕ} (λ p. (p.0, p.1, p.2.now)) result ≡ spec.pair_fields bytes.now }
 {
@@ -73,7 +73,7 @@ fn pair_fields(bytes: &[u8]) -> Option<(i64, u64, &[u8])>
 }
 
 /// The numbers of a load.
-#[tactic(auto, unfolding(crate::specs::Readings::load_line))]
+#[tactic(auto, unfolding(crate::specs::LineReadings::load_line))]
 fn load_line(bytes: &[u8]) -> Option<(Line, &[u8])>
     ensures { option_map {U = Line × List ℕ} (λ p. (p.0, p.1.now)) result ≡ spec.load_line bytes.now }
 {
@@ -84,7 +84,7 @@ fn load_line(bytes: &[u8]) -> Option<(Line, &[u8])>
 }
 
 /// The numbers of a list of targets.
-#[tactic(auto, unfolding(crate::specs::Readings::targets_line))]
+#[tactic(auto, unfolding(crate::specs::LineReadings::targets_line))]
 fn targets_line(bytes: &[u8]) -> Option<(Line, &[u8])>
     ensures { option_map {U = Line × List ℕ} (λ p. (p.0, p.1.now)) result ≡ spec.targets_line bytes.now }
 {
@@ -102,7 +102,7 @@ fn targets_line(bytes: &[u8]) -> Option<(Line, &[u8])>
 }
 
 /// The numbers of a finish with a body.
-#[tactic(auto, unfolding(crate::specs::Readings::body_line))]
+#[tactic(auto, unfolding(crate::specs::LineReadings::body_line))]
 fn body_line(bytes: &[u8]) -> Option<(Line, &[u8])>
     ensures { option_map {U = Line × List ℕ} (λ p. (p.0, p.1.now)) result ≡ spec.body_line bytes.now }
 {
@@ -120,7 +120,7 @@ fn body_line(bytes: &[u8]) -> Option<(Line, &[u8])>
 }
 
 /// The numbers of a tick.
-#[tactic(auto, unfolding(crate::specs::Readings::tick_line))]
+#[tactic(auto, unfolding(crate::specs::LineReadings::tick_line))]
 fn tick_line(bytes: &[u8]) -> Option<(Line, &[u8])>
     ensures { option_map {U = Line × List ℕ} (λ p. (p.0, p.1.now)) result ≡ spec.tick_line bytes.now }
 {
@@ -129,7 +129,7 @@ fn tick_line(bytes: &[u8]) -> Option<(Line, &[u8])>
 }
 
 /// The numbers of a finish with no body, `lost`.
-#[tactic(auto, unfolding(crate::specs::Readings::lost_line))]
+#[tactic(auto, unfolding(crate::specs::LineReadings::lost_line))]
 fn lost_line(bytes: &[u8]) -> Option<(Line, &[u8])>
     ensures { option_map {U = Line × List ℕ} (λ p. (p.0, p.1.now)) result ≡ spec.lost_line bytes.now }
 {
@@ -138,7 +138,7 @@ fn lost_line(bytes: &[u8]) -> Option<(Line, &[u8])>
 }
 
 /// The numbers of a finish with no body, `garbled`.
-#[tactic(auto, unfolding(crate::specs::Readings::garbled_line))]
+#[tactic(auto, unfolding(crate::specs::LineReadings::garbled_line))]
 fn garbled_line(bytes: &[u8]) -> Option<(Line, &[u8])>
     ensures { option_map {U = Line × List ℕ} (λ p. (p.0, p.1.now)) result ≡ spec.garbled_line bytes.now }
 {
@@ -147,7 +147,7 @@ fn garbled_line(bytes: &[u8]) -> Option<(Line, &[u8])>
 }
 
 /// The numbers of a finish with no body, `unsent`.
-#[tactic(auto, unfolding(crate::specs::Readings::unsent_line))]
+#[tactic(auto, unfolding(crate::specs::LineReadings::unsent_line))]
 fn unsent_line(bytes: &[u8]) -> Option<(Line, &[u8])>
     ensures { option_map {U = Line × List ℕ} (λ p. (p.0, p.1.now)) result ≡ spec.unsent_line bytes.now }
 {
@@ -156,7 +156,7 @@ fn unsent_line(bytes: &[u8]) -> Option<(Line, &[u8])>
 }
 
 /// The numbers of a finish with no body, `oversize`.
-#[tactic(auto, unfolding(crate::specs::Readings::oversize_line))]
+#[tactic(auto, unfolding(crate::specs::LineReadings::oversize_line))]
 fn oversize_line(bytes: &[u8]) -> Option<(Line, &[u8])>
     ensures { option_map {U = Line × List ℕ} (λ p. (p.0, p.1.now)) result ≡ spec.oversize_line bytes.now }
 {
@@ -165,7 +165,7 @@ fn oversize_line(bytes: &[u8]) -> Option<(Line, &[u8])>
 }
 
 /// The moment of a sweep.
-#[tactic(auto, unfolding(crate::specs::Readings::sweep_line))]
+#[tactic(auto, unfolding(crate::specs::LineReadings::sweep_line))]
 fn sweep_line(bytes: &[u8]) -> Option<(Line, &[u8])>
     ensures { option_map {U = Line × List ℕ} (λ p. (p.0, p.1.now)) result ≡ spec.sweep_line bytes.now }
 {
@@ -174,7 +174,7 @@ fn sweep_line(bytes: &[u8]) -> Option<(Line, &[u8])>
 }
 
 /// The moment of a halt.
-#[tactic(auto, unfolding(crate::specs::Readings::halt_line))]
+#[tactic(auto, unfolding(crate::specs::LineReadings::halt_line))]
 fn halt_line(bytes: &[u8]) -> Option<(Line, &[u8])>
     ensures { option_map {U = Line × List ℕ} (λ p. (p.0, p.1.now)) result ≡ spec.halt_line bytes.now }
 {
@@ -183,7 +183,7 @@ fn halt_line(bytes: &[u8]) -> Option<(Line, &[u8])>
 }
 
 /// What follows a word, where the bytes begin with it.
-#[tactic(auto, unfolding(crate::specs::Readings::after))]
+#[tactic(auto, unfolding(crate::specs::LineReadings::after))]
 fn after<'a>(word: &[u8], bytes: &'a [u8]) -> Option<&'a [u8]>
     ensures { option_map (λ rest. rest.now) result ≡ spec.after word.now bytes.now }
 {
@@ -191,7 +191,7 @@ fn after<'a>(word: &[u8], bytes: &'a [u8]) -> Option<&'a [u8]>
 }
 
 /// The line of a finish that bytes begin with, and what follows it.
-#[tactic(auto, unfolding(crate::specs::Readings::finish_line_in))]
+#[tactic(auto, unfolding(crate::specs::LineReadings::finish_line_in))]
 fn read_finish_line(bytes: &[u8]) -> Option<(Line, &[u8])>
     ensures { option_map {U = Line × List ℕ} (λ p. (p.0, p.1.now)) result ≡ spec.finish_line_in bytes.now }
 {
@@ -211,7 +211,7 @@ fn read_finish_line(bytes: &[u8]) -> Option<(Line, &[u8])>
 }
 
 /// The line of any kind that bytes begin with, and what follows it.
-#[tactic(auto, unfolding(crate::specs::Readings::line_in))]
+#[tactic(auto, unfolding(crate::specs::LineReadings::line_in))]
 fn read_any_line(bytes: &[u8]) -> Option<(Line, &[u8])>
     ensures { option_map {U = Line × List ℕ} (λ p. (p.0, p.1.now)) result ≡ spec.line_in bytes.now }
 {

@@ -3,8 +3,8 @@ ghost use Rattle.std.specs.Prelude.{◌≡◌, ◌<◌, ◌≤◌, ◌^◌, ℕ,
 ghost use Rattle.std.specs.Str.{all_ascii_digits};
 ghost use Rattle.std.specs.Str.Parse.{digits_value};
 ghost use Rattle.std.specs.Option.{SomeIff};
-ghost use Rattle.journal_text.specs.Readings as spec;
-ghost use Rattle.journal_text.specs.Readings.{digit_count, is_plain, is_between, number_in, moment_field};
+ghost use Rattle.journal_text.specs.NumberReadings as spec;
+ghost use Rattle.journal_text.specs.NumberReadings.{digit_count, is_plain, is_between, number_in, moment_field};
 ghost use Rattle.journal_text.specs.Lines.{number};
 
 /// The last moment, and the longest time, in milliseconds.
@@ -33,7 +33,7 @@ fn is_plain_number(digits: &[u8]) -> bool
 }
 
 /// The number that digits spell, where it has no leading zero and is in range.
-#[tactic(auto, unfolding(crate::specs::Readings::number_in))]
+#[tactic(auto, unfolding(crate::specs::NumberReadings::number_in))]
 fn number_between(digits: &[u8], low: u64, high: u64) -> Option<u64>
     requires { all_ascii_digits digits.now ≡ true }
     ensures value { result ≡ number_in low high digits.now }
@@ -63,7 +63,7 @@ fn value_of(digits: &[u8]) -> Option<u64>
 }
 
 /// A number in range that a given byte ends, and what follows that byte.
-#[tactic(auto, unfolding(crate::specs::Readings::field))]
+#[tactic(auto, unfolding(crate::specs::NumberReadings::field))]
 pub(crate) fn field(bytes: &[u8], low: u64, high: u64, stop: u8) -> Option<(u64, &[u8])>
     requires { 0 < stop }
     ensures value { option_map {U = ℕ × List ℕ} (λ p. (p.0, p.1.now)) result ≡ spec.field low high stop bytes.now }
@@ -78,7 +78,7 @@ pub(crate) fn field(bytes: &[u8], low: u64, high: u64, stop: u8) -> Option<(u64,
 }
 
 /// A moment that a given byte ends, and what follows that byte.
-#[tactic(auto, unfolding(crate::specs::Readings::moment_field))]
+#[tactic(auto, unfolding(crate::specs::NumberReadings::moment_field))]
 pub(crate) fn moment(bytes: &[u8], stop: u8) -> Option<(i64, &[u8])>
     requires { 0 < stop }
     ensures { option_map {U = ℤ × List ℕ} (λ p. (p.0, p.1.now)) result ≡ moment_field stop bytes.now }

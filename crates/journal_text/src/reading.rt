@@ -1,25 +1,22 @@
 //! Reading the text of a journal.
 ghost use Rattle.std.specs.Prelude.{◌≡◌, ◌≤◌, ◌<◌, ◌+◌, ◌^◌, ℕ, ℤ, List, length, option_map, IfOk, IfErr, IfSome, MatchResult, Ok};
 ghost use Rattle.journal_text.specs.Lines.{InRange};
-ghost use Rattle.journal_text.specs.Readings as spec;
-ghost use Rattle.journal_text.specs.Readings.{content_after, content_len, event_in, targets_with};
+ghost use Rattle.journal_text.specs.EventReadings as spec;
+ghost use Rattle.journal_text.specs.EventReadings.{content_after, content_len, event_in, targets_with};
 ghost use Rattle.journal_text.specs.declared.events.Event.TheVariants.{Finish};
 ghost use Rattle.journal_text.specs.declared.faults.ScriptError.TheVariants.{Bad};
 ghost use Rattle.journal_text.specs.Faults.{IsJournalOf, Refuses, StopsFor};
 
 use crate::events::Event;
 use crate::faults::{ScriptCause, ScriptError, ScriptFault};
-use crate::journal::{Journal, now_after};
+use crate::journal::{FIRST_LINE, Journal, now_after};
 use crate::lines::{Line, read_line};
 use label_set::{Blob, Name, NoMemory};
 use outside::Reply;
 use std::alloc::Global;
 
-/// The first line of a journal's text.
-const FIRST_LINE: &[u8] = b"scrape-journal 1\n";
-
 /// So many bytes that a line feed ends, and what follows it.
-#[tactic(auto, unfolding(crate::specs::Readings::block))]
+#[tactic(auto, unfolding(crate::specs::EventReadings::block))]
 fn block(bytes: &[u8], len: usize) -> Option<(&[u8], &[u8])>
     ensures value { option_map {U = List ℕ × List ℕ} (λ p. (p.0.now, p.1.now)) result ≡ spec.block len bytes.now }
     ensures long { IfSome result (λ p. length p.0.now ≡ len) }
@@ -52,7 +49,7 @@ fn content(line: Line, bytes: &[u8]) -> Option<(&[u8], &[u8])>
 }
 
 /// The event of a list of targets, unless a name isn't UTF-8.
-#[tactic(auto, unfolding(crate::specs::Readings::targets_with))]
+#[tactic(auto, unfolding(crate::specs::EventReadings::targets_with))]
 fn targets(
     alloc: Global,
     moment: i64,
@@ -135,7 +132,7 @@ fn fault(offset: u64, cause: ScriptCause) -> ScriptError
 }
 
 /// The first event of what stands at an offset, and what follows it.
-#[tactic(auto, unfolding(crate::specs::Readings::event_in))]
+#[tactic(auto, unfolding(crate::specs::EventReadings::event_in))]
 fn next_event(
     alloc: Global,
     now: u64,
