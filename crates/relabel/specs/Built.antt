@@ -1,21 +1,10 @@
 -- How a rule that was built stands to its settings.
-use Rattle.std.specs.Prelude.{◌≡◌, ◌<◌, Bool, true, false}
+use Rattle.std.specs.Prelude.{◌≡◌, ◌<◌}
 use Rattle.relabel.specs.Steps.{template_of}
-use Rattle.relabel.specs.declared.conf.Action.{Action}
 use Rattle.relabel.specs.declared.conf.Action.TheVariants as action
 use Rattle.relabel.specs.declared.conf.RuleConf.{RuleConf}
 use Rattle.relabel.specs.declared.rule.Step.{Step}
 use Rattle.relabel.specs.declared.rule.Step.TheVariants.{Replacing, Keeping, Dropping, KeepingEqual, DroppingEqual, Hashing, Mapping, DroppingLabels, KeepingLabels, Lowering, Raising}
-
--- the actions that match a text or the names of labels
-abbrev pub uses_pattern : Action → Bool
-uses_pattern action.Replace = true
-uses_pattern action.Keep = true
-uses_pattern action.Drop = true
-uses_pattern action.LabelMap = true
-uses_pattern action.LabelDrop = true
-uses_pattern action.LabelKeep = true
-uses_pattern _ = false
 
 -- the step is that of the action, and its patterns and templates are those of the settings
 abbrev pub IsStepOf : Step → RuleConf → Type 0

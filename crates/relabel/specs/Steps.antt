@@ -1,9 +1,9 @@
 -- How a rule that was built stands to its settings, and the plain steps of the actions that go over labels.
-use Rattle.std.specs.Prelude.{◌≡◌, ◌<◌, ◌⊎◌, ℕ, Bool, true, List, [], ◌∷◌, ◌++◌, not, Option, None, Some, if◌then◌else◌}
+use Rattle.std.specs.Prelude.{ℕ, Bool, List, [], ◌∷◌, not, Option, None, Some, if◌then◌else◌}
 use Rattle.label_set.specs.Bytes.{is_label_name}
 use Rattle.label_set.specs.Sets.{with_label}
 use Rattle.label_set.specs.declared.texts.Pair.{Pair}
-use Rattle.pattern_rule.specs.Patterns.{TemplateOf, matches, expansion}
+use Rattle.pattern_rule.specs.Patterns.{TemplateOf, matches}
 
 -- a label stays: its name matches, or doesn't
 abbrev pub stays : Bool → List ℕ → Pair → Bool

@@ -30,11 +30,7 @@ impl Model for Labels {
 }
 
 /// Moves the labels below a name and those above it into two lists.
-fn parted(
-    alloc: Global,
-    pairs: Vec<Pair>,
-    name: &str,
-) -> Result<(Vec<Pair>, Vec<Pair>), NoMemory>
+fn parted(alloc: Global, pairs: Vec<Pair>, name: &str) -> Result<(Vec<Pair>, Vec<Pair>), NoMemory>
     ensures below { IfOk result (λ parts. parts.0.items ≡ below name.now pairs.items) }
     ensures above { IfOk result (λ parts. parts.1.items ≡ above name.now pairs.items) }
 {
@@ -86,12 +82,7 @@ fn is_kept(alloc: Global, pattern: &Pattern, keep: bool, pair: &Pair) -> Result<
 }
 
 /// Whether all labels stay.
-fn all_kept(
-    alloc: Global,
-    pattern: &Pattern,
-    keep: bool,
-    pairs: &[Pair],
-) -> Result<bool, NoMemory>
+fn all_kept(alloc: Global, pattern: &Pattern, keep: bool, pairs: &[Pair]) -> Result<bool, NoMemory>
     ensures { IfOk result (λ all. all ≡ list_all (stays keep pattern.now) pairs.now) }
 {
     for pair in pairs {
@@ -174,12 +165,7 @@ impl Labels {
     }
 
     /// The labels whose names match the pattern, or those whose names don't.
-    pub fn matching(
-        self,
-        alloc: Global,
-        pattern: &Pattern,
-        keep: bool,
-    ) -> Result<Labels, NoMemory>
+    pub fn matching(self, alloc: Global, pattern: &Pattern, keep: bool) -> Result<Labels, NoMemory>
         ensures { IfOk result (λ l. l ≡ filter (stays keep pattern.now) self) }
     {
         if all_kept(alloc, pattern, keep, self.pairs())? {

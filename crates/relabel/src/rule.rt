@@ -4,9 +4,9 @@ ghost use Rattle.std.specs.Str.{bytes_eq};
 ghost use Rattle.std.specs.Char as chars;
 ghost use Rattle.label_set.specs.Sets.{with_label};
 ghost use Rattle.pattern_rule.specs.Patterns.{IsPattern, MayBeRefused, matches, expansion};
-ghost use Rattle.relabel.specs.Refusals.{rule_fault};
+ghost use Rattle.relabel.specs.Refusals.{rule_fault, uses_pattern, HasPattern, HasBadPattern};
 ghost use Rattle.relabel.specs.Relabelling.{joined_text, value_or_empty, shard_of, replaced, mapped, after_rule};
-ghost use Rattle.relabel.specs.Built.{IsStepOf, uses_pattern};
+ghost use Rattle.relabel.specs.Built.{IsStepOf};
 ghost use Rattle.relabel.specs.Steps.{template_of, label_of, option_list, kept_where};
 
 use crate::conf::{Action, RuleConf};
@@ -220,11 +220,12 @@ impl Model for Rule {
     ghost invariant = { λ r. IsStepOf r.step r.conf };
 }
 
+#[tactic(auto, unfolding(crate::specs::Refusals::HasPattern, crate::specs::Refusals::HasBadPattern))]
 fn step_of(alloc: Global, conf: &RuleConf) -> Result<Step, PatternError>
     requires { rule_fault conf.now ≡ None }
     ensures step { IfOk result (λ s. IsStepOf s conf.now) }
-    ensures read { IfOk result (λ _. IsTrue (uses_pattern conf.now.action) → IsPattern conf.now.regex) }
-    ensures refused { IsErrOf result PatternError.BadPattern → IsTrue (uses_pattern conf.now.action) × MayBeRefused conf.now.regex }
+    ensures read { IfOk result (λ _. HasPattern conf.now) }
+    ensures refused { IsErrOf result PatternError.BadPattern → HasBadPattern conf.now }
 {
     let regex = conf.regex.as_str();
     Ok(match conf.action {
@@ -260,8 +261,8 @@ impl Rule {
     pub fn build(alloc: Global, conf: &RuleConf) -> Result<Rule, PatternError>
         requires { rule_fault conf.now ≡ None }
         ensures conf { IfOk result (λ r. r ≡ conf.now) }
-        ensures read { IfOk result (λ _. IsTrue (uses_pattern conf.now.action) → IsPattern conf.now.regex) }
-        ensures refused { IsErrOf result PatternError.BadPattern → IsTrue (uses_pattern conf.now.action) × MayBeRefused conf.now.regex }
+        ensures read { IfOk result (λ _. HasPattern conf.now) }
+        ensures refused { IsErrOf result PatternError.BadPattern → HasBadPattern conf.now }
     {
         let step = step_of(alloc, conf)?;
         let conf = conf.copy(alloc)?;

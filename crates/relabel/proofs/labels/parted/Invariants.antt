@@ -1,4 +1,4 @@
-use Rattle.std.proofs.Common.{◌≡◌, ◌++◌, take}
+use Rattle.std.proofs.Common.{◌≡◌}
 use Rattle.label_set.specs.Sets.{below, above}
 use Rattle.relabel.proofs.labels.parted.Given as goal
 
