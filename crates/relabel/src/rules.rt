@@ -128,3 +128,6 @@ fn run_all(alloc: Global, rules: &[Rule], labels: Labels) -> Result<Option<Label
     }
     Ok(Some(labels))
 }
+
+#[cfg(test)]
+mod tests;
