@@ -1,9 +1,9 @@
 //! Label sets.
-ghost use Rattle.std.specs.Prelude.{◌≡◌, ◌++◌, ◌==◌, [], length, slice_get, option_map, IfOk, OnOk, OnErr, IsErrOf, IsTrue, false};
+ghost use Rattle.std.specs.Prelude.{◌≡◌, ◌++◌, ◌+◌, ◌<◌, ◌≤◌, ◌==◌, [], codes, length, vec_len, vec_capacity, slice_get, option_map, IfOk, OnOk, OnErr, IsErrOf, IsTrue, false};
 ghost use Rattle.std.specs.List.{list_any};
 ghost use Rattle.label_set.specs.Bytes as names;
 ghost use Rattle.label_set.specs.Sets.{IsSet, below, above, value_of, with_label, without_label};
-ghost use Rattle.label_set.specs.SetText.{is_special, escaped_byte, escaped, label_text, labels_after, other_labels, in_braces, text_with_name, set_text};
+ghost use Rattle.label_set.specs.SetText.{is_special, escaped_byte, escaped, label_text, labels_after, other_labels, in_braces, braces_if_any, text_with_name, set_text};
 
 use crate::texts::{Name, NoMemory, Pair, is_label_name, is_metric_name};
 use std::alloc::{AllocError, Global};
@@ -217,7 +217,10 @@ fn pairs_with(alloc: Global, pairs: &[Pair], name: &str, value: &str) -> Result<
 
 #[tactic(auto, unfolding(crate::specs::SetText::escaped_byte))]
 fn push_escaped(text: &mut Vec<u8>, byte: u8) -> Result<(), NoMemory>
-    ensures { OnOk result (text.new.items ≡ text.old.items ++ escaped_byte byte) }
+    ensures written { OnOk result (text.new.items ≡ text.old.items ++ escaped_byte byte) }
+    ensures len { OnOk result (vec_len text.new ≡ vec_len text.old + length (escaped_byte byte)) }
+    ensures full { OnErr result (vec_capacity text.old < vec_len text.old + length (escaped_byte byte)) }
+    ensures capacity { vec_capacity text.old ≤ vec_capacity text.new }
 {
     match byte {
         b'\\' => text.extend_from_slice(b"\\\\")?,
@@ -244,7 +247,10 @@ fn any_escape(bytes: &[u8]) -> bool
 /// Appends bytes with their escapes; bytes with none at once.
 #[tactic(auto, using(crate::proofs::TextLemmas::escaped_plain))]
 fn push_all_escaped(text: &mut Vec<u8>, bytes: &[u8]) -> Result<(), NoMemory>
-    ensures { OnOk result (text.new.items ≡ text.old.items ++ escaped bytes.now) }
+    ensures written { OnOk result (text.new.items ≡ text.old.items ++ escaped bytes.now) }
+    ensures len { OnOk result (vec_len text.new ≡ vec_len text.old + length (escaped bytes.now)) }
+    ensures full { OnErr result (vec_capacity text.old < vec_len text.old + length (escaped bytes.now)) }
+    ensures capacity { vec_capacity text.old ≤ vec_capacity text.new }
 {
     if any_escape(bytes) {
         return push_each_escaped(text, bytes);
@@ -254,7 +260,10 @@ fn push_all_escaped(text: &mut Vec<u8>, bytes: &[u8]) -> Result<(), NoMemory>
 }
 
 fn push_each_escaped(text: &mut Vec<u8>, bytes: &[u8]) -> Result<(), NoMemory>
-    ensures { OnOk result (text.new.items ≡ text.old.items ++ escaped bytes.now) }
+    ensures written { OnOk result (text.new.items ≡ text.old.items ++ escaped bytes.now) }
+    ensures len { OnOk result (vec_len text.new ≡ vec_len text.old + length (escaped bytes.now)) }
+    ensures full { OnErr result (vec_capacity text.old < vec_len text.old + length (escaped bytes.now)) }
+    ensures capacity { vec_capacity text.old ≤ vec_capacity text.new }
 {
     for byte in bytes {
         push_escaped(text, *byte)?;
@@ -262,72 +271,119 @@ fn push_each_escaped(text: &mut Vec<u8>, bytes: &[u8]) -> Result<(), NoMemory>
     Ok(())
 }
 
-/// Appends `name="value"`.
-fn push_label(text: &mut Vec<u8>, pair: &Pair) -> Result<(), NoMemory>
-    ensures { OnOk result (text.new.items ≡ text.old.items ++ label_text pair.now) }
+/// Appends a value between double quotes, behind an equals sign.
+fn push_value(text: &mut Vec<u8>, value: &[u8]) -> Result<(), NoMemory>
+    ensures written { OnOk result (text.new.items ≡ text.old.items ++ codes "=\"" ++ (escaped value.now ++ codes "\"")) }
+    ensures len { OnOk result (vec_len text.new ≡ vec_len text.old + length (codes "=\"" ++ (escaped value.now ++ codes "\""))) }
+    ensures full { OnErr result (vec_capacity text.old < vec_len text.old + length (codes "=\"" ++ (escaped value.now ++ codes "\""))) }
+    ensures capacity { vec_capacity text.old ≤ vec_capacity text.new }
 {
-    text.extend_from_slice(pair.name.as_str().as_bytes())?;
     text.extend_from_slice(b"=\"")?;
-    push_all_escaped(text, pair.value.as_str().as_bytes())?;
+    push_all_escaped(text, value)?;
     text.extend_from_slice(b"\"")?;
     Ok(())
 }
 
-/// The text of the labels but `__name__`, a comma before each.
-fn labels_of(alloc: Global, pairs: &[Pair]) -> Result<Vec<u8>, NoMemory>
-    ensures { IfOk result (λ v. v.items ≡ labels_after (other_labels pairs.now)) }
+/// Appends a comma and `name="value"`.
+fn push_label(text: &mut Vec<u8>, pair: &Pair) -> Result<(), NoMemory>
+    ensures written { OnOk result (text.new.items ≡ text.old.items ++ codes "," ++ label_text pair.now) }
+    ensures len { OnOk result (vec_len text.new ≡ vec_len text.old + length (codes "," ++ label_text pair.now)) }
+    ensures full { OnErr result (vec_capacity text.old < vec_len text.old + length (codes "," ++ label_text pair.now)) }
+    ensures capacity { vec_capacity text.old ≤ vec_capacity text.new }
 {
-    let mut text = Vec::new(alloc);
-    for pair in pairs {
-        if pair.name.as_str() != "__name__" {
-            text.push(b',')?;
-            push_label(&mut text, pair)?;
-        }
-    }
-    Ok(text)
-}
-
-/// Appends braces and what stands between them.
-fn push_braces(out: &mut Vec<u8>, labels: &[u8]) -> Result<(), NoMemory>
-    ensures { OnOk result (out.new.items ≡ out.old.items ++ in_braces labels.now) }
-{
-    out.extend_from_slice(b"{")?;
-    if !labels.is_empty() {
-        out.extend_from_slice(&labels[1..])?;
-    }
-    out.extend_from_slice(b"}")?;
+    text.extend_from_slice(b",")?;
+    text.extend_from_slice(pair.name.as_str().as_bytes())?;
+    push_value(text, pair.value.as_str().as_bytes())?;
     Ok(())
 }
 
-fn printed_set(alloc: Global, pairs: &[Pair]) -> Result<Vec<u8>, NoMemory>
-    ensures { IfOk result (λ v. v.items ≡ set_text pairs.now) }
+/// Appends the labels but `__name__`, a comma before each.
+fn push_labels(text: &mut Vec<u8>, pairs: &[Pair]) -> Result<(), NoMemory>
+    ensures written { OnOk result (text.new.items ≡ text.old.items ++ labels_after (other_labels pairs.now)) }
+    ensures len { OnOk result (vec_len text.new ≡ vec_len text.old + length (labels_after (other_labels pairs.now))) }
+    ensures full { OnErr result (vec_capacity text.old < vec_len text.old + length (labels_after (other_labels pairs.now))) }
+    ensures capacity { vec_capacity text.old ≤ vec_capacity text.new }
 {
-    let labels = labels_of(alloc, pairs)?;
-    let mut out = Vec::new(alloc);
-    match value_in(pairs, "__name__") {
-        None => push_braces(&mut out, &labels)?,
-        Some(name) => push_named(&mut out, name, &labels)?,
+    for pair in pairs {
+        if pair.name.as_str() != "__name__" {
+            push_label(text, pair)?;
+        }
     }
-    Ok(out)
+    Ok(())
+}
+
+/// Appends braces round the labels but `__name__`; nothing where there is none.
+fn push_braces_if_any(text: &mut Vec<u8>, pairs: &[Pair]) -> Result<(), NoMemory>
+    ensures written { OnOk result (text.new.items ≡ text.old.items ++ braces_if_any (labels_after (other_labels pairs.now))) }
+    ensures len { OnOk result (vec_len text.new ≡ vec_len text.old + length (braces_if_any (labels_after (other_labels pairs.now)))) }
+    ensures full { OnErr result (vec_capacity text.old < vec_len text.old + length (braces_if_any (labels_after (other_labels pairs.now)))) }
+    ensures capacity { vec_capacity text.old ≤ vec_capacity text.new }
+{
+    let place = text.len();
+    push_labels(text, pairs)?;
+    if place < text.len() {
+        text[place] = b'{';
+        text.extend_from_slice(b"}")?;
+    }
+    Ok(())
+}
+
+/// Appends braces round the labels but `__name__`.
+fn push_braces(text: &mut Vec<u8>, pairs: &[Pair]) -> Result<(), NoMemory>
+    ensures written { OnOk result (text.new.items ≡ text.old.items ++ in_braces (labels_after (other_labels pairs.now))) }
+    ensures len { OnOk result (vec_len text.new ≡ vec_len text.old + length (in_braces (labels_after (other_labels pairs.now)))) }
+    ensures full { OnErr result (vec_capacity text.old < vec_len text.old + length (in_braces (labels_after (other_labels pairs.now)))) }
+    ensures capacity { vec_capacity text.old ≤ vec_capacity text.new }
+{
+    let place = text.len();
+    push_braces_if_any(text, pairs)?;
+    if text.len() == place {
+        text.extend_from_slice(b"{}")?;
+    }
+    Ok(())
+}
+
+/// Appends a name in double quotes behind an open brace.
+fn push_quoted_name(text: &mut Vec<u8>, name: &[u8]) -> Result<(), NoMemory>
+    ensures written { OnOk result (text.new.items ≡ text.old.items ++ codes "{\"" ++ (escaped name.now ++ codes "\"")) }
+    ensures len { OnOk result (vec_len text.new ≡ vec_len text.old + length (codes "{\"" ++ (escaped name.now ++ codes "\""))) }
+    ensures full { OnErr result (vec_capacity text.old < vec_len text.old + length (codes "{\"" ++ (escaped name.now ++ codes "\""))) }
+    ensures capacity { vec_capacity text.old ≤ vec_capacity text.new }
+{
+    text.extend_from_slice(b"{\"")?;
+    push_all_escaped(text, name)?;
+    text.extend_from_slice(b"\"")?;
+    Ok(())
 }
 
 /// Appends the text of a set with a name.
-fn push_named(out: &mut Vec<u8>, name: &str, labels: &[u8]) -> Result<(), NoMemory>
-    ensures { OnOk result (out.new.items ≡ out.old.items ++ text_with_name name.now labels.now) }
+fn push_named(text: &mut Vec<u8>, name: &str, pairs: &[Pair]) -> Result<(), NoMemory>
+    ensures written { OnOk result (text.new.items ≡ text.old.items ++ text_with_name name.now (labels_after (other_labels pairs.now))) }
+    ensures len { OnOk result (vec_len text.new ≡ vec_len text.old + length (text_with_name name.now (labels_after (other_labels pairs.now)))) }
+    ensures full { OnErr result (vec_capacity text.old < vec_len text.old + length (text_with_name name.now (labels_after (other_labels pairs.now)))) }
+    ensures capacity { vec_capacity text.old ≤ vec_capacity text.new }
 {
     if is_metric_name(name) {
-        out.extend_from_slice(name.as_bytes())?;
-        if !labels.is_empty() {
-            push_braces(out, labels)?;
-        }
-        return Ok(());
+        text.extend_from_slice(name.as_bytes())?;
+        return push_braces_if_any(text, pairs);
     }
-    out.extend_from_slice(b"{\"")?;
-    push_all_escaped(out, name.as_bytes())?;
-    out.extend_from_slice(b"\"")?;
-    out.extend_from_slice(labels)?;
-    out.extend_from_slice(b"}")?;
+    push_quoted_name(text, name.as_bytes())?;
+    push_labels(text, pairs)?;
+    text.extend_from_slice(b"}")?;
     Ok(())
+}
+
+/// Appends the text of a set.
+fn push_set(text: &mut Vec<u8>, pairs: &[Pair]) -> Result<(), NoMemory>
+    ensures written { OnOk result (text.new.items ≡ text.old.items ++ set_text pairs.now) }
+    ensures len { OnOk result (vec_len text.new ≡ vec_len text.old + length (set_text pairs.now)) }
+    ensures full { OnErr result (vec_capacity text.old < vec_len text.old + length (set_text pairs.now)) }
+    ensures capacity { vec_capacity text.old ≤ vec_capacity text.new }
+{
+    match value_in(pairs, "__name__") {
+        None => push_braces(text, pairs),
+        Some(name) => push_named(text, name, pairs),
+    }
 }
 
 impl LabelSet {
@@ -436,12 +492,23 @@ impl LabelSet {
         self.pairs().cmp(other.pairs())
     }
 
+    /// Appends the printed text of the set, with no memory but what the text itself grows by. It fails only where the text has no room
+    /// for it and cannot grow; the text may then end in a part of the set's.
+    pub fn append_text(&self, text: &mut Vec<u8>) -> Result<(), NoMemory>
+        ensures written { OnOk result (text.new.items ≡ text.old.items ++ set_text self.now) }
+        ensures full { OnErr result (vec_capacity text.old < vec_len text.old + length (set_text self.now)) }
+        ensures capacity { vec_capacity text.old ≤ vec_capacity text.new }
+    {
+        push_set(text, self.pairs())
+    }
+
     /// Appends the printed text of the set. After an `Err` the text is as it was.
     pub fn write_text(&self, alloc: Global, text: &mut Vec<u8>) -> Result<(), NoMemory>
         ensures written { OnOk result (text.new.items ≡ text.old.items ++ set_text self.now) }
         ensures kept { OnErr result (text.new.items ≡ text.old.items) }
     {
-        let printed = printed_set(alloc, self.pairs())?;
+        let mut printed = Vec::new(alloc);
+        self.append_text(&mut printed)?;
         text.extend_from_slice(&printed)?;
         Ok(())
     }
@@ -583,7 +650,10 @@ mod tests {
             let set = set_of(alloc, labels)?;
             let mut out = vec![in alloc; b'>']?;
             set.write_text(alloc, &mut out)?;
-            assert_eq!(rt; &out[1..], text.as_bytes(), "{text}");
+            set.append_text(&mut out)?;
+            let (first, second) = out[1..].split_at(text.len());
+            assert_eq!(rt; first, text.as_bytes(), "{text}");
+            assert_eq!(rt; second, text.as_bytes(), "{text}");
         }
         Ok(())
     }
