@@ -1,8 +1,11 @@
 -- The words of the command line, and what each status says.
-use Rattle.std.specs.Prelude.{◌≡◌, ℕ, ◌≤◌, ◌<◌, Bool, List, [], ◌∷◌, ◌++◌, codes, length, Option, Some, None, IfSome, IsSomeAnd, if◌then◌else◌}
+use Rattle.std.specs.Prelude.{◌≡◌, ℕ, ◌<◌, List, [], ◌∷◌, ◌++◌, codes, length, Option, Some, None, IsSomeAnd, unwrap_or, Result, Ok, Err, if◌then◌else◌}
 use Rattle.std.specs.Str.{bytes_eq}
 use Rattle.outside.specs.declared.objects.StoredFile.{StoredFile}
-use Rattle.outside.specs.Objects.{file_of}
+use Rattle.outside.specs.Objects.{file_of, HasFile, LacksFile, HasLongerFile, Adds, AddsFront, Rose}
+use Rattle.scrape_core.specs.Machine.{book_of}
+use Rattle.scrape_cli.specs.Texts.{book_text}
+use Rattle.scrape_cli.specs.Scripts.{SpellsBuilt, SpellsNoBuilt}
 use Rattle.journal_text.specs.declared.events.Event.{Event}
 use Rattle.scrape_cli.specs.declared.refusals.Refusal.{Refusal}
 use Rattle.scrape_cli.specs.declared.refusals.Refusal.TheVariants.{BadWords, Absent, ReadFault, WriteFault, NoMemory, TooLong, NotYet}
@@ -45,3 +48,91 @@ TellsNone told name = IsSomeAnd told (λ files. file_of name files ≡ None)
 -- the shelf tells its files, and the one of this name has these bytes
 abbrev pub TellsFile : Option (List StoredFile) → List ℕ → List ℕ → Type 0
 TellsFile told name bytes = IsSomeAnd told (λ files. file_of name files ≡ Some bytes)
+
+-- the shelf tells its files, and the one of this name has more bytes than so many
+abbrev pub TellsLonger : Option (List StoredFile) → List ℕ → ℕ → Type 0
+TellsLonger told name limit = IsSomeAnd told (λ files. IsSomeAnd (file_of name files) (λ bytes. limit < length bytes))
+
+-- the file that a message names: the script of the words
+abbrev pub file_in : List (List ℕ) → List ℕ
+file_in words = unwrap_or (script_of words) []
+
+-- the status of an end
+abbrev pub status_at : Result (Unit {0}) Refusal → ℕ
+status_at (Ok u) = 0
+status_at (Err r) = status_of r
+
+-- the words name a script, the file of that name spells a journal of built kinds, and the whole text of its book was added
+pub record Prints (words : List (List ℕ)) (files : Option (List StoredFile)) (old new : Option (List ℕ)) : Type 0 where
+  pub script : List ℕ
+  pub is_script : script_of words ≡ Some script
+  pub bytes : List ℕ
+  pub file : HasFile files script bytes
+  pub journal : List Event
+  pub spelled : SpellsBuilt bytes journal
+  pub printed : Adds (book_text (book_of journal)) old new
+
+-- the same, but only a front of the text was added
+pub record PrintsFront (words : List (List ℕ)) (files : Option (List StoredFile)) (old new : Option (List ℕ)) : Type 0 where
+  pub script : List ℕ
+  pub is_script : script_of words ≡ Some script
+  pub bytes : List ℕ
+  pub file : HasFile files script bytes
+  pub journal : List Event
+  pub spelled : SpellsBuilt bytes journal
+  pub printed : AddsFront (book_text (book_of journal)) old new
+
+-- the words name a script, and the file of that name spells no journal of built kinds
+pub record IsUnbuilt (words : List (List ℕ)) (files : Option (List StoredFile)) : Type 0 where
+  pub script : List ℕ
+  pub is_script : script_of words ≡ Some script
+  pub bytes : List ℕ
+  pub file : HasFile files script bytes
+  pub none : SpellsNoBuilt bytes
+
+-- the words name a script, and where the files are told none has that name
+pub record IsAbsent (words : List (List ℕ)) (files : Option (List StoredFile)) : Type 0 where
+  pub script : List ℕ
+  pub is_script : script_of words ≡ Some script
+  pub lacks : LacksFile files script
+
+-- the words name a script, and where the files are told that of this name is longer than a script may be
+pub record IsOver (words : List (List ℕ)) (files : Option (List StoredFile)) : Type 0 where
+  pub script : List ℕ
+  pub is_script : script_of words ≡ Some script
+  pub longer : HasLongerFile files script script_limit
+
+-- a message was tried: a front of it was added, and all of it where the count of faults didn't rise
+pub record IsSaid (message : List ℕ) (old new : Option (List ℕ)) (before now : ℕ) : Type 0 where
+  pub front : AddsFront message old new
+  pub whole : ¬ Rose before now → Adds message old new
+
+-- why a script's file was not read
+abbrev pub IsReadCause : Refusal → List ℕ → Option (List StoredFile) → ℕ → ℕ → ℕ → ℕ → ℕ → ℕ → Type 0
+IsReadCause BadWords script files m n o p f g = ⊥
+IsReadCause Absent script files m n o p f g = Rose m n × LacksFile files script
+IsReadCause ReadFault script files m n o p f g = Rose f g
+IsReadCause WriteFault script files m n o p f g = ⊥
+IsReadCause NoMemory script files m n o p f g = Unit {0}
+IsReadCause TooLong script files m n o p f g = Rose o p × HasLongerFile files script script_limit
+IsReadCause NotYet script files m n o p f g = ⊥
+
+-- why a script was not replayed
+abbrev pub IsReplayCause : Refusal → List ℕ → Type 0
+IsReplayCause BadWords bytes = ⊥
+IsReplayCause Absent bytes = ⊥
+IsReplayCause ReadFault bytes = ⊥
+IsReplayCause WriteFault bytes = ⊥
+IsReplayCause NoMemory bytes = Unit {0}
+IsReplayCause TooLong bytes = ⊥
+IsReplayCause NotYet bytes = SpellsNoBuilt bytes
+
+-- why a book was not printed
+abbrev pub IsPrintCause : Refusal → List ℕ → Option (List ℕ) → Option (List ℕ) → ℕ → ℕ → Type 0
+IsPrintCause BadWords text old new f g = ⊥
+IsPrintCause Absent text old new f g = ⊥
+IsPrintCause ReadFault text old new f g = ⊥
+IsPrintCause WriteFault text old new f g = AddsFront text old new × Rose f g
+IsPrintCause NoMemory text old new f g = new ≡ old
+IsPrintCause TooLong text old new f g = ⊥
+IsPrintCause NotYet text old new f g = ⊥

@@ -1,5 +1,5 @@
 //! Printing a book to a sink, page by page.
-ghost use Rattle.std.specs.Prelude.{◌≡◌, ◌++◌, ◌+◌, ◌≤◌, [], ℕ, length, vec_len, vec_capacity, slice_get, IfOk, IfSome, OnOk, OnErr, IsErrOf};
+ghost use Rattle.std.specs.Prelude.{◌≡◌, ◌++◌, ◌+◌, ◌≤◌, ◌<◌, ◌^◌, [], ℕ, length, vec_len, vec_capacity, slice_get, IfOk, IfSome, OnOk, OnErr, IsErrOf};
 ghost use Rattle.outside.specs.Objects.{Adds, AddsFront, Rose};
 ghost use Rattle.scrape_cli.specs.Flows.{Flows, Cut};
 ghost use Rattle.scrape_cli.specs.Texts as spec;
@@ -35,7 +35,8 @@ impl From<NoMemory> for PrintError {
 
 /// How long the longest line of a book is.
 fn longest(alloc: Global, book: &Book) -> Result<usize, NoMemory>
-    ensures { IfOk result (λ most. spec.AreWithin most book.now.entries) }
+    ensures within { IfOk result (λ most. spec.AreWithin most book.now.entries) }
+    ensures small { IfOk result (λ most. most < 2 ^ 63) }
 {
     let mut line = Vec::new(alloc);
     let mut most: usize = 0;

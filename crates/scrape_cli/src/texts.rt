@@ -64,7 +64,7 @@ fn push_tail(text: &mut Vec<u8>, entry: &Entry) -> Result<(), NoMemory>
     ensures full { OnErr result (vec_capacity text.old < vec_len text.old + length (spec.entry_tail entry.now)) }
     ensures capacity { vec_capacity text.old ≤ vec_capacity text.new }
 {
-    push(text, b"")?;
+    entry.series.append_text(text)?;
     push_value(text, &entry.value)?;
     push(text, b"\n")
 }

@@ -1,5 +1,5 @@
 -- What an event that is built, or isn't, makes of a journal.
-use Rattle.std.proofs.Common.{◌≡◌, ◌≢◌, ℕ, ℤ, ◌+◌, ◌<◌, ◌≤◌, List, [], ◌∷◌, ◌++◌, length, map, Bool, true, false, cond, refl, sym, ap, ap₂, ◌∙◌, arith, append-nil, length-append}
+use Rattle.std.proofs.Common.{◌≡◌, ◌≢◌, ℕ, ℤ, ◌+◌, ◌<◌, ◌≤◌, List, [], ◌∷◌, ◌++◌, length, map, Bool, true, false, not, cond, refl, sym, ap, ap₂, ◌∙◌, arith, append-nil, length-append}
 use Rattle.std.specs.Prelude.{Option, Some, None, nat_le, is_ok, is_some, ◌&&◌, Ok, Err}
 use Rattle.std.specs.Prelude.{Result, IfOk, OnOk, OnErr, ◌==◌}
 use Rattle.std.proofs.Common.{subst}
@@ -25,9 +25,12 @@ use Rattle.scrape_config.specs.declared.conf.JobConf.{JobConf}
 use Rattle.scrape_config.specs.declared.conf.Job.{Job}
 use Rattle.scrape_config.specs.declared.conf.Conf.{Conf}
 use Rattle.scrape_config.specs.Plain.{listed_in, listed}
+use Rattle.scrape_core.specs.declared.answers.Answer.{Answer}
 use Rattle.scrape_core.specs.declared.answers.Answer.TheVariants.{NotYet}
-use Rattle.scrape_core.specs.Built.{is_built, is_built_reply, is_first, answer_after, journal_after}
-use Rattle.scrape_core.specs.Machine.{World, world, step, gives, answer, world_of, book_of}
+use Rattle.scrape_core.specs.declared.life_roll.Found.{Found}
+use Rattle.scrape_core.specs.declared.life_roll.Found.TheVariants.{NotStarted, Cancelled, Counts}
+use Rattle.scrape_core.specs.Built.{is_built, is_built_reply, is_not_yet, is_first, answer_after, journal_after}
+use Rattle.scrape_core.specs.Machine.{World, world, step, gives, answer, finish_answer, found, world_of, book_of}
 use Rattle.scrape_core.specs.Targets.{Wanted, born, targets_of_group, targets_of_job, targets_of}
 use Rattle.scrape_core.specs.declared.life_roll.Life.{Life}
 use Rattle.std.proofs.lemmas.Bool.{false≢true}
@@ -190,3 +193,30 @@ keeps (Err x) es fs e bs cs ls ks ss ts kept j je s sl ss' b be f = record {
   book_is = be ∙ (kept.book_is ∙ ap book_of (sym je));
   few = (let P : List Life → Type 0 = λ z. length z ≤ 10000 in subst P (sym sl) kept.few);
 }
+
+-- a built event is never answered that it isn't
+finish_known : (w : World) (took : ℤ) (r : Reply) (f : Found) → is_not_yet (finish_answer w took r f) ≡ false
+finish_known w took r NotStarted = refl
+finish_known w took r Cancelled = refl
+finish_known w took r (Counts n m) = refl
+
+built_known : (w : World) (es : List Event) (e : Event) → is_built es e ≡ true → is_not_yet (answer w e) ≡ false
+unfolding is_built answer
+built_known w es (Load m text) h = refl
+built_known w es (Targets m job file text) h = absurd (false≢true h)
+built_known w es (Tick m k) h = absurd (false≢true h)
+built_known w es (Sweep m) h = refl
+built_known w es (Finish k took r) h = finish_known w took r (found w k)
+built_known w es (Halt m) h = absurd (false≢true h)
+
+pub kinds : (es : List Event) (e : Event) → is_not_yet (answer_after es e) ≡ not (is_built es e)
+kinds es e = by_kind (is_built es e) refl
+  where
+    by_kind : (b : Bool) → is_built es e ≡ b → is_not_yet (answer_after es e) ≡ not (is_built es e)
+    by_kind true h = ap is_not_yet (built_answer es e h (world_of es) refl) ∙ (built_known (world_of es) es e h ∙ sym (ap not h))
+    by_kind false h = ap is_not_yet (left_answer es e h) ∙ sym (ap not h)
+
+-- as much for an answer
+pub then_kinds : {E : Type 0} (r : Result Answer E) (es : List Event) (e : Event) → IfOk r (λ a. a ≡ answer_after es e) → IfOk r (λ a. is_not_yet a ≡ not (is_built es e))
+then_kinds (Ok a) es e h = ap is_not_yet h ∙ kinds es e
+then_kinds (Err x) es e h = tt

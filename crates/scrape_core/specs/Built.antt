@@ -36,3 +36,8 @@ answer_after es e = if is_built es e then answer (world_of es) e else NotYet
 
 abbrev pub journal_after : List Event → Event → List Event
 journal_after es e = if is_built es e then es ++ e ∷ [] else es
+
+-- the answer to an event that isn't built
+abbrev pub is_not_yet : Answer → Bool
+is_not_yet NotYet = true
+is_not_yet _ = false

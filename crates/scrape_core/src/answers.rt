@@ -1,4 +1,7 @@
 //! What an event is answered.
+ghost use Rattle.std.specs.Prelude.{◌≡◌};
+ghost use Rattle.scrape_core.specs.Built as built;
+
 use crate::sample_rows::ScrapeFault;
 
 /// What an event is answered.
@@ -24,4 +27,26 @@ pub enum Answer {
     },
     /// The event isn't of a built kind; nothing changed.
     NotYet,
+}
+
+/// Whether the event of an answer isn't of a built kind.
+pub fn is_not_yet(answer: &Answer) -> bool
+    ensures { result ≡ built.is_not_yet answer.now }
+{
+    match answer {
+        Answer::NotYet => true,
+        Answer::Loaded {
+            closed: _,
+            begun: _,
+        } => false,
+        Answer::Counted(_) => false,
+        Answer::Late => false,
+        Answer::NoTicket => false,
+        Answer::Swept {
+            first: _,
+            started: _,
+            forced: _,
+            ended: _,
+        } => false,
+    }
 }

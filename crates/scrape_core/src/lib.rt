@@ -15,7 +15,7 @@ pub mod sample_rows;
 mod scrapes;
 pub mod target_set;
 
-pub use answers::Answer;
+pub use answers::{Answer, is_not_yet};
 pub use appender_book::{Book, Entry, EntryList, Kind};
 pub use machine::Core;
 pub use report_samples::{Report, ReportCounts};

@@ -6,7 +6,7 @@ ghost use Rattle.journal_text.specs.declared.events.Event.{Event};
 ghost use Rattle.journal_text.specs.declared.events.Event.TheVariants.{Load, Sweep, Finish};
 ghost use Rattle.journal_text.specs.Lines.{number, IsMoment};
 ghost use Rattle.journal_text.specs.Events.{IsInLimits, HasNames, MayFollow, now_of};
-ghost use Rattle.std.specs.Prelude.{List, IfSome, Ok, pos};
+ghost use Rattle.std.specs.Prelude.{List, IfSome, Ok, pos, not};
 ghost use Rattle.scrape_core.specs.declared.life_roll.Start.{Start};
 ghost use Rattle.scrape_core.specs.declared.life_roll.Found.TheVariants.{Counts};
 ghost use Rattle.scrape_core.specs.declared.answers.Answer.TheVariants.{NotYet};
@@ -573,6 +573,7 @@ impl Core {
         requires limits { IsInLimits event }
         requires order { MayFollow (now_of self.old) event }
         ensures answer { IfOk result (λ a. a ≡ built.answer_after self.old event) }
+        ensures not_yet { IfOk result (λ a. built.is_not_yet a ≡ not (built.is_built self.old event)) }
         ensures journal { OnOk result (self.new ≡ built.journal_after self.old event) }
         ensures err { OnErr result (self.new ≡ self.old) }
     {
