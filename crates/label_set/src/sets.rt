@@ -1,6 +1,6 @@
 //! Label sets.
 ghost use Rattle.std.specs.Prelude.{◌≡◌, ◌++◌, ◌+◌, ◌<◌, ◌≤◌, ◌==◌, [], codes, length, vec_len, vec_capacity, slice_get, option_map, IfOk, OnOk, OnErr, IsErrOf, IsTrue, false};
-ghost use Rattle.std.specs.List.{list_any};
+ghost use Rattle.std.specs.List.{list_any, SameBelow};
 ghost use Rattle.label_set.specs.Bytes as names;
 ghost use Rattle.label_set.specs.Sets.{IsSet, below, above, value_of, with_label, without_label};
 ghost use Rattle.label_set.specs.SetText.{is_special, escaped_byte, escaped, label_text, labels_after, other_labels, in_braces, braces_if_any, text_with_name, set_text};
@@ -221,6 +221,8 @@ fn push_escaped(text: &mut Vec<u8>, byte: u8) -> Result<(), NoMemory>
     ensures len { OnOk result (vec_len text.new ≡ vec_len text.old + length (escaped_byte byte)) }
     ensures full { OnErr result (vec_capacity text.old < vec_len text.old + length (escaped_byte byte)) }
     ensures capacity { vec_capacity text.old ≤ vec_capacity text.new }
+    ensures longer { vec_len text.old ≤ vec_len text.new }
+    ensures front { SameBelow text.old.items text.new.items (vec_len text.old) }
 {
     match byte {
         b'\\' => text.extend_from_slice(b"\\\\")?,
@@ -251,6 +253,8 @@ fn push_all_escaped(text: &mut Vec<u8>, bytes: &[u8]) -> Result<(), NoMemory>
     ensures len { OnOk result (vec_len text.new ≡ vec_len text.old + length (escaped bytes.now)) }
     ensures full { OnErr result (vec_capacity text.old < vec_len text.old + length (escaped bytes.now)) }
     ensures capacity { vec_capacity text.old ≤ vec_capacity text.new }
+    ensures longer { vec_len text.old ≤ vec_len text.new }
+    ensures front { SameBelow text.old.items text.new.items (vec_len text.old) }
 {
     if any_escape(bytes) {
         return push_each_escaped(text, bytes);
@@ -264,6 +268,8 @@ fn push_each_escaped(text: &mut Vec<u8>, bytes: &[u8]) -> Result<(), NoMemory>
     ensures len { OnOk result (vec_len text.new ≡ vec_len text.old + length (escaped bytes.now)) }
     ensures full { OnErr result (vec_capacity text.old < vec_len text.old + length (escaped bytes.now)) }
     ensures capacity { vec_capacity text.old ≤ vec_capacity text.new }
+    ensures longer { vec_len text.old ≤ vec_len text.new }
+    ensures front { SameBelow text.old.items text.new.items (vec_len text.old) }
 {
     for byte in bytes {
         push_escaped(text, *byte)?;
@@ -277,6 +283,8 @@ fn push_value(text: &mut Vec<u8>, value: &[u8]) -> Result<(), NoMemory>
     ensures len { OnOk result (vec_len text.new ≡ vec_len text.old + length (codes "=\"" ++ (escaped value.now ++ codes "\""))) }
     ensures full { OnErr result (vec_capacity text.old < vec_len text.old + length (codes "=\"" ++ (escaped value.now ++ codes "\""))) }
     ensures capacity { vec_capacity text.old ≤ vec_capacity text.new }
+    ensures longer { vec_len text.old ≤ vec_len text.new }
+    ensures front { SameBelow text.old.items text.new.items (vec_len text.old) }
 {
     text.extend_from_slice(b"=\"")?;
     push_all_escaped(text, value)?;
@@ -290,6 +298,8 @@ fn push_label(text: &mut Vec<u8>, pair: &Pair) -> Result<(), NoMemory>
     ensures len { OnOk result (vec_len text.new ≡ vec_len text.old + length (codes "," ++ label_text pair.now)) }
     ensures full { OnErr result (vec_capacity text.old < vec_len text.old + length (codes "," ++ label_text pair.now)) }
     ensures capacity { vec_capacity text.old ≤ vec_capacity text.new }
+    ensures longer { vec_len text.old ≤ vec_len text.new }
+    ensures front { SameBelow text.old.items text.new.items (vec_len text.old) }
 {
     text.extend_from_slice(b",")?;
     text.extend_from_slice(pair.name.as_str().as_bytes())?;
@@ -303,6 +313,8 @@ fn push_labels(text: &mut Vec<u8>, pairs: &[Pair]) -> Result<(), NoMemory>
     ensures len { OnOk result (vec_len text.new ≡ vec_len text.old + length (labels_after (other_labels pairs.now))) }
     ensures full { OnErr result (vec_capacity text.old < vec_len text.old + length (labels_after (other_labels pairs.now))) }
     ensures capacity { vec_capacity text.old ≤ vec_capacity text.new }
+    ensures longer { vec_len text.old ≤ vec_len text.new }
+    ensures front { SameBelow text.old.items text.new.items (vec_len text.old) }
 {
     for pair in pairs {
         if pair.name.as_str() != "__name__" {
@@ -318,6 +330,8 @@ fn push_braces_if_any(text: &mut Vec<u8>, pairs: &[Pair]) -> Result<(), NoMemory
     ensures len { OnOk result (vec_len text.new ≡ vec_len text.old + length (braces_if_any (labels_after (other_labels pairs.now)))) }
     ensures full { OnErr result (vec_capacity text.old < vec_len text.old + length (braces_if_any (labels_after (other_labels pairs.now)))) }
     ensures capacity { vec_capacity text.old ≤ vec_capacity text.new }
+    ensures longer { vec_len text.old ≤ vec_len text.new }
+    ensures front { SameBelow text.old.items text.new.items (vec_len text.old) }
 {
     let place = text.len();
     push_labels(text, pairs)?;
@@ -334,6 +348,8 @@ fn push_braces(text: &mut Vec<u8>, pairs: &[Pair]) -> Result<(), NoMemory>
     ensures len { OnOk result (vec_len text.new ≡ vec_len text.old + length (in_braces (labels_after (other_labels pairs.now)))) }
     ensures full { OnErr result (vec_capacity text.old < vec_len text.old + length (in_braces (labels_after (other_labels pairs.now)))) }
     ensures capacity { vec_capacity text.old ≤ vec_capacity text.new }
+    ensures longer { vec_len text.old ≤ vec_len text.new }
+    ensures front { SameBelow text.old.items text.new.items (vec_len text.old) }
 {
     let place = text.len();
     push_braces_if_any(text, pairs)?;
@@ -349,6 +365,8 @@ fn push_quoted_name(text: &mut Vec<u8>, name: &[u8]) -> Result<(), NoMemory>
     ensures len { OnOk result (vec_len text.new ≡ vec_len text.old + length (codes "{\"" ++ (escaped name.now ++ codes "\""))) }
     ensures full { OnErr result (vec_capacity text.old < vec_len text.old + length (codes "{\"" ++ (escaped name.now ++ codes "\""))) }
     ensures capacity { vec_capacity text.old ≤ vec_capacity text.new }
+    ensures longer { vec_len text.old ≤ vec_len text.new }
+    ensures front { SameBelow text.old.items text.new.items (vec_len text.old) }
 {
     text.extend_from_slice(b"{\"")?;
     push_all_escaped(text, name)?;
@@ -362,6 +380,8 @@ fn push_named(text: &mut Vec<u8>, name: &str, pairs: &[Pair]) -> Result<(), NoMe
     ensures len { OnOk result (vec_len text.new ≡ vec_len text.old + length (text_with_name name.now (labels_after (other_labels pairs.now)))) }
     ensures full { OnErr result (vec_capacity text.old < vec_len text.old + length (text_with_name name.now (labels_after (other_labels pairs.now)))) }
     ensures capacity { vec_capacity text.old ≤ vec_capacity text.new }
+    ensures longer { vec_len text.old ≤ vec_len text.new }
+    ensures front { SameBelow text.old.items text.new.items (vec_len text.old) }
 {
     if is_metric_name(name) {
         text.extend_from_slice(name.as_bytes())?;
@@ -379,6 +399,8 @@ fn push_set(text: &mut Vec<u8>, pairs: &[Pair]) -> Result<(), NoMemory>
     ensures len { OnOk result (vec_len text.new ≡ vec_len text.old + length (set_text pairs.now)) }
     ensures full { OnErr result (vec_capacity text.old < vec_len text.old + length (set_text pairs.now)) }
     ensures capacity { vec_capacity text.old ≤ vec_capacity text.new }
+    ensures longer { vec_len text.old ≤ vec_len text.new }
+    ensures front { SameBelow text.old.items text.new.items (vec_len text.old) }
 {
     match value_in(pairs, "__name__") {
         None => push_braces(text, pairs),
@@ -493,24 +515,27 @@ impl LabelSet {
     }
 
     /// Appends the printed text of the set, with no memory but what the text itself grows by. It fails only where the text has no room
-    /// for it and cannot grow; the text may then end in a part of the set's.
+    /// for all of it and cannot grow; the text is then as it was.
     pub fn append_text(&self, text: &mut Vec<u8>) -> Result<(), NoMemory>
         ensures written { OnOk result (text.new.items ≡ text.old.items ++ set_text self.now) }
+        ensures kept { OnErr result (text.new.items ≡ text.old.items) }
         ensures full { OnErr result (vec_capacity text.old < vec_len text.old + length (set_text self.now)) }
         ensures capacity { vec_capacity text.old ≤ vec_capacity text.new }
     {
-        push_set(text, self.pairs())
+        let start = text.len();
+        let printed = push_set(text, self.pairs());
+        if printed.is_err() {
+            text.truncate(start);
+        }
+        printed
     }
 
     /// Appends the printed text of the set. After an `Err` the text is as it was.
-    pub fn write_text(&self, alloc: Global, text: &mut Vec<u8>) -> Result<(), NoMemory>
+    pub fn write_text(&self, _alloc: Global, text: &mut Vec<u8>) -> Result<(), NoMemory>
         ensures written { OnOk result (text.new.items ≡ text.old.items ++ set_text self.now) }
         ensures kept { OnErr result (text.new.items ≡ text.old.items) }
     {
-        let mut printed = Vec::new(alloc);
-        self.append_text(&mut printed)?;
-        text.extend_from_slice(&printed)?;
-        Ok(())
+        self.append_text(text)
     }
 }
 
