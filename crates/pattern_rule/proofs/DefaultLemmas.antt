@@ -136,7 +136,7 @@ found hay utf8 =
     rw (more, first_from, test_of_IsCharBoundary hay 0 (IsCharBoundary-start hay utf8), attempted hay utf8) refl
 
 -- where the text is read as a tree, the match is what a search by the tree finds, as a caller sees it
-read_spans : (o : Option (Nested Re × Names)) (re : Re) → IsSomeAnd o (λ (found, _). SameTree found.value re) → (hay : List ℕ) → All (λ x. x < 256) hay →
+pub read_spans : (o : Option (Nested Re × Names)) (re : Re) → IsSomeAnd o (λ (found, _). SameTree found.value re) → (hay : List ℕ) → All (λ x. x < 256) hay →
     option_map spans (option_and_then (λ (found, _). find_str found.value hay 0) o) ≡ option_map spans (find_str re hay 0)
 read_spans None re p hay small = absurd p
 read_spans (Some x) re p hay small = find_str_alike x.0.value re (alike_of_same p.matches) hay small 0

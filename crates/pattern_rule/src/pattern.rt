@@ -1,8 +1,9 @@
 //! Patterns and their templates.
 ghost use Rattle.std.specs.Prelude.{◌≡◌, option_map, string_bytes, IfOk, IfSome, OnErr, IsErrOf};
 ghost use Rattle.regex.specs.Strings.{expansion_of};
-ghost use Rattle.std.specs.List.{list_any};
-ghost use Rattle.pattern_rule.specs.Patterns.{is_dollar, some_if, anchored, IsPattern, MayBeRefused, matches, expansion};
+ghost use Rattle.std.specs.List.{list_all, list_any};
+ghost use Rattle.std.specs.Str.{bytes_eq};
+ghost use Rattle.pattern_rule.specs.Patterns.{is_dollar, is_word_byte, some_if, anchored, IsPattern, MayBeRefused, matches, expansion};
 
 use label_set::{Name, NoMemory};
 use regex::{Captures, Regex, Template};
@@ -46,6 +47,8 @@ pub struct Pattern {
     regex: Regex,
     /// Whether it is `(.*)`, which matches every text.
     is_any: bool,
+    /// Whether it is a word of letters, digits and a few signs, which matches itself alone.
+    is_word: bool,
 }
 
 impl Model for Pattern {
@@ -53,14 +56,16 @@ impl Model for Pattern {
     ghost use Rattle.std.specs.Str.{bytes_eq};
     ghost use Rattle.regex.specs.Patterns.{default_config};
     ghost use Rattle.regex.specs.Strings.{regex_source, regex_config, IsReadFromSource};
-    ghost use Rattle.pattern_rule.specs.Patterns.{anchored};
+    ghost use Rattle.std.specs.List.{list_all};
+    ghost use Rattle.pattern_rule.specs.Patterns.{anchored, is_word_byte};
 
     ghost Value = { List ℕ };
 
     ghost view = { λ p. p.text };
 
     ghost invariant = { λ p. (regex_source p.regex ≡ anchored p.text)
-        × (regex_config p.regex ≡ default_config) × IsReadFromSource p.regex × (p.is_any ≡ bytes_eq p.text (codes "(.*)")) };
+        × (regex_config p.regex ≡ default_config) × IsReadFromSource p.regex
+        × (p.is_any ≡ bytes_eq p.text (codes "(.*)")) × (p.is_word ≡ list_all is_word_byte p.text) };
 }
 
 /// A template that was read for the groups of a pattern. Contracts see the texts of the pattern and of the template.
@@ -88,6 +93,25 @@ impl Model for Filling {
 
     ghost invariant = { λ f. IsReadFrom (group_names f.pattern) f.text f.template
         × (f.is_first ≡ bytes_eq f.text (codes "$1")) × (f.is_plain ≡ spec.is_plain f.text) };
+}
+
+#[tactic(auto, unfolding(crate::specs::Patterns::is_word_byte))]
+fn is_sign_of_word(byte: u8) -> bool
+    ensures { result ≡ is_word_byte byte }
+{
+    byte.is_ascii_alphanumeric() || byte == b'_' || byte == b'-' || byte == b':' || byte == b'/'
+}
+
+fn is_same(word: &str, text: &str) -> bool
+    ensures { result ≡ bytes_eq word.now text.now }
+{
+    word == text
+}
+
+fn is_word(bytes: &[u8]) -> bool
+    ensures { result ≡ list_all is_word_byte bytes.now }
+{
+    bytes.iter().all(|b| is_sign_of_word(*b))
 }
 
 fn has_dollar(bytes: &[u8]) -> bool
@@ -120,10 +144,12 @@ impl Pattern {
         match Regex::new(alloc, source.as_str()) {
             Ok(regex) => {
                 let is_any = text.as_str() == "(.*)";
+                let is_word = is_word(text.as_str().as_bytes());
                 Ok(Pattern {
                     text,
                     regex,
                     is_any,
+                    is_word,
                 })
             }
             Err(regex::Error::Syntax(_)) => Err(PatternError::BadPattern),
@@ -144,6 +170,9 @@ impl Pattern {
     {
         if self.is_any {
             return Some(true);
+        }
+        if self.is_word {
+            return Some(is_same(self.text.as_str(), text));
         }
         None
     }
@@ -282,7 +311,7 @@ mod tests {
     use std::test::Fail;
 
     /// The pattern, the text, the template, and what it writes at the match of the whole text.
-    const CASES: [(&str, &str, &str, Option<&str>); 20] = [
+    const CASES: [(&str, &str, &str, Option<&str>); 23] = [
         ("a(.)c", "abc", "$1-${1}", Some("b-b")),
         ("b", "abc", "x", None),
         ("ab", "abc", "x", None),
@@ -303,6 +332,9 @@ mod tests {
         ("(?<n>a+)b", "aab", "$n", Some("aa")),
         ("", "", "x", Some("x")),
         ("(?i)a", "A", "$0", Some("A")),
+        ("node-1:a", "node-1:a", "$0", Some("node-1:a")),
+        ("node-1", "node-12", "x", None),
+        ("node-1", "node-1", "y", Some("y")),
     ];
 
     fn is_written(
