@@ -1,1 +1,3 @@
 pub mod PatternLemmas
+pub mod DefaultLemmas
+pub mod WordLemmas

@@ -55,11 +55,11 @@ written_at hay m c t names text found reads =
 abbrev Seen : Type 0
 Seen = ℕ × ℕ × (ℕ → Option ℕ)
 
-abbrev writes : Names → List ℕ → List ℕ → Seen → List ℕ
+abbrev pub writes : Names → List ℕ → List ℕ → Seen → List ℕ
 writes names template hay s =
     written_after names (λ k. bytes_of hay (if k == 0 then Some (s.0, s.1) else both (s.2 (2 * k)) (s.2 (2 * k + 1)))) template 0
 
-through : (names : Names) (template hay : List ℕ) (o : Option Match) →
+pub through : (names : Names) (template hay : List ℕ) (o : Option Match) →
     option_map (λ m. written_after names (group_bytes hay m) template 0) o ≡ option_map (writes names template hay) (option_map spans o)
 through names template hay None = refl
 through names template hay (Some m) = refl

@@ -1,6 +1,8 @@
 -- What a pattern matches and what a template writes, by the definitions of `regex` ("Configuration", relabel_config: regular expressions are anchored on both ends).
-use Rattle.std.specs.Prelude.{◌≡◌, ◌≤◌, ◌<◌, ◌⊎◌, ℕ, Bool, List, [], ◌++◌, codes, Option, None, option_map, option_and_then, is_some, IsSomeAnd, IfSome}
+use Rattle.std.specs.Prelude.{◌≡◌, ◌≤◌, ◌<◌, ◌⊎◌, ℕ, Bool, List, [], ◌++◌, codes, Option, None, Some, option_map, option_and_then, is_some, IsSomeAnd, IfSome, not, ◌||◌, ◌==◌, if◌then◌else◌}
+use Rattle.std.specs.List.{list_any}
 use Rattle.std.specs.Option.{option_map_or}
+use Rattle.std.specs.Char.{is_ascii_alphanumeric}
 use Rattle.std.specs.Str.{chars}
 use Rattle.regex_syntax.specs.Brackets.{Nested}
 use Rattle.regex_syntax.specs.Grammar.{Names, read}
@@ -44,3 +46,19 @@ expansion pattern template text = option_map (λ m. written_after (group_names p
 pub record TemplateOf : Type 0 where
   pub pattern : List ℕ
   pub text : List ℕ
+
+-- `$`
+abbrev pub is_dollar : ℕ → Bool
+is_dollar b = b == 36
+
+-- a template with no `$` in it
+abbrev pub is_plain : List ℕ → Bool
+is_plain template = not (list_any is_dollar template)
+
+-- a letter or a digit of ASCII, `_`, `-`, `:` or `/`: a byte that stands for itself in a pattern
+unfoldable pub is_word_byte : ℕ → Bool
+is_word_byte b = is_ascii_alphanumeric b || (b == 95 || (b == 45 || (b == 58 || b == 47)))
+
+-- the text, where it is wanted
+abbrev pub some_if : Bool → List ℕ → Option (List ℕ)
+some_if wanted text = if wanted then Some text else None
