@@ -68,7 +68,7 @@ pub book_more : (xs : List Entry) (i : ℕ) (e : Entry) → slice_get xs i ≡ S
 book_more xs i e at =
     ap (flat_map entry_line) (take_more xs i e (slice_get_within xs i e at))
     ∙ (flat_map-append entry_line (take i xs) (get_or xs i e ∷ [])
-      ∙ ap (λ z. flat_map entry_line (take i xs) ++ z) (append-nil (entry_line (get_or xs i e)) ∙ ap entry_line (get_or_from_slice_get xs i e e at)))
+    ∙ ap (λ z. flat_map entry_line (take i xs) ++ z) (append-nil (entry_line (get_or xs i e)) ∙ ap entry_line (get_or_from_slice_get xs i e e at)))
 
 -- and of those behind it
 book_rest : (xs : List Entry) (n : ℕ) → flat_map entry_line (take n xs) ++ flat_map entry_line (drop n xs) ≡ flat_map entry_line xs

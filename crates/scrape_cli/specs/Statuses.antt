@@ -1,5 +1,5 @@
 -- The words of the command line, and what each status says.
-use Rattle.std.specs.Prelude.{◌≡◌, ℕ, ◌<◌, List, [], ◌∷◌, ◌++◌, codes, length, Option, Some, None, IsSomeAnd, unwrap_or, Result, Ok, Err, if◌then◌else◌}
+use Rattle.std.specs.Prelude.{◌≡◌, ◌⊎◌, ℕ, ◌<◌, ◌≤◌, List, [], ◌∷◌, ◌++◌, codes, length, Option, Some, None, IsSomeAnd, unwrap_or, Result, Ok, Err, if◌then◌else◌}
 use Rattle.std.specs.Str.{bytes_eq}
 use Rattle.outside.specs.declared.objects.StoredFile.{StoredFile}
 use Rattle.outside.specs.Objects.{file_of, HasFile, LacksFile, HasLongerFile, Adds, AddsFront, Rose}
@@ -62,46 +62,6 @@ abbrev pub status_at : Result (Unit {0}) Refusal → ℕ
 status_at (Ok u) = 0
 status_at (Err r) = status_of r
 
--- the words name a script, the file of that name spells a journal of built kinds, and the whole text of its book was added
-pub record Prints (words : List (List ℕ)) (files : Option (List StoredFile)) (old new : Option (List ℕ)) : Type 0 where
-  pub script : List ℕ
-  pub is_script : script_of words ≡ Some script
-  pub bytes : List ℕ
-  pub file : HasFile files script bytes
-  pub journal : List Event
-  pub spelled : SpellsBuilt bytes journal
-  pub printed : Adds (book_text (book_of journal)) old new
-
--- the same, but only a front of the text was added
-pub record PrintsFront (words : List (List ℕ)) (files : Option (List StoredFile)) (old new : Option (List ℕ)) : Type 0 where
-  pub script : List ℕ
-  pub is_script : script_of words ≡ Some script
-  pub bytes : List ℕ
-  pub file : HasFile files script bytes
-  pub journal : List Event
-  pub spelled : SpellsBuilt bytes journal
-  pub printed : AddsFront (book_text (book_of journal)) old new
-
--- the words name a script, and the file of that name spells no journal of built kinds
-pub record IsUnbuilt (words : List (List ℕ)) (files : Option (List StoredFile)) : Type 0 where
-  pub script : List ℕ
-  pub is_script : script_of words ≡ Some script
-  pub bytes : List ℕ
-  pub file : HasFile files script bytes
-  pub none : SpellsNoBuilt bytes
-
--- the words name a script, and where the files are told none has that name
-pub record IsAbsent (words : List (List ℕ)) (files : Option (List StoredFile)) : Type 0 where
-  pub script : List ℕ
-  pub is_script : script_of words ≡ Some script
-  pub lacks : LacksFile files script
-
--- the words name a script, and where the files are told that of this name is longer than a script may be
-pub record IsOver (words : List (List ℕ)) (files : Option (List StoredFile)) : Type 0 where
-  pub script : List ℕ
-  pub is_script : script_of words ≡ Some script
-  pub longer : HasLongerFile files script script_limit
-
 -- a message was tried: a front of it was added, and all of it where the count of faults didn't rise
 pub record IsSaid (message : List ℕ) (old new : Option (List ℕ)) (before now : ℕ) : Type 0 where
   pub front : AddsFront message old new
@@ -136,3 +96,53 @@ IsPrintCause WriteFault text old new f g = AddsFront text old new × Rose f g
 IsPrintCause NoMemory text old new f g = new ≡ old
 IsPrintCause TooLong text old new f g = ⊥
 IsPrintCause NotYet text old new f g = ⊥
+
+-- the file of a script spells a journal of built kinds, and the whole text of its book was added
+pub record PrintsScript (script : List ℕ) (files : Option (List StoredFile)) (old new : Option (List ℕ)) : Type 0 where
+  pub bytes : List ℕ
+  pub file : HasFile files script bytes
+  pub short : length bytes ≤ script_limit
+  pub journal : List Event
+  pub spelled : SpellsBuilt bytes journal
+  pub printed : Adds (book_text (book_of journal)) old new
+
+-- the same, but only a front of the text was added
+pub record PrintsScriptFront (script : List ℕ) (files : Option (List StoredFile)) (old new : Option (List ℕ)) : Type 0 where
+  pub bytes : List ℕ
+  pub file : HasFile files script bytes
+  pub short : length bytes ≤ script_limit
+  pub journal : List Event
+  pub spelled : SpellsBuilt bytes journal
+  pub printed : AddsFront (book_text (book_of journal)) old new
+
+-- the file of a script spells no journal of built kinds
+pub record HasNoBuilt (script : List ℕ) (files : Option (List StoredFile)) : Type 0 where
+  pub bytes : List ℕ
+  pub file : HasFile files script bytes
+  pub short : length bytes ≤ script_limit
+  pub none : SpellsNoBuilt bytes
+
+-- why a script was not replayed and printed, and that nothing was added but at a write fault
+abbrev pub IsCause : Refusal → List ℕ → Option (List StoredFile) → ℕ → ℕ → ℕ → ℕ → ℕ → ℕ → Option (List ℕ) → Option (List ℕ) → ℕ → ℕ → Type 0
+IsCause BadWords script files m n o p f g old new h i = ⊥
+IsCause Absent script files m n o p f g old new h i = Rose m n × LacksFile files script × (new ≡ old)
+IsCause ReadFault script files m n o p f g old new h i = Rose f g × (new ≡ old)
+IsCause WriteFault script files m n o p f g old new h i = Rose h i × PrintsScriptFront script files old new
+IsCause NoMemory script files m n o p f g old new h i = new ≡ old
+IsCause TooLong script files m n o p f g old new h i = Rose o p × HasLongerFile files script script_limit × (new ≡ old)
+IsCause NotYet script files m n o p f g old new h i = HasNoBuilt script files × (new ≡ old)
+
+-- something holds of the script that the words name
+abbrev pub OfScript : List (List ℕ) → (List ℕ → Type 0) → Type 0
+OfScript words P = (script : List ℕ) × (script_of words ≡ Some script) × P script
+
+-- how the program ends: the words are others, or the script was replayed and printed, or it wasn't, for a cause
+abbrev pub EndsAs : Result (Unit {0}) Refusal → List (List ℕ) → Option (List StoredFile) → ℕ → ℕ → ℕ → ℕ → ℕ → ℕ → Option (List ℕ) → Option (List ℕ) → ℕ → ℕ → Type 0
+EndsAs (Ok u) words files m n o p f g old new h i = OfScript words (λ s. PrintsScript s files old new)
+EndsAs (Err r) words files m n o p f g old new h i =
+    ((r ≡ BadWords) × (script_of words ≡ None) × (new ≡ old)) ⊎ OfScript words (λ s. IsCause r s files m n o p f g old new h i)
+
+-- how it speaks on the error stream: only of a refusal
+abbrev pub Speaks : Result (Unit {0}) Refusal → List (List ℕ) → Option (List ℕ) → Option (List ℕ) → ℕ → ℕ → Type 0
+Speaks (Ok u) words old new f g = new ≡ old
+Speaks (Err r) words old new f g = IsSaid (message_of (file_in words) r) old new f g

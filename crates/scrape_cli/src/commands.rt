@@ -19,7 +19,7 @@ use std::alloc::Global;
 const SCRIPT_LIMIT: usize = 268_435_456;
 
 /// Reads the file of a script.
-fn read_script<S: Shelf>(alloc: Global, script: &str, shelf: &mut S) -> Result<Blob, Refusal>
+pub fn read_script<S: Shelf>(alloc: Global, script: &str, shelf: &mut S) -> Result<Blob, Refusal>
     ensures file { IfOk result (λ bytes. HasFile (S.told shelf.old) script.now bytes) }
     ensures bound { IfOk result (λ bytes. length bytes ≤ spec.script_limit) }
     ensures cause { IfErr result (λ r. spec.IsReadCause r script.now (S.told shelf.old) (S.misses shelf.old) (S.misses shelf.new) (S.overs shelf.old) (S.overs shelf.new) (S.faults shelf.old) (S.faults shelf.new)) }
@@ -34,7 +34,7 @@ fn read_script<S: Shelf>(alloc: Global, script: &str, shelf: &mut S) -> Result<B
 }
 
 /// Replays the bytes of a script.
-fn core_of(alloc: Global, bytes: &[u8]) -> Result<Core, Refusal>
+pub fn core_of(alloc: Global, bytes: &[u8]) -> Result<Core, Refusal>
     ensures built { IfOk result (λ core. SpellsBuilt bytes.now core) }
     ensures cause { IfErr result (λ r. spec.IsReplayCause r bytes.now) }
 {
@@ -46,7 +46,7 @@ fn core_of(alloc: Global, bytes: &[u8]) -> Result<Core, Refusal>
 }
 
 /// Prints the book of a core.
-fn print_core<O: Sink>(alloc: Global, core: &Core, out: &mut O) -> Result<(), Refusal>
+pub fn print_core<O: Sink>(alloc: Global, core: &Core, out: &mut O) -> Result<(), Refusal>
     ensures whole { OnOk result (Adds (book_text (book_of core.now)) (O.told out.old) (O.told out.new)) }
     ensures cause { IfErr result (λ r. spec.IsPrintCause r (book_text (book_of core.now)) (O.told out.old) (O.told out.new) (O.faults out.old) (O.faults out.new)) }
 {

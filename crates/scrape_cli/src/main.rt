@@ -7,6 +7,7 @@ mod printing;
 mod refusals;
 mod replays;
 mod texts;
+pub mod tool;
 mod words;
 
 fn main() {}

@@ -1,0 +1,34 @@
+use Rattle.std.proofs.Common.{◌≡◌, ◌++◌, ◌∷◌, [], List, Bool, true, false, not, reverse, sym, ap, ◌∙◌, cond}
+use Rattle.journal_text.specs.declared.events.Event.{Event}
+use Rattle.scrape_core.specs.Built.{is_built, journal_after}
+use Rattle.scrape_cli.specs.Scripts.{all_built}
+use Rattle.scrape_cli.proofs.ScriptLemmas.{next_event, after_next, next_fits, next_unbuilt, built_more, not_true, not_false}
+use Rattle.scrape_cli.proofs.replays.stepped.Goals as goal
+
+pub step-requires-clause-limits : goal.step-requires-clause-limits
+step-requires-clause-limits g c =
+    let n = next_event c.args.journal.events c.loop-event.core c.in-Some.event c.loop-event.events.items c.pop.new.self.items c.loop-event.invariant.whole c.in-Some.ensures.items in
+    (next_fits c.args.journal.events c.loop-event.core c.in-Some.event c.pop.new.self.items c.into_events-events.ensures.journal n).limits
+
+pub step-requires-clause-order : goal.step-requires-clause-order
+step-requires-clause-order g c =
+    let n = next_event c.args.journal.events c.loop-event.core c.in-Some.event c.loop-event.events.items c.pop.new.self.items c.loop-event.invariant.whole c.in-Some.ensures.items in
+    (next_fits c.args.journal.events c.loop-event.core c.in-Some.event c.pop.new.self.items c.into_events-events.ensures.journal n).follows
+
+pub returns-then-is_not_yet-clause-not_yet : goal.returns-then-is_not_yet-clause-not_yet
+returns-then-is_not_yet-clause-not_yet g c e =
+    let n = next_event c.args.journal.events c.loop-event.core c.in-Some.event c.loop-event.events.items c.pop.new.self.items c.loop-event.invariant.whole c.in-Some.ensures.items in
+    let kind : not (is_built c.loop-event.core c.in-Some.event) ≡ true = sym c.in_ok-answer.ensures.not_yet ∙ (sym c.is_not_yet.ensures ∙ c.if-is_not_yet.true) in
+    next_unbuilt c.args.journal.events c.loop-event.core c.in-Some.event c.pop.new.self.items n (not_true _ kind)
+
+pub loop-event-preserved : goal.loop-event-preserved
+loop-event-preserved g c =
+    let n = next_event c.args.journal.events c.loop-event.core c.in-Some.event c.loop-event.events.items c.pop.new.self.items c.loop-event.invariant.whole c.in-Some.ensures.items in
+    let kind : not (is_built c.loop-event.core c.in-Some.event) ≡ false = sym c.in_ok-answer.ensures.not_yet ∙ (sym c.is_not_yet.ensures ∙ c.if-is_not_yet.false) in
+    let built = not_false _ kind in
+    let joined : c.step.new.self ≡ c.loop-event.core ++ c.in-Some.event ∷ [] =
+    c.in_ok-answer.ensures.journal ∙ ap (λ b. cond b (c.loop-event.core ++ c.in-Some.event ∷ []) c.loop-event.core) built in
+    record {
+      whole = ap (λ (z : List Event). z ++ reverse c.pop.new.self.items) joined ∙ after_next c.args.journal.events c.loop-event.core c.in-Some.event c.pop.new.self.items n;
+      built = ap (λ (z : List Event). all_built [] z) joined ∙ built_more c.loop-event.core c.in-Some.event c.loop-event.invariant.built built;
+    }
