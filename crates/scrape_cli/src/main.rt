@@ -1,4 +1,6 @@
-//! The program `scrape`: it replays a recorded journal and prints the book of it.
+//! The program `scrape`: it replays a recorded journal of a scrape manager and prints the book of it, samples, stale markers and reports.
+//! The library is `tool`, generic over what has files and takes bytes; `main` hands it the real files and the standard streams.
+//! `specs/Statuses.antt` says what each exit status means, and `specs/Texts.antt` what is printed.
 #![tactic(auto)]
 
 mod commands;
@@ -6,8 +8,27 @@ mod messages;
 mod printing;
 mod refusals;
 mod replays;
+#[cfg(test)]
+mod tests;
 mod texts;
 pub mod tool;
 mod words;
 
-fn main() {}
+use outside::{FileShelf, StdSink};
+use std::process::ExitCode;
+use std::rt::HostRuntime;
+use std::{env, io};
+use tool::tool;
+
+fn main(rt: HostRuntime) -> Result<ExitCode, io::Error> {
+    let alloc = rt.alloc();
+    let mut words = Vec::new(alloc);
+    for word in env::args(&rt)? {
+        words.push(word)?;
+    }
+    let mut shelf = FileShelf::new(rt.clone()?);
+    let mut out = StdSink::new(io::writer(&rt));
+    let mut err = StdSink::new(rt.stderr());
+    let finished = tool(alloc, &words[1..], &mut shelf, &mut out, &mut err);
+    Ok(ExitCode::from(finished.status))
+}
