@@ -152,6 +152,7 @@ mod tests {
             panic!(rt; "12.47 is a value");
         };
         assert_eq!(rt; kept.copy(rt.alloc())?.bytes(), b"12.47".as_slice());
+        assert!(rt; ValueText::check(b"1").is_ok());
         let checked = ValueText::keep_checked(rt.alloc(), b"1")?;
         assert_eq!(rt; checked.bytes(), b"1".as_slice());
         Ok(())
