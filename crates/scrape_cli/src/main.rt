@@ -29,6 +29,11 @@ fn main(rt: HostRuntime) -> Result<ExitCode, io::Error> {
     let mut shelf = FileShelf::new(rt.clone()?);
     let mut out = StdSink::new(io::writer(&rt));
     let mut err = StdSink::new(rt.stderr());
-    let finished = tool(alloc, &words[1..], &mut shelf, &mut out, &mut err);
+    // the first word is the program's name
+    let words = match words.as_slice() {
+        [_, rest @ ..] => rest,
+        [] => &[],
+    };
+    let finished = tool(alloc, words, &mut shelf, &mut out, &mut err);
     Ok(ExitCode::from(finished.status))
 }
