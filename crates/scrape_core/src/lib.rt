@@ -20,3 +20,6 @@ pub use appender_book::{Book, Entry, EntryList, Kind};
 pub use machine::Core;
 pub use report_samples::{Report, ReportCounts};
 pub use sample_rows::{Sample, SampleList, Scrape, ScrapeFault};
+
+#[cfg(test)]
+mod tests;

@@ -1,0 +1,302 @@
+ghost use Rattle.std.specs.Prelude.{◌≡◌, ◌<◌};
+ghost use Rattle.journal_text.specs.Lines.{IsMoment, IsStatus};
+
+use super::*;
+use crate::life_roll::Interval;
+use crate::report_samples::{report_set, reports, with_name};
+use crate::rising::RisingSets;
+use crate::target_set::{lives_of, target_labels};
+use journal_text::Event;
+use label_set::{Blob, LabelSet, NoMemory, Steps};
+use outside::Reply;
+use scrape_config::read_conf;
+use std::alloc::Global;
+use std::marker::Brand;
+use std::process::Abort;
+use std::sync::ledger::{Blank, Ledger};
+use std::test::Fail;
+
+/// A configuration of one job with one target.
+const CONF: &[u8] =
+    br#"{"scrape_configs":[{"job_name":"j","static_configs":[{"targets":["a:1"]}]}]}"#;
+
+/// The book after a scrape with two samples at 0, and a lost reply at 60000.
+const BOOK: &str = r#"0 0 Scraped x{instance="a:1",job="j"} 1
+0 0 Scraped y{instance="a:1",job="j"} 2
+0 0 Report up{instance="a:1",job="j"} 1
+0 0 Report scrape_duration_seconds{instance="a:1",job="j"} 0.015
+0 0 Report scrape_samples_scraped{instance="a:1",job="j"} 2
+0 0 Report scrape_samples_post_metric_relabeling{instance="a:1",job="j"} 2
+0 0 Report scrape_series_added{instance="a:1",job="j"} 2
+60000 0 Stale x{instance="a:1",job="j"}
+60000 0 Stale y{instance="a:1",job="j"}
+60000 0 Report up{instance="a:1",job="j"} 0
+60000 0 Report scrape_duration_seconds{instance="a:1",job="j"} 0.020
+60000 0 Report scrape_samples_scraped{instance="a:1",job="j"} 0
+60000 0 Report scrape_samples_post_metric_relabeling{instance="a:1",job="j"} 0
+60000 0 Report scrape_series_added{instance="a:1",job="j"} 0
+"#;
+
+/// The text of an entry: its moment, life and kind, and its series with its value.
+fn print(alloc: Global, text: &mut Vec<u8>, entry: &Entry) -> Result<(), NoMemory> {
+    let head = format!(in alloc; "{} {} {:?} ", entry.moment, entry.life, entry.kind)?;
+    text.extend_from_slice(head.as_bytes())?;
+    entry.series.write_text(alloc, text)?;
+    if let Some(value) = &entry.value {
+        text.push(b' ')?;
+        text.extend_from_slice(value.bytes())?;
+    }
+    text.push(b'\n')?;
+    Ok(())
+}
+
+fn printed(alloc: Global, book: &Book) -> Result<Vec<u8>, NoMemory> {
+    let mut text = Vec::new(alloc);
+    for place in 0..book.len() {
+        if let Some(entry) = book.entry(place) {
+            print(alloc, &mut text, entry)?;
+        }
+    }
+    Ok(text)
+}
+
+fn load<L: Ledger>(
+    alloc: Global,
+    core: &mut Core,
+    steps: &mut Steps<L>,
+    moment: i64,
+) -> Result<Answer, NoMemory>
+    requires { IsMoment moment }
+{
+    if moment < core.now() {
+        return Err(NoMemory);
+    }
+    let text = Blob::from_slice(alloc, CONF)?;
+    core.step(alloc, Event::Load { moment, text }, steps)
+}
+
+fn sweep<L: Ledger>(
+    alloc: Global,
+    core: &mut Core,
+    steps: &mut Steps<L>,
+    moment: i64,
+) -> Result<Answer, NoMemory>
+    requires { IsMoment moment }
+{
+    if moment < core.now() {
+        return Err(NoMemory);
+    }
+    core.step(alloc, Event::Sweep { moment }, steps)
+}
+
+fn lost<L: Ledger>(
+    alloc: Global,
+    core: &mut Core,
+    steps: &mut Steps<L>,
+    ticket: u64,
+    took: i64,
+) -> Result<Answer, NoMemory>
+    requires { IsMoment took }
+{
+    core.step(
+        alloc,
+        Event::Finish {
+            ticket,
+            took,
+            reply: Reply::Lost,
+        },
+        steps,
+    )
+}
+
+fn body<L: Ledger>(
+    alloc: Global,
+    core: &mut Core,
+    steps: &mut Steps<L>,
+    took: i64,
+    status: u16,
+    text: &str,
+) -> Result<Answer, NoMemory>
+    requires took { IsMoment took }
+    requires status { IsStatus status }
+{
+    let bytes = Blob::from_slice(alloc, text.as_bytes())?;
+    if bytes.as_slice().len() > 100 {
+        return Err(NoMemory);
+    }
+    core.step(
+        alloc,
+        Event::Finish {
+            ticket: 0,
+            took,
+            reply: Reply::Body { status, bytes },
+        },
+        steps,
+    )
+}
+
+/// Events that aren't of a built kind, where one load and one sweep were taken.
+fn nothing_unbuilt_is_taken<L: Ledger>(
+    rt: &impl Abort,
+    alloc: Global,
+    core: &mut Core,
+    steps: &mut Steps<L>,
+) -> Result<(), NoMemory> {
+    let kept = core.events();
+    assert_eq!(rt; load(alloc, core, steps, 0)?, Answer::NotYet);
+    assert_eq!(rt;
+        body(alloc, core, steps, 15, 200, "x{a=\"b\"} 1\n")?,
+        Answer::NotYet
+    );
+    assert_eq!(rt; body(alloc, core, steps, 15, 404, "")?, Answer::NotYet);
+    assert_eq!(rt;
+        body(alloc, core, steps, 10_001, 200, "x 1\n")?,
+        Answer::NotYet
+    );
+    assert_eq!(rt; lost(alloc, core, steps, 0, 10_001)?, Answer::NotYet);
+    let garbled = Event::Finish {
+        ticket: 0,
+        took: 15,
+        reply: Reply::Garbled,
+    };
+    assert_eq!(rt; core.step(alloc, garbled, steps)?, Answer::NotYet);
+    if core.now() == 0 {
+        let tick = Event::Tick { moment: 0, life: 0 };
+        assert_eq!(rt; core.step(alloc, tick, steps)?, Answer::NotYet);
+    }
+    if core.now() == 0 {
+        let halt = Event::Halt { moment: 0 };
+        assert_eq!(rt; core.step(alloc, halt, steps)?, Answer::NotYet);
+    }
+    assert_eq!(rt; core.events(), kept);
+    assert_eq!(rt; core.book().len(), 0);
+    Ok(())
+}
+
+/// A load, a sweep and a body; then a sweep and a lost reply.
+fn one_load<L: Ledger>(rt: &impl Abort, alloc: Global, blank: Blank) -> Result<(), NoMemory>
+    requires name { blank.name ≡ L.name }
+    requires parts { blank.parts ≡ L.parts }
+    requires some { 0 < blank.parts }
+{
+    let mut steps = Steps::<L>::open(blank);
+    let mut core = Core::new(alloc)?;
+    let loaded = load(alloc, &mut core, &mut steps, 0)?;
+    assert_eq!(rt;
+        loaded,
+        Answer::Loaded {
+            closed: 0,
+            begun: 1
+        }
+    );
+    assert_eq!(rt; sweep(alloc, &mut core, &mut steps, 0)?, swept(0));
+    nothing_unbuilt_is_taken(rt, alloc, &mut core, &mut steps)?;
+    let counted = body(alloc, &mut core, &mut steps, 15, 200, "x 1\ny 2\n")?;
+    assert_eq!(rt; counted, Answer::Counted(None));
+    assert_eq!(rt; core.book().len(), 7);
+    assert_eq!(rt;
+        lost(alloc, &mut core, &mut steps, 0, 20)?,
+        Answer::NoTicket
+    );
+    assert_eq!(rt;
+        lost(alloc, &mut core, &mut steps, 7, 20)?,
+        Answer::NoTicket
+    );
+    assert_eq!(rt; sweep(alloc, &mut core, &mut steps, 60_000)?, swept(1));
+    let failed = lost(alloc, &mut core, &mut steps, 1, 20)?;
+    assert_eq!(rt; failed, Answer::Counted(Some(ScrapeFault::Lost)));
+    assert_eq!(rt; core.now(), 60_000);
+    assert_eq!(rt; core.events(), 7);
+    assert_eq!(rt; core.journal().len(), 7);
+    assert!(rt; printed(alloc, core.book())?.as_slice() == BOOK.as_bytes());
+    Ok(())
+}
+
+fn swept(first: u64) -> Answer {
+    Answer::Swept {
+        first,
+        started: 1,
+        forced: 0,
+        ended: 0,
+    }
+}
+
+#[test]
+fn one_load_then_a_lost_reply(rt: HostRuntime) -> Result<(), Fail> {
+    one_load::<Brand>(&rt, rt.alloc(), Blank::new(1))?;
+    Ok(())
+}
+
+fn series(alloc: Global, name: &str) -> Result<LabelSet, NoMemory> {
+    with_name(alloc, &target_labels(alloc, "j", "a:1")?, name)
+}
+
+#[test]
+fn sets_rise(rt: HostRuntime) -> Result<(), Fail> {
+    let alloc = rt.alloc();
+    let mut sets = RisingSets::new(alloc);
+    for name in ["y", "x", "y"] {
+        sets.put(series(alloc, name)?)?;
+    }
+    let mut others = RisingSets::new(alloc);
+    others.put(series(alloc, "x")?)?;
+    assert_eq!(rt; sets.len(), 2);
+    assert_eq!(rt; sets.count_without(&others), 1);
+    assert!(rt; sets.contains(&series(alloc, "y")?) && !others.contains(&series(alloc, "y")?));
+    let list = sets.list(alloc)?;
+    assert_eq!(rt; list.as_slice().len(), 2);
+    assert!(rt; list.as_slice()[0] == series(alloc, "x")?);
+    Ok(())
+}
+
+#[test]
+fn book_keeps_what_is_appended(rt: HostRuntime) -> Result<(), Fail> {
+    let alloc = rt.alloc();
+    let target = target_labels(alloc, "j", "a:1")?;
+    let mut book = Book::new(alloc)?;
+    book.reserve(1)?;
+    book.append(Entry {
+        life: 3,
+        kind: Kind::ReportStale,
+        series: report_set(alloc, &target, Report::Duration)?,
+        moment: -5,
+        value: None,
+    });
+    let counts = ReportCounts {
+        up: true,
+        took: 1_500,
+        scraped: 3,
+        left: 2,
+        added: 1,
+    };
+    book.append_all(reports(alloc, 3, &target, 9, &counts)?)?;
+    assert_eq!(rt; book.len(), 6);
+    assert!(rt; book.entry(6).is_none());
+    let want =
+        "-5 3 ReportStale scrape_duration_seconds{instance=\"a:1\",job=\"j\"}\n9 3 Report up{instance=\"a:1\",job=\"j\"} 1\n9 3 Report scrape_duration_seconds{instance=\"a:1\",job=\"j\"} 1.500\n9 3 Report scrape_samples_scraped{instance=\"a:1\",job=\"j\"} 3\n9 3 Report scrape_samples_post_metric_relabeling{instance=\"a:1\",job=\"j\"} 2\n9 3 Report scrape_series_added{instance=\"a:1\",job=\"j\"} 1\n";
+    assert!(rt; printed(alloc, &book)?.as_slice() == want.as_bytes());
+    Ok(())
+}
+
+#[test]
+fn a_life_begins_for_a_target(rt: HostRuntime) -> Result<(), Fail> {
+    let alloc = rt.alloc();
+    for (ms, want) in [(0, 1), (15_000, 15_000), (u64::MAX, 1_099_511_627_776)] {
+        assert_eq!(rt; Interval::new(ms).ms(), want);
+    }
+    let Ok(conf) = read_conf(alloc, CONF) else {
+        panic!(rt; "not read");
+    };
+    let lives = lives_of(alloc, 7, &conf)?;
+    assert_eq!(rt; lives.len(), 1);
+    let life = &lives[0];
+    assert!(rt; life.target == target_labels(alloc, "j", "a:1")?);
+    assert_eq!(rt;
+        (life.interval.ms(), life.timeout, life.planned),
+        (60_000, 10_000, 7)
+    );
+    assert!(rt;
+        life.flight.is_none() && life.tracked.as_slice().is_empty() && life.known.len() == 0
+    );
+    Ok(())
+}
