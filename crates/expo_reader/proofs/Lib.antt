@@ -1,2 +1,5 @@
+pub mod LabelLemmas
 pub mod LineLemmas
 pub mod NameLemmas
+pub mod PartLemmas
+pub mod TextLemmas

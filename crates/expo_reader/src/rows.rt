@@ -1,6 +1,6 @@
 //! The rows of a body.
-use crate::value_text::ValueText;
 use label_set::{Blob, Name, PairList};
+use value_text::ValueText;
 
 /// What one sample line says.
 #[derive(Drop, Debug)]
