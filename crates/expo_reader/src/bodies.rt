@@ -1,5 +1,6 @@
 //! Whole bodies.
 ghost use Rattle.std.specs.Prelude.{◌≡◌, ◌++◌, IfErr, IfOk, OnOk};
+ghost use Rattle.expo_reader.specs.Grammar.{AreLines, IsCauseOf, ReadsTheFormat};
 ghost use Rattle.expo_reader.specs.Bodies.{CauseIs, Gives, lines_of, reading, row_list, rows_from};
 
 use crate::lines::{line_end, read_line, rest_after};
@@ -57,6 +58,8 @@ impl Model for ReadBody {
 pub fn read_body(alloc: Global, bytes: Blob) -> Result<ReadBody, Unread>
     ensures read { IfOk result (λ b. reading bytes ≡ Ok b.rows) }
     ensures cause { IfErr result (λ u. CauseIs u.cause (reading bytes)) }
+    ensures lines { IfOk result (λ b. AreLines 1 (lines_of bytes) b.rows) }
+    ensures fault { IfErr result (λ u. IsCauseOf u.cause bytes) }
     ensures bytes { IfOk result (λ b. b.bytes ≡ bytes) }
     ensures back { IfErr result (λ u. u.bytes ≡ bytes) }
 {
@@ -65,6 +68,12 @@ pub fn read_body(alloc: Global, bytes: Blob) -> Result<ReadBody, Unread>
         Err(cause) => Err(Unread { bytes, cause }),
     }
 }
+
+/// The law that ties the reading to the format: a body is read exactly where each of its lines is skipped or written as a sample line,
+/// with just these rows, and line n is named exactly where it is the first that is neither. It does nothing.
+pub fn reads_the_format()
+    ensures { ReadsTheFormat }
+{}
 
 impl ReadBody {
     /// The rows in the order of their lines.
