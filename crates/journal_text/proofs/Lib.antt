@@ -1,0 +1,5 @@
+pub mod NumberLemmas
+pub mod LineLemmas
+pub mod EventLemmas
+pub mod JournalLemmas
+pub mod ReadingLemmas

@@ -1,0 +1,6 @@
+pub mod Lines
+pub mod Events
+pub mod NumberReadings
+pub mod LineReadings
+pub mod EventReadings
+pub mod Faults

@@ -1,0 +1,20 @@
+//! The events of a run, the journal that keeps them in order, and the one text of a journal, which is read and written here.
+//! A journal is seen by contracts as the list of its events and a number of events for which it has room; bytes and names are lists of numbers.
+//! The definitions stand in `specs/`: lines, events and their spelling, and how a text is read.
+#![tactic(auto)]
+
+pub mod events;
+pub mod faults;
+pub mod journal;
+pub mod lines;
+mod numbers;
+mod reading;
+#[cfg(test)]
+mod tests;
+mod writing;
+
+pub use events::Event;
+pub use faults::{ScriptCause, ScriptError, ScriptFault};
+pub use journal::Journal;
+pub use reading::read_journal;
+pub use writing::write_journal;

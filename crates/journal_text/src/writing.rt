@@ -1,0 +1,158 @@
+//! Writing the text of a journal.
+ghost use Rattle.std.specs.Prelude.{◌≡◌, ◌++◌, ◌∷◌, [], IfOk, OnOk, string_bytes};
+ghost use Rattle.journal_text.specs.Lines as lines;
+ghost use Rattle.journal_text.specs.Events as spec;
+ghost use Rattle.journal_text.specs.Events.{journal_text, rest_of};
+
+use crate::events::Event;
+use crate::journal::{FIRST_LINE, Journal};
+use crate::lines::Line;
+use crate::numbers::to_number;
+use label_set::{Blob, NoMemory};
+use outside::Reply;
+use std::alloc::Global;
+
+/// The line of a finish.
+fn finish_line(ticket: u64, took: i64, reply: &Reply) -> Line
+    ensures { result ≡ spec.finish_line ticket took reply.now }
+{
+    match reply {
+        Reply::Body { status, bytes } => Line::Body {
+            took,
+            ticket,
+            status: *status,
+            len: bytes.as_slice().len(),
+        },
+        Reply::Lost => Line::Lost { took, ticket },
+        Reply::Garbled => Line::Garbled { took, ticket },
+        Reply::Unsent => Line::Unsent { took, ticket },
+        Reply::Oversize => Line::Oversize { took, ticket },
+    }
+}
+
+/// The line that an event begins with.
+fn line_of(event: &Event) -> Line
+    ensures { result ≡ spec.line_of event.now }
+{
+    match event {
+        Event::Load { moment, text } => Line::Load {
+            moment: *moment,
+            len: text.as_slice().len(),
+        },
+        Event::Targets {
+            moment,
+            job,
+            file,
+            text,
+        } => Line::Targets {
+            moment: *moment,
+            job: job.as_str().len(),
+            file: file.as_str().len(),
+            len: text.as_slice().len(),
+        },
+        Event::Tick { moment, life } => Line::Tick {
+            moment: *moment,
+            life: *life,
+        },
+        Event::Sweep { moment } => Line::Sweep { moment: *moment },
+        Event::Finish {
+            ticket,
+            took,
+            reply,
+        } => finish_line(*ticket, *took, reply),
+        Event::Halt { moment } => Line::Halt { moment: *moment },
+    }
+}
+
+/// The text of a line.
+fn line_text(alloc: Global, line: Line) -> Result<String, NoMemory>
+    ensures { IfOk result (λ t. string_bytes t ≡ lines.line_text line) }
+{
+    match line {
+        Line::Load { moment, len } => Ok(format!(in alloc; "load {} {len}\n", to_number(moment))?),
+        Line::Targets {
+            moment,
+            job,
+            file,
+            len,
+        } => Ok(format!(in alloc; "targets {} {job} {file} {len}\n", to_number(moment))?),
+        Line::Tick { moment, life } => Ok(format!(in alloc;
+            "tick {} {life}\n",
+            to_number(moment)
+        )?),
+        Line::Sweep { moment } => Ok(format!(in alloc; "sweep {}\n", to_number(moment))?),
+        Line::Body {
+            took,
+            ticket,
+            status,
+            len,
+        } => Ok(format!(in alloc; "body {} {ticket} {status} {len}\n", to_number(took))?),
+        Line::Lost { took, ticket } => Ok(format!(in alloc;
+            "lost {} {ticket}\n",
+            to_number(took)
+        )?),
+        Line::Garbled { took, ticket } => {
+            Ok(format!(in alloc; "garbled {} {ticket}\n", to_number(took))?)
+        }
+        Line::Unsent { took, ticket } => {
+            Ok(format!(in alloc; "unsent {} {ticket}\n", to_number(took))?)
+        }
+        Line::Oversize { took, ticket } => {
+            Ok(format!(in alloc; "oversize {} {ticket}\n", to_number(took))?)
+        }
+        Line::Halt { moment } => Ok(format!(in alloc; "halt {}\n", to_number(moment))?),
+    }
+}
+
+/// Adds bytes and a line feed.
+fn push_block(text: &mut Vec<u8>, bytes: &[u8]) -> Result<(), NoMemory>
+    ensures { OnOk result (text.new.items ≡ text.old.items ++ (bytes.now ++ 10 ∷ [])) }
+{
+    text.extend_from_slice(bytes)?;
+    Ok(text.push(b'\n')?)
+}
+
+/// Adds what follows the line of an event.
+fn push_rest(text: &mut Vec<u8>, event: &Event) -> Result<(), NoMemory>
+    ensures { OnOk result (text.new.items ≡ text.old.items ++ rest_of event.now) }
+{
+    match event {
+        Event::Load { text: content, .. } => push_block(text, content.as_slice()),
+        Event::Targets {
+            job,
+            file,
+            text: content,
+            ..
+        } => {
+            text.extend_from_slice(job.as_str().as_bytes())?;
+            text.extend_from_slice(file.as_str().as_bytes())?;
+            push_block(text, content.as_slice())
+        }
+        Event::Finish { reply, .. } => match reply {
+            Reply::Body { bytes, .. } => push_block(text, bytes.as_slice()),
+            Reply::Lost | Reply::Garbled | Reply::Unsent | Reply::Oversize => Ok(()),
+        },
+        Event::Tick { .. } | Event::Sweep { .. } | Event::Halt { .. } => Ok(()),
+    }
+}
+
+/// Adds an event.
+fn push_event(alloc: Global, text: &mut Vec<u8>, event: &Event) -> Result<(), NoMemory>
+    ensures { OnOk result (text.new.items ≡ text.old.items ++ spec.spelling event.now) }
+{
+    let line = line_text(alloc, line_of(event))?;
+    text.extend_from_slice(line.as_str().as_bytes())?;
+    push_rest(text, event)
+}
+
+/// The text of a journal.
+pub fn write_journal(alloc: Global, journal: &Journal) -> Result<Blob, NoMemory>
+    ensures { IfOk result (λ text. text ≡ journal_text journal.now.events) }
+{
+    let mut text = Vec::new(alloc);
+    text.extend_from_slice(FIRST_LINE)?;
+    for event in journal.events() {
+        push_event(alloc, &mut text, event)?;
+    }
+    Ok(Blob { bytes: text })
+}

@@ -1,0 +1,118 @@
+//! Shelves of files and sinks of bytes: what their calls say, whatever stands behind them.
+ghost use Rattle.std.specs.Prelude.{◌≡◌, ◌≤◌, ℕ, List, Option, length, OnOk, OnErr, IfOk, IsErrOf};
+
+use label_set::{Blob, Name, NoMemory};
+use std::alloc::Global;
+use std::marker::Model;
+
+/// A file in memory.
+#[derive(Debug, Drop)]
+pub struct StoredFile {
+    pub name: Name,
+    pub bytes: Blob,
+}
+
+/// Files in order. Of two with one name the first counts.
+#[derive(Debug, Drop)]
+pub struct FileList {
+    pub items: Vec<StoredFile>,
+}
+
+impl Model for FileList {
+    ghost use Rattle.std.specs.Prelude.{List};
+    ghost use Rattle.outside.specs.declared.objects.StoredFile.{StoredFile};
+
+    ghost Value = { List StoredFile };
+
+    ghost view = { λ l. l.items.items };
+}
+
+/// Numbers of calls, which count from 0.
+#[derive(Debug, Drop)]
+pub struct CallList {
+    pub items: Vec<u64>,
+}
+
+impl Model for CallList {
+    ghost use Rattle.std.specs.Prelude.{ℕ, List};
+
+    ghost Value = { List ℕ };
+
+    ghost view = { λ l. l.items.items };
+}
+
+/// Why a file was not read.
+#[derive(Clone, Copy, PartialEq, Eq, Debug)]
+pub enum ShelfError {
+    /// There is no file of that name.
+    Absent,
+    /// The file has more bytes than the limit.
+    TooLong,
+    /// Reading it failed.
+    Failed,
+    /// An allocation failed.
+    NoMemory,
+}
+
+impl From<NoMemory> for ShelfError {
+    ghost use Rattle.std.specs.Prelude.{◌≡◌};
+    ghost use Rattle.outside.specs.declared.objects.ShelfError.TheVariants as variants;
+
+    ghost from_gives = { λ _ error. error ≡ variants.NoMemory };
+
+    fn from(_: NoMemory) -> ShelfError {
+        ShelfError::NoMemory
+    }
+}
+
+/// A put failed. A front of its bytes may have been added.
+#[derive(Clone, Copy, PartialEq, Eq, Debug)]
+pub struct SinkFault;
+
+/// What has files that can be read by their names.
+pub trait Shelf {
+    ghost use Rattle.outside.specs.declared.objects.StoredFile.{StoredFile};
+    ghost use Rattle.outside.specs.Objects.{HasFile, LacksFile, HasLongerFile, Misses, Overs, Faults};
+
+    /// The files, where the shelf tells them.
+    ghost told: { Self → Option (List StoredFile) };
+
+    /// How often it was asked for a file that isn't there.
+    ghost misses: { Self → ℕ };
+
+    /// How often it was asked for a file over the limit.
+    ghost overs: { Self → ℕ };
+
+    /// How often reading has failed.
+    ghost faults: { Self → ℕ };
+
+    /// The bytes of the file of a name, which are to be at most `limit`.
+    fn read_file(&mut self, alloc: Global, name: &str, limit: usize) -> Result<Blob, ShelfError>
+        ensures bound { IfOk result (λ bytes. length bytes ≤ limit) }
+        ensures content { IfOk result (λ bytes. HasFile (told self.old) name.now bytes) }
+        ensures absent { IsErrOf result ShelfError.Absent → LacksFile (told self.old) name.now }
+        ensures too_long { IsErrOf result ShelfError.TooLong → HasLongerFile (told self.old) name.now limit }
+        ensures files { told self.new ≡ told self.old }
+        ensures misses { Misses result (misses self.old) (misses self.new) }
+        ensures overs { Overs result (overs self.old) (overs self.new) }
+        ensures faults { Faults result (faults self.old) (faults self.new) };
+}
+
+/// What takes bytes.
+pub trait Sink {
+    ghost use Rattle.outside.specs.Objects.{Adds, AddsFront, Rose};
+
+    /// What the sink holds, where it tells that.
+    ghost told: { Self → Option (List ℕ) };
+
+    /// How often a put has failed.
+    ghost faults: { Self → ℕ };
+
+    /// Adds the bytes at the end.
+    fn put(&mut self, bytes: &[u8]) -> Result<(), SinkFault>
+        ensures whole { OnOk result (Adds bytes.now (told self.old) (told self.new)) }
+        ensures front { OnErr result (AddsFront bytes.now (told self.old) (told self.new)) }
+        ensures sound { OnOk result (faults self.new ≡ faults self.old) }
+        ensures fault { OnErr result (Rose (faults self.old) (faults self.new)) }
+        ensures later { faults self.old ≤ faults self.new };
+}

@@ -1,0 +1,72 @@
+use super::*;
+use label_set::{Blob, Name, NoMemory};
+use std::alloc::Global;
+use std::process::Abort;
+use std::test::Fail;
+use std::{fs, io};
+
+fn stored(alloc: Global, name: &str, bytes: &[u8]) -> Result<StoredFile, NoMemory> {
+    Ok(StoredFile {
+        name: Name::from_str(alloc, name)?,
+        bytes: Blob::from_slice(alloc, bytes)?,
+    })
+}
+
+/// The file `a`, twice.
+fn files(alloc: Global) -> Result<FileList, NoMemory> {
+    Ok(FileList {
+        items: vec![in alloc; stored(alloc, "a", b"one")?, stored(alloc, "a", b"two")?]?,
+    })
+}
+
+/// What a shelf answers for `a` with its three bytes allowed, for `a` with two, and for `b`.
+fn three_reads<S: Shelf>(rt: &impl Abort, alloc: Global, shelf: &mut S) {
+    let whole = shelf.read_file(alloc, "a", 3);
+    assert!(rt; matches!(&whole, Ok(blob) if blob.as_slice() == b"one".as_slice()));
+    assert!(rt; matches!(shelf.read_file(alloc, "a", 2), Err(ShelfError::TooLong)));
+    assert!(rt; matches!(shelf.read_file(alloc, "b", 3), Err(ShelfError::Absent)));
+}
+
+#[test]
+fn shelves_answer_by_their_files(rt: HostRuntime) -> Result<(), Fail> {
+    let alloc = rt.alloc();
+    three_reads(&rt, alloc, &mut SureShelf::new(files(alloc)?)?);
+    let none = CallList {
+        items: Vec::new(alloc),
+    };
+    three_reads(&rt, alloc, &mut MemShelf::new(files(alloc)?, none)?);
+    fs::write(&rt, "a", "one")?;
+    three_reads(&rt, alloc, &mut FileShelf::new(rt.clone()?));
+    Ok(())
+}
+
+#[test]
+fn a_shelf_fails_at_the_calls_of_its_list(rt: HostRuntime) -> Result<(), Fail> {
+    let alloc = rt.alloc();
+    let second = CallList {
+        items: vec![in alloc; 1]?,
+    };
+    let mut shelf = MemShelf::new(files(alloc)?, second)?;
+    assert!(rt; matches!(shelf.read_file(alloc, "b", 0), Err(ShelfError::Absent)));
+    assert!(rt; matches!(shelf.read_file(alloc, "a", 3), Err(ShelfError::Failed)));
+    assert!(rt; matches!(shelf.read_file(alloc, "a", 3), Ok(_)));
+    Ok(())
+}
+
+#[test]
+fn sinks_take_bytes(rt: HostRuntime) -> Result<(), Fail> {
+    let alloc = rt.alloc();
+    let second = CallList {
+        items: vec![in alloc; 1]?,
+    };
+    let mut sink = MemSink::new(alloc, 4, second)?;
+    assert_eq!(rt; sink.put(b"ab"), Ok(()));
+    assert_eq!(rt; sink.put(b"c"), Err(SinkFault));
+    assert_eq!(rt; sink.put(b"cde"), Err(SinkFault));
+    assert_eq!(rt; sink.put(b"cd"), Ok(()));
+    assert_eq!(rt; sink.bytes(), b"abcd".as_slice());
+    assert_eq!(rt; SureSink::new()?.put(b"abc"), Ok(()));
+    assert_eq!(rt; StdSink::new(io::writer(&rt)).put(b"put\n"), Ok(()));
+    assert_eq!(rt; StdSink::new(rt.stderr()).put(b""), Ok(()));
+    Ok(())
+}

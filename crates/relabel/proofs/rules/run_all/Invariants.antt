@@ -1,0 +1,6 @@
+use Rattle.std.proofs.Common.{◌≡◌, drop}
+use Rattle.relabel.specs.Relabelling.{relabelled}
+use Rattle.relabel.proofs.rules.run_all.Given as goal
+
+abbrev pub invariant-loop-rule : goal.invariant-loop-rule
+invariant-loop-rule l = relabelled (drop l.rule-index l.rules) l.labels ≡ relabelled l.rules l.fn.labels

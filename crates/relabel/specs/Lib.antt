@@ -1,0 +1,4 @@
+pub mod Refusals
+pub mod Relabelling
+pub mod Steps
+pub mod Built

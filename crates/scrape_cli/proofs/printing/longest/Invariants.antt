@@ -1,0 +1,8 @@
+use Rattle.std.proofs.Common.{◌≡◌, ◌<◌, ◌≤◌, ℕ, length}
+use Rattle.std.specs.Prelude.{slice_get, Some}
+use Rattle.scrape_core.specs.declared.appender_book.Entry.{Entry}
+use Rattle.scrape_cli.specs.Texts.{entry_line}
+use Rattle.scrape_cli.proofs.printing.longest.Given as goal
+
+abbrev pub invariant-loop-place : goal.invariant-loop-place
+invariant-loop-place l = (k : ℕ) (e : Entry) → k < l.place → slice_get l.book.entries k ≡ Some e → length (entry_line e) ≤ l.most

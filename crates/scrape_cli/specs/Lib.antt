@@ -1,0 +1,4 @@
+pub mod Texts
+pub mod Flows
+pub mod Scripts
+pub mod Statuses

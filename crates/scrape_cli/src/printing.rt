@@ -1,0 +1,155 @@
+//! Printing a book to a sink, page by page.
+ghost use Rattle.std.specs.Prelude.{◌≡◌, ◌++◌, ◌+◌, ◌≤◌, [], ℕ, length, vec_len, vec_capacity, slice_get, IfOk, IfSome, OnOk, OnErr, IsErrOf};
+ghost use Rattle.outside.specs.Objects.{Adds, AddsFront, Rose};
+ghost use Rattle.scrape_cli.specs.Flows.{Flows, Cut};
+ghost use Rattle.scrape_cli.specs.Texts as spec;
+
+use crate::texts::push_line;
+use label_set::NoMemory;
+use outside::{Sink, SinkFault};
+use scrape_core::{Book, Entry};
+use std::alloc::Global;
+
+/// A page is put when it has at least so many bytes.
+const PAGE: usize = 65_536;
+
+/// Why a book was not printed.
+#[derive(Clone, Copy, PartialEq, Eq, Debug)]
+pub enum PrintError {
+    /// A put failed.
+    WriteFault,
+    /// An allocation failed, before anything was put.
+    NoMemory,
+}
+
+impl From<NoMemory> for PrintError {
+    ghost use Rattle.std.specs.Prelude.{◌≡◌};
+    ghost use Rattle.scrape_cli.specs.declared.printing.PrintError.TheVariants as variants;
+
+    ghost from_gives = { λ _ error. error ≡ variants.NoMemory };
+
+    fn from(_: NoMemory) -> PrintError {
+        PrintError::NoMemory
+    }
+}
+
+/// How long the longest line of a book is.
+fn longest(alloc: Global, book: &Book) -> Result<usize, NoMemory>
+    ensures { IfOk result (λ most. spec.AreWithin most book.now.entries) }
+{
+    let mut line = Vec::new(alloc);
+    let mut most: usize = 0;
+    for place in 0..book.len() {
+        if let Some(entry) = book.entry(place) {
+            line.clear();
+            push_line(&mut line, entry)?;
+            most = most.max(line.len());
+        }
+    }
+    Ok(most)
+}
+
+/// Puts the page and clears it.
+fn put_page<O: Sink>(page: &mut Vec<u8>, out: &mut O) -> Result<(), SinkFault>
+    ensures flows { OnOk result (Flows [] page.old.items (O.told out.old) page.new.items (O.told out.new)) }
+    ensures cut { OnErr result (Cut [] page.old.items (O.told out.old) (O.told out.new)) }
+    ensures clear { OnOk result (page.new.items ≡ []) }
+    ensures capacity { vec_capacity page.old ≤ vec_capacity page.new }
+    ensures sound { OnOk result (O.faults out.new ≡ O.faults out.old) }
+    ensures fault { OnErr result (Rose (O.faults out.old) (O.faults out.new)) }
+{
+    out.put(page)?;
+    page.clear();
+    Ok(())
+}
+
+/// Puts the page where it is full.
+fn make_room<O: Sink>(page: &mut Vec<u8>, out: &mut O) -> Result<(), SinkFault>
+    ensures flows { OnOk result (Flows [] page.old.items (O.told out.old) page.new.items (O.told out.new)) }
+    ensures cut { OnErr result (Cut [] page.old.items (O.told out.old) (O.told out.new)) }
+    ensures room { OnOk result (vec_len page.new ≤ PAGE) }
+    ensures capacity { vec_capacity page.old ≤ vec_capacity page.new }
+    ensures sound { OnOk result (O.faults out.new ≡ O.faults out.old) }
+    ensures fault { OnErr result (Rose (O.faults out.old) (O.faults out.new)) }
+{
+    if page.len() >= PAGE {
+        put_page(page, out)
+    } else {
+        Ok(())
+    }
+}
+
+/// Writes a line on a page that has room for it.
+fn write_line(page: &mut Vec<u8>, entry: &Entry)
+    requires { vec_len page.old + length (spec.entry_line entry.now) ≤ vec_capacity page.old }
+    ensures written { page.new.items ≡ page.old.items ++ spec.entry_line entry.now }
+    ensures capacity { vec_capacity page.old ≤ vec_capacity page.new }
+{
+    match push_line(page, entry) {
+        Ok(()) => {}
+        Err(_) => unreachable!(),
+    }
+}
+
+/// Prints the line of an entry: it goes on the page, which is put before where it is full.
+fn print_line<O: Sink>(page: &mut Vec<u8>, entry: &Entry, out: &mut O) -> Result<(), SinkFault>
+    requires { PAGE + length (spec.entry_line entry.now) ≤ vec_capacity page.old }
+    ensures flows { OnOk result (Flows (spec.entry_line entry.now) page.old.items (O.told out.old) page.new.items (O.told out.new)) }
+    ensures cut { OnErr result (Cut (spec.entry_line entry.now) page.old.items (O.told out.old) (O.told out.new)) }
+    ensures capacity { vec_capacity page.old ≤ vec_capacity page.new }
+    ensures sound { OnOk result (O.faults out.new ≡ O.faults out.old) }
+    ensures fault { OnErr result (Rose (O.faults out.old) (O.faults out.new)) }
+{
+    match make_room(page, out) {
+        Ok(()) => {
+            write_line(page, entry);
+            Ok(())
+        }
+        Err(fault) => Err(fault),
+    }
+}
+
+/// Prints the lines of a book, of which none is longer than `most`.
+fn print_pages<O: Sink>(
+    page: &mut Vec<u8>,
+    most: usize,
+    book: &Book,
+    out: &mut O,
+) -> Result<(), SinkFault>
+    requires blank { page.old.items ≡ [] }
+    requires within { spec.AreWithin most book.now.entries }
+    requires room { PAGE + most ≤ vec_capacity page.old }
+    ensures whole { OnOk result (Adds (spec.book_text book.now.entries) (O.told out.old) (O.told out.new)) }
+    ensures front { OnErr result (AddsFront (spec.book_text book.now.entries) (O.told out.old) (O.told out.new)) }
+    ensures sound { OnOk result (O.faults out.new ≡ O.faults out.old) }
+    ensures fault { OnErr result (Rose (O.faults out.old) (O.faults out.new)) }
+{
+    let _most = most;
+    for place in 0..book.len() {
+        if let Some(entry) = book.entry(place) {
+            match print_line(page, entry, out) {
+                Ok(()) => {}
+                Err(fault) => return Err(fault),
+            }
+        }
+    }
+    put_page(page, out)
+}
+
+/// Prints a book. All memory is taken before the first put.
+pub fn print_book<O: Sink>(alloc: Global, book: &Book, out: &mut O) -> Result<(), PrintError>
+    ensures whole { OnOk result (Adds (spec.book_text book.now.entries) (O.told out.old) (O.told out.new)) }
+    ensures front { IsErrOf result PrintError.WriteFault → AddsFront (spec.book_text book.now.entries) (O.told out.old) (O.told out.new) }
+    ensures fault { IsErrOf result PrintError.WriteFault → Rose (O.faults out.old) (O.faults out.new) }
+    ensures sound { OnOk result (O.faults out.new ≡ O.faults out.old) }
+    ensures kept { IsErrOf result PrintError.NoMemory → O.told out.new ≡ O.told out.old }
+    ensures quiet { IsErrOf result PrintError.NoMemory → O.faults out.new ≡ O.faults out.old }
+{
+    let most = longest(alloc, book)?;
+    let mut page = Vec::new(alloc);
+    page.reserve(PAGE + most).map_err(NoMemory::from)?;
+    match print_pages(&mut page, most, book, out) {
+        Ok(()) => Ok(()),
+        Err(_) => Err(PrintError::WriteFault),
+    }
+}

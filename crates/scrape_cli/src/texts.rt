@@ -1,0 +1,81 @@
+//! Lines of the printed book.
+ghost use Rattle.std.specs.Prelude.{◌≡◌, ◌++◌, ◌+◌, ◌<◌, ◌≤◌, length, vec_len, vec_capacity, OnOk, OnErr};
+ghost use Rattle.scrape_cli.specs.Texts as spec;
+
+use itoa::Buffer;
+use label_set::NoMemory;
+use scrape_core::{Entry, Kind};
+use value_text::ValueText;
+
+/// Appends a piece; it fails only where there is no room for it.
+fn push(text: &mut Vec<u8>, piece: &[u8]) -> Result<(), NoMemory>
+    ensures written { OnOk result (text.new.items ≡ text.old.items ++ piece.now) }
+    ensures full { OnErr result (vec_capacity text.old < vec_len text.old + length piece.now) }
+    ensures capacity { vec_capacity text.old ≤ vec_capacity text.new }
+    ensures len { OnOk result (vec_len text.new ≡ vec_len text.old + length piece.now) }
+{
+    Ok(text.extend_from_slice(piece)?)
+}
+
+fn kind_word(kind: Kind) -> &'static str
+    ensures { result.now ≡ spec.kind_word kind }
+{
+    match kind {
+        Kind::Scraped => "sample",
+        Kind::Stale => "stale",
+        Kind::Report => "report",
+        Kind::ReportStale => "report-stale",
+    }
+}
+
+fn push_head(text: &mut Vec<u8>, entry: &Entry) -> Result<(), NoMemory>
+    ensures written { OnOk result (text.new.items ≡ text.old.items ++ spec.entry_head entry.now) }
+    ensures full { OnErr result (vec_capacity text.old < vec_len text.old + length (spec.entry_head entry.now)) }
+    ensures capacity { vec_capacity text.old ≤ vec_capacity text.new }
+    ensures len { OnOk result (vec_len text.new ≡ vec_len text.old + length (spec.entry_head entry.now)) }
+{
+    let mut moment = Buffer::new();
+    let mut life = Buffer::new();
+    push(text, moment.format(entry.moment).as_bytes())?;
+    push(text, b" ")?;
+    push(text, life.format(entry.life).as_bytes())?;
+    push(text, b" ")?;
+    push(text, kind_word(entry.kind).as_bytes())?;
+    push(text, b" ")
+}
+
+fn push_value(text: &mut Vec<u8>, value: &Option<ValueText>) -> Result<(), NoMemory>
+    ensures written { OnOk result (text.new.items ≡ text.old.items ++ spec.value_after value.now) }
+    ensures full { OnErr result (vec_capacity text.old < vec_len text.old + length (spec.value_after value.now)) }
+    ensures capacity { vec_capacity text.old ≤ vec_capacity text.new }
+    ensures len { OnOk result (vec_len text.new ≡ vec_len text.old + length (spec.value_after value.now)) }
+{
+    match value {
+        None => Ok(()),
+        Some(value) => {
+            push(text, b" ")?;
+            push(text, value.bytes())
+        }
+    }
+}
+
+fn push_tail(text: &mut Vec<u8>, entry: &Entry) -> Result<(), NoMemory>
+    ensures written { OnOk result (text.new.items ≡ text.old.items ++ spec.entry_tail entry.now) }
+    ensures full { OnErr result (vec_capacity text.old < vec_len text.old + length (spec.entry_tail entry.now)) }
+    ensures capacity { vec_capacity text.old ≤ vec_capacity text.new }
+{
+    push(text, b"")?;
+    push_value(text, &entry.value)?;
+    push(text, b"\n")
+}
+
+/// Appends the line of an entry; it fails only where there is no room for it.
+#[tactic(auto, unfolding(crate::specs::Texts::entry_line))]
+pub fn push_line(text: &mut Vec<u8>, entry: &Entry) -> Result<(), NoMemory>
+    ensures written { OnOk result (text.new.items ≡ text.old.items ++ spec.entry_line entry.now) }
+    ensures full { OnErr result (vec_capacity text.old < vec_len text.old + length (spec.entry_line entry.now)) }
+    ensures capacity { vec_capacity text.old ≤ vec_capacity text.new }
+{
+    push_head(text, entry)?;
+    push_tail(text, entry)
+}

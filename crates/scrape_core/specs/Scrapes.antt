@@ -1,0 +1,98 @@
+-- The outcome of a scrape, and the sets that it has.
+use Rattle.std.specs.Prelude.{ℕ, Bool, true, false, List, [], map, filter, length, ◌==◌, nat_lt, Option, Some, None, is_none, Ok, Err, Result, codes, if◌then◌else◌}
+use Rattle.label_set.specs.declared.texts.Pair.{Pair}
+use Rattle.label_set.specs.Sets.{with_label}
+use Rattle.expo_reader.specs.declared.rows.BodyRow.{BodyRow}
+use Rattle.expo_reader.specs.declared.bodies.BodyCause.{BodyCause}
+use Rattle.expo_reader.specs.Bodies.{reading}
+use Rattle.outside.specs.declared.replies.Reply.{Reply}
+use Rattle.outside.specs.declared.replies.Reply.TheVariants.{Body, Lost, Garbled, Unsent, Oversize}
+use Rattle.scrape_core.specs.declared.sample_rows.Sample.{Sample}
+use Rattle.scrape_core.specs.declared.sample_rows.Scrape.{Scrape}
+use Rattle.scrape_core.specs.declared.sample_rows.Scrape.TheVariants.{Good, Bad}
+use Rattle.scrape_core.specs.declared.sample_rows.ScrapeFault.{ScrapeFault}
+use Rattle.scrape_core.specs.declared.sample_rows.ScrapeFault.TheVariants as fault
+use Rattle.scrape_core.specs.Sets.{rising}
+
+-- a target's labels with a metric name as `__name__`
+abbrev pub named : List Pair → List ℕ → List Pair
+named target name = with_label target (codes "__name__") name
+
+-- the set of a row without labels
+abbrev pub row_set : List Pair → BodyRow → List Pair
+row_set target r = named target r.name
+
+-- the sample of a row
+abbrev pub sample_of : List Pair → BodyRow → Sample
+sample_of target r = record { set = row_set target r; value = r.value; stamp = r.stamp }
+
+-- a good scrape of these rows
+abbrev pub good : List Pair → List BodyRow → Scrape
+good target rows = Good (map (sample_of target) rows) (length rows)
+
+-- a scrape that failed before a row was looked at
+abbrev pub failed : ScrapeFault → Scrape
+failed f = Bad f 0 0
+
+-- a scrape whose reply was a body with status 200 and these rows
+abbrev pub read_scrape : ℕ → List Pair → ℕ → List BodyRow → Scrape
+read_scrape timeout target took rows = if nat_lt timeout took then failed fault.Slow else good target rows
+
+-- of a body with status 200
+abbrev pub of_reading : List Pair → Result (List BodyRow) BodyCause → Scrape
+of_reading target (Ok rows) = good target rows
+of_reading target (Err e) = failed fault.Garbled
+
+-- the outcome of a scrape of a target, by the timeout, how long it took, and the reply: the first fault, or the rows
+abbrev pub outcome : ℕ → List Pair → ℕ → Reply → Scrape
+outcome timeout target took Lost = failed fault.Lost
+outcome timeout target took Garbled = failed fault.Garbled
+outcome timeout target took Unsent = failed fault.Unsent
+outcome timeout target took Oversize = if nat_lt timeout took then failed fault.Slow else failed fault.Size
+outcome timeout target took (Body status bytes) =
+    if nat_lt timeout took then failed fault.Slow
+    else if status == 200 then of_reading target (reading bytes)
+    else failed (fault.Status status)
+
+-- the fault, where the scrape isn't good
+abbrev pub fault_of : Scrape → Option ScrapeFault
+fault_of (Good rows scraped) = None
+fault_of (Bad f scraped left) = Some f
+
+-- the samples of a scrape; a bad one has none
+abbrev pub samples_of : Scrape → List Sample
+samples_of (Good rows scraped) = rows
+samples_of (Bad f scraped left) = []
+
+-- the sets of some samples, and of those that have no timestamp of their own
+abbrev pub sets_in : List Sample → List (List Pair)
+sets_in samples = map (λ (r : Sample). r.set) samples
+
+abbrev pub tracked_in : List Sample → List (List Pair)
+tracked_in samples = sets_in (filter (λ (r : Sample). is_none r.stamp) samples)
+
+-- all sets of a scrape, each once, rising
+abbrev pub all_sets : Scrape → List (List Pair)
+all_sets s = rising (sets_in (samples_of s))
+
+-- the sets that a scrape tracks: those of its samples without a timestamp of their own, each once, rising
+abbrev pub tracked_sets : Scrape → List (List Pair)
+tracked_sets s = rising (tracked_in (samples_of s))
+
+-- all sets of the last good scrape, after one more
+abbrev pub known_after : List (List Pair) → Scrape → List (List Pair)
+known_after known (Good rows scraped) = all_sets (Good rows scraped)
+known_after known (Bad f scraped left) = known
+
+-- how many rows were scraped, and how many were left
+abbrev pub scraped_of : Scrape → ℕ
+scraped_of (Good rows scraped) = scraped
+scraped_of (Bad f scraped left) = scraped
+
+abbrev pub left_of : Scrape → ℕ
+left_of (Good rows scraped) = length rows
+left_of (Bad f scraped left) = left
+
+abbrev pub is_good : Scrape → Bool
+is_good (Good rows scraped) = true
+is_good (Bad f scraped left) = false

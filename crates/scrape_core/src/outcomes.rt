@@ -1,0 +1,101 @@
+//! What a scrape comes to.
+ghost use Rattle.std.specs.Prelude.{◌≡◌, map, IfOk};
+ghost use Rattle.scrape_core.specs.Scrapes as spec;
+ghost use Rattle.scrape_core.specs.Sets.{rising};
+
+use crate::report_samples::with_name;
+use crate::rising::RisingSets;
+use crate::sample_rows::{Sample, SampleList, Scrape, ScrapeFault};
+use expo_reader::BodyRow;
+use label_set::{LabelSet, NoMemory};
+use std::alloc::Global;
+
+fn sample_of(alloc: Global, target: &LabelSet, row: &BodyRow) -> Result<Sample, NoMemory>
+    ensures { IfOk result (λ s. s ≡ spec.sample_of target.now row.now) }
+{
+    Ok(Sample {
+        set: with_name(alloc, target, row.name.as_str())?,
+        value: row.value.copy(alloc)?,
+        stamp: row.stamp,
+    })
+}
+
+/// The samples of rows without labels, for a target.
+fn samples_of(alloc: Global, target: &LabelSet, rows: &[BodyRow]) -> Result<Vec<Sample>, NoMemory>
+    ensures { IfOk result (λ v. v.items ≡ map (spec.sample_of target.now) rows.now) }
+{
+    let mut samples = Vec::with_capacity(alloc, rows.len())?;
+    for row in rows {
+        let sample = sample_of(alloc, target, row)?;
+        samples.reserve(1)?;
+        samples.push_reserved(sample);
+    }
+    Ok(samples)
+}
+
+/// A scrape whose reply was a body with status 200 that was read.
+pub fn read_scrape(
+    alloc: Global,
+    timeout: u64,
+    target: &LabelSet,
+    took: u64,
+    rows: &[BodyRow],
+) -> Result<Scrape, NoMemory>
+    ensures { IfOk result (λ s. s ≡ spec.read_scrape timeout target.now took rows.now) }
+{
+    if timeout < took {
+        return Ok(Scrape::Bad {
+            fault: ScrapeFault::Slow,
+            scraped: 0,
+            left: 0,
+        });
+    }
+    Ok(Scrape::Good {
+        rows: SampleList {
+            items: samples_of(alloc, target, rows)?,
+        },
+        scraped: rows.len() as u64,
+    })
+}
+
+/// The samples of a scrape; a bad one has none.
+pub fn samples_in(scrape: &Scrape) -> &[Sample]
+    ensures { result.now ≡ spec.samples_of scrape.now }
+{
+    match scrape {
+        Scrape::Good { rows, scraped: _ } => &rows.items,
+        Scrape::Bad {
+            fault: _,
+            scraped: _,
+            left: _,
+        } => &[],
+    }
+}
+
+/// The sets of some samples, each once, rising.
+pub fn all_sets(alloc: Global, samples: &[Sample]) -> Result<RisingSets, NoMemory>
+    ensures { IfOk result (λ s. s ≡ rising (spec.sets_in samples.now)) }
+{
+    let mut sets = RisingSets::new(alloc);
+    let mut place = samples.len();
+    while place > 0 {
+        place -= 1;
+        sets.put(samples[place].set.copy()?)?;
+    }
+    Ok(sets)
+}
+
+/// The sets of the samples without a timestamp of their own, each once, rising.
+pub fn tracked_sets(alloc: Global, samples: &[Sample]) -> Result<RisingSets, NoMemory>
+    ensures { IfOk result (λ s. s ≡ rising (spec.tracked_in samples.now)) }
+{
+    let mut sets = RisingSets::new(alloc);
+    let mut place = samples.len();
+    while place > 0 {
+        place -= 1;
+        if samples[place].stamp.is_none() {
+            sets.put(samples[place].set.copy()?)?;
+        }
+    }
+    Ok(sets)
+}
