@@ -1,9 +1,11 @@
 -- A text with its escapes resolved, a byte at a time.
-use Rattle.std.proofs.Common.{◌≡◌, ℕ, ◌+◌, ◌<◌, ◌≤◌, Bool, true, false, not, ◌&&◌, List, ◌∷◌, ◌++◌, length, drop, refl, sym, ap, ◌∙◌, get_or, ◌==◌, add-one, drop-cons, append_assoc, append-nil, Some, None}
+use Rattle.std.proofs.Common.{◌≡◌, ℕ, ◌+◌, ◌<◌, ◌≤◌, Bool, true, false, not, ◌&&◌, List, ◌∷◌, ◌++◌, length, drop, refl, sym, ap, ◌∙◌, get_or, ◌==◌, add-one, drop-cons, append_assoc, append-nil, Some, None, []}
 use Rattle.std.proofs.Math.ListN.{drop_of_length-le}
 use Rattle.std.specs.Str.{IsUtf8, is_utf8}
 use Rattle.std.proofs.lemmas.Str.{IsUtf8-from_is_utf8, is_utf8-from_IsUtf8}
-use Rattle.std.proofs.lemmas.Bool.{false_from_ne_true}
+use Rattle.std.proofs.lemmas.Bool.{false_from_ne_true, not-true}
+use Rattle.std.specs.List.{list_all}
+use Rattle.expo_reader.proofs.FrontLemmas.{both}
 use Rattle.expo_reader.specs.Texts.{resolved, resolved_from, resolved_byte, text_value}
 
 -- the byte at a place and what follows it
@@ -31,3 +33,18 @@ unfolding text_value
 text-no_value text out e h =
     let bad : is_utf8 (resolved text) ≡ false = ap is_utf8 (sym e) ∙ false_from_ne_true (is_utf8 out) (λ t. h (IsUtf8-from_is_utf8 out t)) in
     rw bad refl
+
+-- a text with no backslash
+plain-byte : (b : ℕ) (bs : List ℕ) → not (b == 92) ≡ true → resolved_from false bs ≡ bs → resolved_from false (b ∷ bs) ≡ b ∷ bs
+unfolding resolved_from resolved_byte
+plain-byte b bs e rest = let other : (b == 92) ≡ false = not-true (b == 92) e in rw other (ap (λ l. b ∷ l) rest)
+
+plain-resolved : (bs : List ℕ) → list_all (λ b. not (b == 92)) bs ≡ true → resolved bs ≡ bs
+unfolding resolved_from
+plain-resolved [] e = refl
+plain-resolved (b ∷ bs) e =
+    let k = both (not (b == 92)) (list_all (λ b. not (b == 92)) bs) e in
+    plain-byte b bs k.0 (plain-resolved bs k.1)
+
+pub plain-text : (bs : List ℕ) (b : Bool) → b ≡ list_all (λ b. not (b == 92)) bs → b ≡ true → bs ≡ resolved bs
+plain-text bs b test e = sym (plain-resolved bs (sym test ∙ e))

@@ -1,5 +1,6 @@
 //! The texts in quotes.
 ghost use Rattle.std.specs.Prelude.{◌≡◌, ◌++◌, ◌&&◌, ◌==◌, IfOk, IsTrue, OnOk, not, false};
+ghost use Rattle.std.specs.List.{list_all};
 ghost use Rattle.expo_reader.specs.Faults.{Finds};
 ghost use Rattle.expo_reader.specs.Texts as spec;
 
@@ -19,8 +20,25 @@ pub fn text_value(alloc: Global, text: &[u8]) -> Result<Name, Fault>
     }
 }
 
-/// A text with its escapes resolved.
+/// A text with its escapes resolved; most have none, and are copied at once.
 fn resolved(alloc: Global, text: &[u8]) -> Result<Vec<u8>, AllocError>
+    ensures { IfOk result (λ v. v.items ≡ spec.resolved text.now) }
+{
+    if is_plain(text) {
+        Vec::from_slice(alloc, text)
+    } else {
+        resolved_bytes(alloc, text)
+    }
+}
+
+/// Whether no backslash stands in a text.
+fn is_plain(text: &[u8]) -> bool
+    ensures { result ≡ list_all (λ b. not (b == 92)) text.now }
+{
+    text.iter().all(|b| *b != b'\\')
+}
+
+fn resolved_bytes(alloc: Global, text: &[u8]) -> Result<Vec<u8>, AllocError>
     ensures { IfOk result (λ v. v.items ≡ spec.resolved text.now) }
 {
     let mut bytes = Vec::with_capacity(alloc, text.len())?;

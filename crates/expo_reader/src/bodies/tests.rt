@@ -156,3 +156,20 @@ fn hands_bytes_back(rt: HostRuntime) -> Result<(), NoMemory> {
     assert_eq!(rt; unread.bytes.as_slice(), text);
     Ok(())
 }
+
+#[test]
+fn compares_many_labels(rt: HostRuntime) -> Result<(), NoMemory> {
+    let mut text = String::from_str(rt.alloc(), "x{")?;
+    for i in 0..20u64 {
+        text.push_str(&format!(in rt.alloc(); "l{i}=\"v\",")?)?;
+    }
+    let good = format!(in rt.alloc(); "{text}}} 1")?;
+    let bytes = Blob::from_slice(rt.alloc(), good.as_bytes())?;
+    let Ok(body) = read_body(rt.alloc(), bytes) else {
+        panic!(rt; "the names differ");
+    };
+    assert_eq!(rt; body.rows()[0].labels.as_slice().len(), 20);
+    let bad = format!(in rt.alloc(); "{text}l3=\"\"}} 1")?;
+    assert_eq!(rt; shown(rt.alloc(), bad.as_str())?.as_str(), "faulty 1");
+    Ok(())
+}
