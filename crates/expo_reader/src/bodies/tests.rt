@@ -70,14 +70,10 @@ fn reads_the_page_of_the_documentation(rt: HostRuntime) -> Result<(), NoMemory> 
         "3 http_requests_total{method=\"post\",code=\"200\"} http_requests_total method=[post] code=[200] 1027 1395066363000;"
     );
     assert_eq!(rt; rows[2].line, 7);
-    assert_eq!(rt;
-        rows[2].labels.as_slice()[0].value.as_str(),
-        "C:\\DIR\\FILE.TXT"
-    );
-    assert_eq!(rt;
-        rows[2].labels.as_slice()[1].value.as_str(),
-        "Cannot find file:\n\"FILE.TXT\""
-    );
+    let labels = rows[2].labels.as_slice();
+    assert_eq!(rt; labels.len(), 2);
+    assert_eq!(rt; labels[0].value.as_str(), "C:\\DIR\\FILE.TXT");
+    assert_eq!(rt; labels[1].value.as_str(), "Cannot find file:\n\"FILE.TXT\"");
     assert_eq!(rt;
         shown_rows(rt.alloc(), &rows[3..5])?.as_str(),
         "10 metric_without_timestamp_and_labels metric_without_timestamp_and_labels 12.47;13 something_weird{problem=\"division by zero\"} something_weird problem=[division by zero] +Inf -3982045;"
@@ -168,7 +164,9 @@ fn compares_many_labels(rt: HostRuntime) -> Result<(), NoMemory> {
     let Ok(body) = read_body(rt.alloc(), bytes) else {
         panic!(rt; "the names differ");
     };
-    assert_eq!(rt; body.rows()[0].labels.as_slice().len(), 20);
+    let rows = body.rows();
+    assert_eq!(rt; rows.len(), 1);
+    assert_eq!(rt; rows[0].labels.as_slice().len(), 20);
     let bad = format!(in rt.alloc(); "{text}l3=\"\"}} 1")?;
     assert_eq!(rt; shown(rt.alloc(), bad.as_str())?.as_str(), "faulty 1");
     Ok(())
