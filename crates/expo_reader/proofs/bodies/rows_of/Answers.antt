@@ -1,11 +1,12 @@
 use Rattle.std.proofs.Common.{◌≡◌, ◌≢◌, [], true, arith, refl, sym, ◌∙◌, true≢false, ◌++◌, ℕ, length, length-drop}
 use Rattle.std.proofs.lemmas.List.{nil_from_length}
 use Rattle.std.proofs.lemmas.Bool.Decides.{nat_tests}
-use Rattle.expo_reader.specs.Bodies.{row_list}
+use Rattle.expo_reader.specs.Bodies.{row_list, reading}
 use Rattle.expo_reader.proofs.LineLemmas.{rows-line, rows-fault, rows-end, not_empty}
-use Rattle.expo_reader.proofs.bodies.rows_of_lines.Goals as goal
+use Rattle.expo_reader.proofs.bodies.rows_of.Goals as goal
 
 pub returns-in-Err : goal.returns-in-Err
+unfolding reading
 returns-in-Err c =
     let rest = c.loop-rest.rest.now in
     let some : rest ≢ [] = λ e. (let t : c.is_empty.result ≡ true = rw (c.is_empty.ensures, e) refl in true≢false (sym t ∙ c.loop-rest-test.true)) in
@@ -23,6 +24,7 @@ loop-rest-preserved c =
     }
 
 pub returns : goal.returns
+unfolding reading
 returns c =
     let rest = c.loop-rest.rest.now in
     let zero_long : length rest ≡ 0 = grind (arith, nat_tests, c.is_empty.ensures, c.loop-rest-test.false) in

@@ -1,6 +1,6 @@
 use Rattle.std.proofs.Common.{◌≡◌, ◌≤◌, ◌+◌, length}
 use Rattle.expo_reader.specs.Bodies.{joined, rows_from, lines_of}
-use Rattle.expo_reader.proofs.bodies.rows_of_lines.Given as goal
+use Rattle.expo_reader.proofs.bodies.rows_of.Given as goal
 
 abbrev pub invariant-loop-rest : goal.invariant-loop-rest
 invariant-loop-rest l = record {
