@@ -1,2 +1,10 @@
+pub mod CompleteLemmas
+pub mod FrontLemmas
+pub mod LabelLemmas
+pub mod LawLemmas
 pub mod LineLemmas
 pub mod NameLemmas
+pub mod PartLemmas
+pub mod TextLemmas
+pub mod SoundLemmas
+pub mod WordLemmas

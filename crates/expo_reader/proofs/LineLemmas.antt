@@ -3,7 +3,7 @@ use Rattle.std.proofs.Common.{◌≡◌, ◌≢◌, ℕ, suc, ◌+◌, ◌<◌, 
 use Rattle.std.proofs.lemmas.Bool.{cases_Bool}
 use Rattle.expo_reader.specs.declared.rows.BodyRow.{BodyRow}
 use Rattle.expo_reader.specs.declared.bodies.BodyCause.{BodyCause}
-use Rattle.expo_reader.specs.declared.bodies.BodyCause.TheVariants.{NotYet, NoMemory}
+use Rattle.expo_reader.specs.declared.bodies.BodyCause.TheVariants.{Line, NoMemory}
 use Rattle.expo_reader.specs.Bodies.{lines_of, onto_first, line_len, rows_from, line_reading, line_then, joined, row_list, CauseIs}
 
 -- the first line with a byte more in front
@@ -47,7 +47,7 @@ fault xs n cause (b ∷ bs) said some is e =
 -- a line that isn't read
 pub rows-fault : (xs : List BodyRow) (n : ℕ) (cause : BodyCause) (bs : List ℕ) (said : Result (List BodyRow) BodyCause) → bs ≢ [] →
     CauseIs cause (line_reading n (take (line_len bs) bs)) → joined xs (rows_from n (lines_of bs)) ≡ said → CauseIs cause said
-rows-fault xs n NotYet bs said some is e = fault xs n NotYet bs said some is e
+rows-fault xs n (Line m) bs said some is e = fault xs n (Line m) bs said some is e
 rows-fault xs n NoMemory bs said some is e = tt
 
 -- the end

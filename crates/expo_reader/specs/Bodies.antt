@@ -1,11 +1,11 @@
 -- Bodies of the text exposition format, line by line (Prometheus documentation, "Exposition formats").
-use Rattle.std.specs.Prelude.{◌≡◌, ℕ, ◌+◌, ◌-◌, Bool, not, ◌&&◌, ◌||◌, List, [], ◌∷◌, ◌++◌, length, take, drop, slice_index, Option, Some, None, Result, Ok, Err, MatchResult, if◌then◌else◌, ◌==◌, nat_le}
+use Rattle.std.specs.Prelude.{◌≡◌, ℕ, ◌+◌, Bool, not, ◌||◌, List, [], ◌∷◌, ◌++◌, slice_index, Option, Some, None, Result, Ok, Err, MatchResult, if◌then◌else◌, ◌==◌}
 use Rattle.std.specs.List.{prefix_len}
-use Rattle.label_set.specs.Bytes.{is_metric_name}
-use Rattle.value_text.specs.Values.{is_digits}
+use Rattle.expo_reader.specs.Forms.{sample_in}
+use Rattle.expo_reader.specs.Texts.{bare, is_end}
 use Rattle.expo_reader.specs.declared.rows.BodyRow.{BodyRow}
 use Rattle.expo_reader.specs.declared.bodies.BodyCause.{BodyCause}
-use Rattle.expo_reader.specs.declared.bodies.BodyCause.TheVariants.{NotYet, NoMemory}
+use Rattle.expo_reader.specs.declared.bodies.BodyCause.TheVariants.{Line, NoMemory}
 
 -- a body and its rows
 pub record Body : Type 0 where
@@ -26,26 +26,18 @@ lines_of (b ∷ bs) = if b == 10 then [] ∷ lines_of bs else onto_first b (line
 abbrev pub line_len : List ℕ → ℕ
 line_len bs = prefix_len (λ b. not (b == 10)) bs
 
--- how many bytes stand before the first space
-abbrev pub name_len : List ℕ → ℕ
-name_len line = prefix_len (λ b. not (b == 32)) line
+-- a line of blanks alone, or a comment: its first byte that is no blank is `#`
+unfoldable pub is_skipped : List ℕ → Bool
+is_skipped line = is_end line || (slice_index (bare line) 0 == 35)
 
--- 1 to 128 digits
-unfoldable pub is_plain_value : List ℕ → Bool
-is_plain_value bs = is_digits bs && nat_le (length bs) 128
+-- the row of a sample line, or that the line is faulty
+abbrev pub sample_or_fault : ℕ → Option BodyRow → Result (Option BodyRow) BodyCause
+sample_or_fault number None = Err (Line number)
+sample_or_fault number (Some row) = Ok (Some row)
 
--- a metric name, one space and a plain value
-unfoldable pub is_plain : List ℕ → Bool
-is_plain line = is_metric_name (take (name_len line) line) && is_plain_value (drop (name_len line + 1) line)
-
--- the row of a name and a value alone
-abbrev pub plain_row : ℕ → List ℕ → List ℕ → BodyRow
-plain_row number name value = record { line = number; raw = name; name = name; labels = []; value = value; stamp = None }
-
--- what the line of a number says: a row, nothing where it is skipped, or why it isn't read
+-- what the line of a number says: a row, nothing where it is skipped, or that it is faulty
 unfoldable pub line_reading : ℕ → List ℕ → Result (Option BodyRow) BodyCause
-line_reading number line =
-    if is_plain line then Ok (Some (plain_row number (take (name_len line) line) (drop (name_len line + 1) line))) else Err NotYet
+line_reading number line = if is_skipped line then Ok None else sample_or_fault number (sample_in number (bare line))
 
 -- rows in front of those that are read, or why they aren't read
 abbrev pub joined : List BodyRow → Result (List BodyRow) BodyCause → Result (List BodyRow) BodyCause
@@ -67,18 +59,14 @@ unfoldable pub rows_from : ℕ → List (List ℕ) → Result (List BodyRow) Bod
 rows_from number [] = Ok []
 rows_from number (l ∷ ls) = line_then (line_reading number l) (rows_from (number + 1) ls)
 
--- nothing follows the last line feed
-unfoldable pub is_closed : List ℕ → Bool
-is_closed bytes = (length bytes == 0) || (slice_index bytes (length bytes - 1) == 10)
-
--- the rows of a body, its lines counted from 1, or why it isn't read
+-- the rows of a body, its lines counted from 1, or the number of its first faulty line
 unfoldable pub reading : List ℕ → Result (List BodyRow) BodyCause
-reading bytes = if is_closed bytes then rows_from 1 (lines_of bytes) else Err NotYet
+reading bytes = rows_from 1 (lines_of bytes)
 
 -- the cause is the one that was said, unless memory ran out
 abbrev pub CauseIs : {A : Type 0} → BodyCause → Result A BodyCause → Type 0
 CauseIs NoMemory said = Unit {0}
-CauseIs NotYet said = said ≡ Err NotYet
+CauseIs (Line number) said = said ≡ Err (Line number)
 
 -- what was returned is what was said, unless memory ran out
 abbrev pub Gives : {A B : Type 0} → (A → B) → Result A BodyCause → Result B BodyCause → Type 0

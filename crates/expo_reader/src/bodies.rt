@@ -1,8 +1,9 @@
 //! Whole bodies.
 ghost use Rattle.std.specs.Prelude.{◌≡◌, ◌++◌, IfErr, IfOk, OnOk};
+ghost use Rattle.expo_reader.specs.Grammar.{AreLines, IsCauseOf, ReadsTheFormat};
 ghost use Rattle.expo_reader.specs.Bodies.{CauseIs, Gives, lines_of, reading, row_list, rows_from};
 
-use crate::lines::{is_closed, line_end, read_line, rest_after};
+use crate::lines::{line_end, read_line, rest_after};
 use crate::rows::BodyRow;
 use label_set::Blob;
 use std::alloc::{AllocError, Global};
@@ -11,8 +12,8 @@ use std::marker::Model;
 /// Why a body was not read.
 #[derive(Clone, Copy, PartialEq, Eq, Debug)]
 pub enum BodyCause {
-    /// The body is not of plain lines, the only ones that are read so far.
-    NotYet,
+    /// The line of that number is the first faulty one: it is neither skipped nor a sample line of the form.
+    Line(u64),
     /// An allocation failed.
     NoMemory,
 }
@@ -57,6 +58,8 @@ impl Model for ReadBody {
 pub fn read_body(alloc: Global, bytes: Blob) -> Result<ReadBody, Unread>
     ensures read { IfOk result (λ b. reading bytes ≡ Ok b.rows) }
     ensures cause { IfErr result (λ u. CauseIs u.cause (reading bytes)) }
+    ensures lines { IfOk result (λ b. AreLines 1 (lines_of bytes) b.rows) }
+    ensures fault { IfErr result (λ u. IsCauseOf u.cause bytes) }
     ensures bytes { IfOk result (λ b. b.bytes ≡ bytes) }
     ensures back { IfErr result (λ u. u.bytes ≡ bytes) }
 {
@@ -65,6 +68,12 @@ pub fn read_body(alloc: Global, bytes: Blob) -> Result<ReadBody, Unread>
         Err(cause) => Err(Unread { bytes, cause }),
     }
 }
+
+/// The law that ties the reading to the format: a body is read exactly where each of its lines is skipped or written as a sample line,
+/// with just these rows, and line n is named exactly where it is the first that is neither. It does nothing.
+pub fn reads_the_format()
+    ensures { ReadsTheFormat }
+{}
 
 impl ReadBody {
     /// The rows in the order of their lines.
@@ -95,15 +104,6 @@ impl ReadBody {
 fn rows_of(alloc: Global, body: &[u8]) -> Result<Vec<BodyRow>, BodyCause>
     ensures { Gives (λ v. v.items) result (reading body.now) }
 {
-    if !is_closed(body) {
-        return Err(BodyCause::NotYet);
-    }
-    rows_of_lines(alloc, body)
-}
-
-fn rows_of_lines(alloc: Global, body: &[u8]) -> Result<Vec<BodyRow>, BodyCause>
-    ensures { Gives (λ v. v.items) result (rows_from 1 (lines_of body.now)) }
-{
     let mut rows = Vec::new(alloc);
     let mut rest = body;
     let mut number = 1;
@@ -130,42 +130,4 @@ fn push_row(rows: &mut Vec<BodyRow>, row: Option<BodyRow>) -> Result<(), AllocEr
 }
 
 #[cfg(test)]
-mod tests {
-    use super::*;
-    use label_set::NoMemory;
-
-    #[test]
-    fn reads_plain_lines(rt: HostRuntime) -> Result<(), NoMemory> {
-        let bytes = Blob::from_slice(rt.alloc(), b"up 1\nhttp_requests_total 1027\n")?;
-        let Ok(body) = read_body(rt.alloc(), bytes) else {
-            panic!(rt; "plain lines are read");
-        };
-        let rows = body.rows();
-        assert_eq!(rt; rows.len(), 2);
-        let row = &rows[1];
-        assert_eq!(rt; row.line, 2);
-        assert_eq!(rt; row.raw.as_slice(), b"http_requests_total".as_slice());
-        assert_eq!(rt; row.name.as_str(), "http_requests_total");
-        assert_eq!(rt; row.labels.as_slice().len(), 0);
-        assert_eq!(rt; row.value.copy(rt.alloc())?.bytes(), b"1027".as_slice());
-        assert!(rt; row.stamp.is_none());
-        assert_eq!(rt; body.bytes().len(), 30);
-        assert_eq!(rt; body.into_bytes().as_slice().len(), 30);
-        Ok(())
-    }
-
-    #[test]
-    fn hands_other_bodies_back(rt: HostRuntime) -> Result<(), NoMemory> {
-        for text in [
-            "up 1", "up  1\n", "up{} 1\n", "# up\n", "\n", "up x\n", "1 1\n",
-        ] {
-            let bytes = Blob::from_slice(rt.alloc(), text.as_bytes())?;
-            let Err(unread) = read_body(rt.alloc(), bytes) else {
-                panic!(rt; "{text} is not plain");
-            };
-            assert_eq!(rt; unread.cause, BodyCause::NotYet);
-            assert_eq!(rt; unread.bytes.as_slice(), text.as_bytes());
-        }
-        Ok(())
-    }
-}
+mod tests;

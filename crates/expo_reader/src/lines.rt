@@ -1,25 +1,22 @@
 //! Lines of a body, one at a time.
-ghost use Rattle.std.specs.Prelude.{◌≡◌, ◌≤◌, ◌+◌, length, drop, IfOk, IsTrue, string_bytes};
-ghost use Rattle.std.specs.Char.{is_ascii_digit};
-ghost use Rattle.std.specs.List.{list_all};
-ghost use Rattle.label_set.specs.Bytes.{is_metric_byte, is_metric_name, is_metric_start, is_name_start};
-ghost use Rattle.expo_reader.specs.Bodies.{Gives, is_plain, is_plain_value, line_len, line_reading, name_len, plain_row};
-ghost use Rattle.expo_reader.specs.Bodies.{is_closed as closed};
-ghost use Rattle.value_text.specs.Values.{is_digits};
+ghost use Rattle.std.specs.Prelude.{◌≡◌, ◌≤◌, ◌+◌, ◌-◌, drop, length, take, IfOk, IsTrue};
+ghost use Rattle.label_set.specs.Bytes.{is_metric_name};
+ghost use Rattle.value_text.specs.Values.{is_value};
+ghost use Rattle.expo_reader.specs.Bodies.{Gives, line_len, line_reading};
+ghost use Rattle.expo_reader.specs.Faults.{Finds};
+ghost use Rattle.expo_reader.specs.Forms as spec;
 
 use crate::bodies::BodyCause;
+use crate::faults::Fault;
+use crate::labels::labels_in;
+use crate::names;
+use crate::parts::{mark_in, start_of, word_in};
+use crate::repeats::names_differ;
 use crate::rows::BodyRow;
-use label_set::{Blob, Name, NoMemory, PairList};
+use crate::values::{Valued, value_in};
+use label_set::{Blob, NoMemory, Pair, PairList};
 use std::alloc::Global;
 use value_text::ValueText;
-
-/// Whether nothing follows the last line feed.
-#[tactic(auto, unfolding(crate::specs::Bodies::is_closed))]
-pub fn is_closed(body: &[u8]) -> bool
-    ensures { result ≡ closed body.now }
-{
-    body.is_empty() || body[body.len() - 1] == b'\n'
-}
 
 /// How many bytes stand before the first line feed.
 pub fn line_end(bytes: &[u8]) -> usize
@@ -41,112 +38,136 @@ pub fn rest_after(bytes: &[u8], end: usize) -> &[u8]
     }
 }
 
-/// How many bytes stand before the first space.
-fn name_end(line: &[u8]) -> usize
-    ensures value { result ≡ name_len line.now }
-    ensures within { result ≤ length line.now }
-{
-    line.iter().take_while(|b| **b != b' ').count()
-}
-
-/// What a line says.
-#[tactic(auto, unfolding(crate::specs::Bodies::line_reading, crate::specs::Bodies::is_plain))]
+/// What a line says: a row, nothing where it is skipped, or that it is faulty.
 pub fn read_line(alloc: Global, number: u64, line: &[u8]) -> Result<Option<BodyRow>, BodyCause>
     ensures { Gives (λ r. r) result (line_reading number line.now) }
 {
-    let end = name_end(line);
-    let name = &line[..end];
-    let value = rest_after(line, end);
-    if !is_metric(name) || !is_value(value) {
-        return Err(BodyCause::NotYet);
+    let Some(start) = start_of(line) else {
+        return Ok(None);
+    };
+    if line[start] == b'#' {
+        return Ok(None);
     }
-    match row_of(alloc, number, name, value) {
+    match sample(alloc, number, behind(line, start)) {
         Ok(row) => Ok(Some(row)),
-        Err(_) => Err(BodyCause::NoMemory),
+        Err(Fault::Faulty) => Err(BodyCause::Line(number)),
+        Err(Fault::NoMemory) => Err(BodyCause::NoMemory),
     }
 }
 
-/// The row of a name and a value alone.
-fn row_of(alloc: Global, number: u64, name: &[u8], value: &[u8]) -> Result<BodyRow, NoMemory>
+fn behind(line: &[u8], start: usize) -> &[u8]
+    requires { start ≤ length line.now }
+    ensures { result.now ≡ drop start line.now }
+{
+    &line[start..]
+}
+
+/// The row of a sample line, from its first byte that is no blank on.
+#[tactic(auto, unfolding(crate::specs::Forms::sample_in))]
+fn sample(alloc: Global, number: u64, line: &[u8]) -> Result<BodyRow, Fault>
+    ensures { Finds (λ r. r) result (spec.sample_in number line.now) }
+{
+    let Some(name) = word_in(line) else {
+        return Err(Fault::Faulty);
+    };
+    if !names::is_metric_name(name.bytes) {
+        return Err(Fault::Faulty);
+    }
+    match mark_in(b'{', name.rest) {
+        Some(inside) => labelled(alloc, number, line, name.bytes, inside),
+        None => {
+            let labels = Vec::new(alloc);
+            row_of(alloc, number, name.bytes, name.bytes, labels, name.rest)
+        }
+    }
+}
+
+/// The row of a line with labels, of which the text behind the `{` is given.
+fn labelled(
+    alloc: Global,
+    number: u64,
+    line: &[u8],
+    name: &[u8],
+    inside: &[u8],
+) -> Result<BodyRow, Fault>
     requires name { IsTrue (is_metric_name name.now) }
-    requires value { IsTrue (is_plain_value value.now) }
-    ensures { IfOk result (λ r. r ≡ plain_row number name.now value.now) }
+    requires within { length inside.now ≤ length line.now }
+    ensures { Finds (λ r. r) result (spec.labelled_row number line.now name.now (spec.labels_in (length inside.now + 1) inside.now)) }
+{
+    match labels_in(alloc, inside) {
+        Ok(labels) => differing(alloc, number, line, name, labels.items, labels.rest),
+        Err(fault) => Err(fault),
+    }
+}
+
+/// The row of a line with these labels, where no two have one name.
+fn differing(
+    alloc: Global,
+    number: u64,
+    line: &[u8],
+    name: &[u8],
+    labels: Vec<Pair>,
+    rest: &[u8],
+) -> Result<BodyRow, Fault>
+    requires name { IsTrue (is_metric_name name.now) }
+    requires within { length rest.now ≤ length line.now }
+    ensures { Finds (λ r. r) result (spec.differing_row number line.now name.now labels.items rest.now) }
+{
+    let differ = names_differ(alloc, &labels)?;
+    if !differ {
+        return Err(Fault::Faulty);
+    }
+    let raw = before(line, rest.len());
+    row_of(alloc, number, raw, name, labels, rest)
+}
+
+/// The line without so many bytes at its end.
+fn before(line: &[u8], len: usize) -> &[u8]
+    requires { len ≤ length line.now }
+    ensures { result.now ≡ take (length line.now - len) line.now }
+{
+    &line[..line.len() - len]
+}
+
+/// The row of these parts and of the value that a text ends with.
+fn row_of(
+    alloc: Global,
+    number: u64,
+    raw: &[u8],
+    name: &[u8],
+    labels: Vec<Pair>,
+    rest: &[u8],
+) -> Result<BodyRow, Fault>
+    requires { IsTrue (is_metric_name name.now) }
+    ensures { Finds (λ r. r) result (spec.row_of number raw.now name.now labels.items (spec.value_in rest.now)) }
+{
+    let Some(value) = value_in(rest) else {
+        return Err(Fault::Faulty);
+    };
+    match built(alloc, number, raw, name, labels, value) {
+        Ok(row) => Ok(row),
+        Err(_) => Err(Fault::NoMemory),
+    }
+}
+
+fn built(
+    alloc: Global,
+    number: u64,
+    raw: &[u8],
+    name: &[u8],
+    labels: Vec<Pair>,
+    value: Valued<'_>,
+) -> Result<BodyRow, NoMemory>
+    requires name { IsTrue (is_metric_name name.now) }
+    requires value { IsTrue (is_value value.bytes.now) }
+    ensures { IfOk result (λ r. r ≡ record { line = number; raw = raw.now; name = name.now; labels = labels.items; value = value.entry.bytes.now; stamp = value.entry.stamp }) }
 {
     Ok(BodyRow {
         line: number,
-        raw: Blob {
-            bytes: Vec::from_slice(alloc, name)?,
-        },
-        name: Name {
-            text: name_text(alloc, name)?,
-        },
-        labels: PairList {
-            items: Vec::new(alloc),
-        },
-        value: plain_value(alloc, value)?,
-        stamp: None,
+        raw: Blob::from_slice(alloc, raw)?,
+        name: names::metric_name(alloc, name)?,
+        labels: PairList { items: labels },
+        value: ValueText::keep_checked(alloc, value.bytes)?,
+        stamp: value.stamp,
     })
-}
-
-/// A metric name as a text.
-fn name_text(alloc: Global, name: &[u8]) -> Result<String, NoMemory>
-    requires { IsTrue (is_metric_name name.now) }
-    ensures { IfOk result (λ t. string_bytes t ≡ name.now) }
-{
-    Ok(String::from_utf8_lossy(alloc, name)?)
-}
-
-/// A value of digits alone.
-fn plain_value(alloc: Global, digits: &[u8]) -> Result<ValueText, NoMemory>
-    requires { IsTrue (is_plain_value digits.now) }
-    ensures { IfOk result (λ v. v ≡ digits.now) }
-{
-    ValueText::keep_checked(alloc, digits)
-}
-
-#[tactic(auto, unfolding(crate::specs::Bodies::is_plain_value))]
-fn is_value(bytes: &[u8]) -> bool
-    ensures { result ≡ is_plain_value bytes.now }
-{
-    all_digits(bytes) && bytes.len() <= 128
-}
-
-/// Whether the bytes are digits and nothing else, one at least.
-fn all_digits(bytes: &[u8]) -> bool
-    ensures { result ≡ is_digits bytes.now }
-{
-    !bytes.is_empty() && each_digit(bytes)
-}
-
-fn each_digit(bytes: &[u8]) -> bool
-    ensures { result ≡ list_all is_ascii_digit bytes.now }
-{
-    bytes.iter().all(|b| b.is_ascii_digit())
-}
-
-/// Whether the bytes are a metric name.
-fn is_metric(bytes: &[u8]) -> bool
-    ensures { result ≡ is_metric_name bytes.now }
-{
-    !bytes.is_empty() && is_first(bytes[0]) && all_inner(bytes)
-}
-
-#[tactic(auto, unfolding(label_set::specs::Bytes::is_metric_start, label_set::specs::Bytes::is_name_start))]
-fn is_first(byte: u8) -> bool
-    ensures { result ≡ is_metric_start byte }
-{
-    byte.is_ascii_alphabetic() || byte == b'_' || byte == b':'
-}
-
-#[tactic(auto, unfolding(label_set::specs::Bytes::is_metric_byte))]
-fn is_inner(byte: u8) -> bool
-    ensures { result ≡ is_metric_byte byte }
-{
-    is_first(byte) || byte.is_ascii_digit()
-}
-
-fn all_inner(bytes: &[u8]) -> bool
-    ensures { result ≡ list_all is_metric_byte bytes.now }
-{
-    bytes.iter().all(|b| is_inner(*b))
 }

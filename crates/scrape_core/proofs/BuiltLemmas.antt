@@ -1,6 +1,7 @@
 -- What an event that is built, or isn't, makes of a journal.
 use Rattle.std.proofs.Common.{◌≡◌, ◌≢◌, ℕ, ℤ, ◌+◌, ◌<◌, ◌≤◌, List, [], ◌∷◌, ◌++◌, length, map, Bool, true, false, not, cond, refl, sym, ap, ap₂, ◌∙◌, arith, append-nil, length-append}
-use Rattle.std.specs.Prelude.{Option, Some, None, nat_le, is_ok, is_some, ◌&&◌, Ok, Err}
+use Rattle.std.specs.Prelude.{Some, None, nat_le, is_some, ◌&&◌, Ok, Err}
+use Rattle.std.specs.List.{list_all}
 use Rattle.std.specs.Prelude.{Result, IfOk, OnOk, OnErr, ◌==◌}
 use Rattle.std.proofs.Common.{subst}
 use Rattle.scrape_core.specs.declared.appender_book.Entry.{Entry}
@@ -15,7 +16,6 @@ use Rattle.expo_reader.specs.declared.bodies.BodyCause.{BodyCause}
 use Rattle.expo_reader.specs.Bodies.{reading}
 use Rattle.journal_text.specs.Lines.{number}
 use Rattle.scrape_config.specs.Plain.{plain_conf}
-use Rattle.label_set.specs.declared.texts.Pair.{Pair}
 use Rattle.outside.specs.declared.replies.Reply.{Reply}
 use Rattle.outside.specs.declared.replies.Reply.TheVariants.{Body, Lost}
 use Rattle.journal_text.specs.declared.events.Event.{Event}
@@ -29,9 +29,9 @@ use Rattle.scrape_core.specs.declared.answers.Answer.{Answer}
 use Rattle.scrape_core.specs.declared.answers.Answer.TheVariants.{NotYet}
 use Rattle.scrape_core.specs.declared.life_roll.Found.{Found}
 use Rattle.scrape_core.specs.declared.life_roll.Found.TheVariants.{NotStarted, Cancelled, Counts}
-use Rattle.scrape_core.specs.Built.{is_built, is_built_reply, is_not_yet, is_first, answer_after, journal_after}
+use Rattle.scrape_core.specs.Built.{is_bare, is_built_reading, is_built, is_built_reply, is_not_yet, is_first, answer_after, journal_after}
 use Rattle.scrape_core.specs.Machine.{World, world, step, gives, answer, finish_answer, found, world_of, book_of}
-use Rattle.scrape_core.specs.Targets.{Wanted, born, targets_of_group, targets_of_job, targets_of}
+use Rattle.scrape_core.specs.Targets.{born, targets_of_group, targets_of_job, targets_of}
 use Rattle.scrape_core.specs.declared.life_roll.Life.{Life}
 use Rattle.std.proofs.lemmas.Bool.{false≢true}
 use Rattle.std.proofs.Math.Dec.{eqb-suc-zero}
@@ -146,21 +146,27 @@ unfolding is_built
 lost_built es k took h = ap (λ b. b && true) (in_time took h)
 
 pub body_built : (es : List Event) (k : ℕ) (took : ℤ) (bytes : List ℕ) (rows : List BodyRow) → number took ≤ 10000 → reading bytes ≡ Ok rows →
+    list_all is_bare rows ≡ true → is_built es (Finish k took (Body 200 bytes)) ≡ true
+unfolding is_built
+body_built es k took bytes rows h e bare = ap₂ (λ b (x : Result (List BodyRow) BodyCause). b && is_built_reading x) (in_time took h) e ∙ bare
+
+pub body_faulty : (es : List Event) (k : ℕ) (took : ℤ) (bytes : List ℕ) (cause : BodyCause) → number took ≤ 10000 → reading bytes ≡ Err cause →
     is_built es (Finish k took (Body 200 bytes)) ≡ true
 unfolding is_built
-body_built es k took bytes rows h e = ap₂ (λ b (x : Result (List BodyRow) BodyCause). b && is_ok x) (in_time took h) e
+body_faulty es k took bytes cause h e = ap₂ (λ b (x : Result (List BodyRow) BodyCause). b && is_built_reading x) (in_time took h) e
 
-pub body_other : (es : List Event) (k : ℕ) (took : ℤ) (status : ℕ) (bytes : List ℕ) (cause : BodyCause) → reading bytes ≡ Err cause →
-    is_built es (Finish k took (Body status bytes)) ≡ false
+pub body_other : (es : List Event) (k : ℕ) (took : ℤ) (status : ℕ) (bytes : List ℕ) (rows : List BodyRow) → reading bytes ≡ Ok rows →
+    list_all is_bare rows ≡ false → is_built es (Finish k took (Body status bytes)) ≡ false
 unfolding is_built
-body_other es k took status bytes cause e =
-    ap (λ (x : Result (List BodyRow) BodyCause). nat_le (number took) 10000 && ((status == 200) && is_ok x)) e
-    ∙ (ap (λ b. nat_le (number took) 10000 && b) (no_more (status == 200)) ∙ no_more (nat_le (number took) 10000))
+body_other es k took status bytes rows e other =
+    ap (λ (x : Result (List BodyRow) BodyCause). nat_le (number took) 10000 && ((status == 200) && is_built_reading x)) e
+    ∙ (ap (λ b. nat_le (number took) 10000 && ((status == 200) && b)) other
+    ∙ (ap (λ b. nat_le (number took) 10000 && b) (no_more (status == 200)) ∙ no_more (nat_le (number took) 10000)))
 
 pub status_other : (es : List Event) (k : ℕ) (took : ℤ) (status : ℕ) (bytes : List ℕ) → status ≢ 200 → is_built es (Finish k took (Body status bytes)) ≡ false
 unfolding is_built
 status_other es k took status bytes n =
-    ap (λ b. nat_le (number took) 10000 && (b && is_ok (reading bytes))) (ne_eqb status 200 n) ∙ no_more (nat_le (number took) 10000)
+    ap (λ b. nat_le (number took) 10000 && (b && is_built_reading (reading bytes))) (ne_eqb status 200 n) ∙ no_more (nat_le (number took) 10000)
 
 pub reply_other : (es : List Event) (k : ℕ) (took : ℤ) (r : Reply) → is_built_reply r ≡ false → is_built es (Finish k took r) ≡ false
 unfolding is_built

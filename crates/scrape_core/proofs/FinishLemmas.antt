@@ -1,15 +1,13 @@
 -- What a load and a finish do to the lives.
-use Rattle.std.proofs.Common.{◌≡◌, ◌≢◌, ℕ, ℤ, zero, suc, ◌+◌, ◌<◌, List, [], ◌∷◌, ◌++◌, length, set, get_or, eqb, Bool, true, false, cond, refl, sym, ap, ap₂, ◌∙◌, arith, append-nil}
+use Rattle.std.proofs.Common.{◌≡◌, ℕ, ℤ, zero, suc, ◌+◌, ◌<◌, List, [], ◌∷◌, ◌++◌, length, set, get_or, eqb, Bool, true, false, cond, refl, sym, ap, ap₂, ◌∙◌, arith, append-nil}
 use Rattle.std.specs.Prelude.{slice_get, Option, Some, None}
 use Rattle.std.proofs.lemmas.Bool.{eq-eqb, ne_eqb}
 use Rattle.outside.specs.declared.replies.Reply.{Reply}
-use Rattle.journal_text.specs.declared.events.Event.{Event}
 use Rattle.journal_text.specs.declared.events.Event.TheVariants.{Load, Sweep, Finish}
 use Rattle.scrape_core.specs.declared.appender_book.Entry.{Entry}
 use Rattle.scrape_core.specs.declared.life_roll.Life.{Life}
 use Rattle.scrape_core.specs.declared.life_roll.Found.{Found}
 use Rattle.scrape_core.specs.declared.life_roll.Found.TheVariants.{NotStarted, Cancelled, Counts}
-use Rattle.scrape_core.specs.declared.life_roll.Local.{Local}
 use Rattle.scrape_core.specs.declared.life_roll.Local.TheVariants.{Nothing, Answered}
 use Rattle.std.specs.Prelude.{IfSome}
 use Rattle.std.proofs.Common.{subst}

@@ -1,5 +1,5 @@
 -- One more life of a list that a loop goes over, and one more event of a journal.
-use Rattle.std.proofs.Common.{◌≡◌, ℕ, ℤ, suc, ◌+◌, ◌<◌, List, [], ◌∷◌, ◌++◌, length, take, drop, get_or, set, cond, refl, sym, ap, ap₂, ◌∙◌, arith, append_assoc, append-nil, add-one}
+use Rattle.std.proofs.Common.{◌≡◌, ℕ, ℤ, suc, ◌+◌, ◌<◌, List, [], ◌∷◌, ◌++◌, length, take, drop, get_or, set, cond, refl, sym, ap, ◌∙◌, arith, append_assoc, append-nil, add-one}
 use Rattle.std.specs.List.{filter}
 use Rattle.std.proofs.Math.Seq.{drop-cons, get_or-append_seam, set-append_seam}
 use Rattle.journal_text.specs.declared.events.Event.TheVariants.{Sweep}
@@ -8,9 +8,8 @@ use Rattle.std.proofs.lemmas.List.{take_more, length-take}
 use Rattle.std.proofs.lemmas.List.Filters.{length-filter_more}
 use Rattle.journal_text.specs.declared.events.Event.{Event}
 use Rattle.scrape_core.specs.declared.life_roll.Life.{Life}
-use Rattle.scrape_core.specs.declared.life_roll.Start.{Start}
-use Rattle.scrape_core.specs.Lives.{starts, scanned, life_after, life_gives}
-use Rattle.scrape_core.specs.Machine.{World, local, lives_from, gives_from, start_of, starts_from, step, gives, run, book_from, world_of, book_of}
+use Rattle.scrape_core.specs.Lives.{starts, scanned, life_after}
+use Rattle.scrape_core.specs.Machine.{World, local, lives_from, start_of, starts_from, step, gives, run, book_from, world_of, book_of}
 
 lives_push : (w : World) (e : Event) (n k : ℕ) (xs : List Life) (x : Life) → k ≡ n + length xs →
     lives_from w e n (xs ++ x ∷ []) ≡ lives_from w e n xs ++ life_after (local w e k x) x ∷ []

@@ -1,15 +1,12 @@
 -- The machine: one run forward over a plain state.
-use Rattle.std.specs.Prelude.{◌≡◌, ℕ, ◌+◌, Bool, true, false, not, ◌&&◌, List, [], ◌∷◌, ◌++◌, length, take, map, slice_get, slice_set, ◌==◌, ◌<◌, ℤ, Option, Some, None, if◌then◌else◌}
-use Rattle.std.specs.List.{flat_map, filter}
-use Rattle.label_set.specs.declared.texts.Pair.{Pair}
-use Rattle.scrape_config.specs.declared.conf.Conf.{Conf}
+use Rattle.std.specs.Prelude.{◌≡◌, ℕ, ◌+◌, true, false, List, [], ◌∷◌, ◌++◌, length, take, map, slice_get, slice_set, ◌==◌, ◌<◌, ℤ, Option, Some, None, if◌then◌else◌}
+use Rattle.std.specs.List.{filter}
 use Rattle.scrape_config.specs.Plain.{plain_conf}
 use Rattle.outside.specs.declared.replies.Reply.{Reply}
 use Rattle.journal_text.specs.declared.events.Event.{Event}
-use Rattle.journal_text.specs.declared.events.Event.TheVariants.{Load, Targets, Tick, Sweep, Finish, Halt}
+use Rattle.journal_text.specs.declared.events.Event.TheVariants.{Load, Sweep, Finish}
 use Rattle.journal_text.specs.Lines.{number}
 use Rattle.scrape_core.specs.declared.appender_book.Entry.{Entry}
-use Rattle.scrape_core.specs.declared.sample_rows.Scrape.{Scrape}
 use Rattle.scrape_core.specs.declared.life_roll.Life.{Life}
 use Rattle.scrape_core.specs.declared.life_roll.Start.{Start}
 use Rattle.scrape_core.specs.declared.life_roll.Flight.{Flight}

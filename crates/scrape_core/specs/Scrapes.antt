@@ -4,6 +4,7 @@ use Rattle.label_set.specs.declared.texts.Pair.{Pair}
 use Rattle.label_set.specs.Sets.{with_label}
 use Rattle.expo_reader.specs.declared.rows.BodyRow.{BodyRow}
 use Rattle.expo_reader.specs.declared.bodies.BodyCause.{BodyCause}
+use Rattle.expo_reader.specs.declared.bodies.BodyCause.TheVariants.{Line, NoMemory}
 use Rattle.expo_reader.specs.Bodies.{reading}
 use Rattle.outside.specs.declared.replies.Reply.{Reply}
 use Rattle.outside.specs.declared.replies.Reply.TheVariants.{Body, Lost, Garbled, Unsent, Oversize}
@@ -38,10 +39,16 @@ failed f = Bad f 0 0
 abbrev pub read_scrape : ℕ → List Pair → ℕ → List BodyRow → Scrape
 read_scrape timeout target took rows = if nat_lt timeout took then failed fault.Slow else good target rows
 
--- of a body with status 200
+-- a scrape whose reply was a body with status 200 whose first faulty line has this number
+abbrev pub faulty_scrape : ℕ → ℕ → ℕ → Scrape
+faulty_scrape timeout took line = if nat_lt timeout took then failed fault.Slow else failed (fault.Line line)
+
+-- of a body with status 200: its rows, or where a line isn't of the text format (Prometheus documentation, "Exposition formats")
+-- the fault that names the first such line; no row counts then. A reading never ends for want of memory: the last case is that of no body.
 abbrev pub of_reading : List Pair → Result (List BodyRow) BodyCause → Scrape
 of_reading target (Ok rows) = good target rows
-of_reading target (Err e) = failed fault.Garbled
+of_reading target (Err (Line line)) = failed (fault.Line line)
+of_reading target (Err NoMemory) = failed fault.Garbled
 
 -- the outcome of a scrape of a target, by the timeout, how long it took, and the reply: the first fault, or the rows
 abbrev pub outcome : ℕ → List Pair → ℕ → Reply → Scrape

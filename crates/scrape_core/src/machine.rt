@@ -6,7 +6,9 @@ ghost use Rattle.journal_text.specs.declared.events.Event.{Event};
 ghost use Rattle.journal_text.specs.declared.events.Event.TheVariants.{Load, Sweep, Finish};
 ghost use Rattle.journal_text.specs.Lines.{number, IsMoment};
 ghost use Rattle.journal_text.specs.Events.{IsInLimits, HasNames, MayFollow, now_of};
-ghost use Rattle.std.specs.Prelude.{List, IfSome, Ok, pos, not};
+ghost use Rattle.std.specs.Prelude.{List, IfSome, Ok, Err, pos, not};
+ghost use Rattle.std.specs.List.{list_all};
+ghost use Rattle.expo_reader.specs.declared.bodies.BodyCause.TheVariants.{Line};
 ghost use Rattle.scrape_core.specs.declared.life_roll.Start.{Start};
 ghost use Rattle.scrape_core.specs.declared.life_roll.Found.TheVariants.{Counts};
 ghost use Rattle.scrape_core.specs.declared.answers.Answer.TheVariants.{NotYet};
@@ -21,7 +23,7 @@ use crate::acts::{
 use crate::answers::Answer;
 use crate::appender_book::Book;
 use crate::life_roll::{Found, Life, Start};
-use crate::outcomes::read_scrape;
+use crate::outcomes::{faulty_scrape, read_scrape};
 use crate::sample_rows::{Scrape, ScrapeFault};
 use crate::scrapes::{Counted, count};
 use crate::target_set::lives_of;
@@ -305,6 +307,51 @@ fn take_read(
     }
 }
 
+/// A finish with a body of status 200 whose first faulty line has this number.
+fn take_faulty(
+    alloc: Global,
+    journal: &mut Journal,
+    book: &mut Book,
+    lives: &mut [Life],
+    started: &mut [Start],
+    ticket: u64,
+    took: i64,
+    bytes: Blob,
+    line: u64,
+) -> Result<Answer, NoMemory>
+    requires limits { IsInLimits (Finish ticket took (Body 200 bytes)) }
+    requires took { IsMoment took }
+    requires faulty { reading bytes ≡ Err (Line line) }
+    ensures answer { IfOk result (λ a. a ≡ spec.answer (spec.world lives.old started.old) (Finish ticket took (Body 200 bytes))) }
+    ensures world { OnOk result (spec.world lives.new started.new ≡ spec.step (spec.world lives.old started.old) (Finish ticket took (Body 200 bytes))) }
+    ensures book { OnOk result (book.new.entries ≡ book.old.entries ++ spec.gives (spec.world lives.old started.old) (Finish ticket took (Body 200 bytes))) }
+    ensures journal { OnOk result (journal.new.events ≡ journal.old.events ++ Finish ticket took (Body 200 bytes) ∷ []) }
+    ensures err_lives { OnErr result (lives.new ≡ lives.old) }
+    ensures err_started { OnErr result (started.new ≡ started.old) }
+    ensures err_book { OnErr result (book.new.entries ≡ book.old.entries) }
+    ensures err { OnErr result (journal.new.events ≡ journal.old.events) }
+{
+    let reply = Reply::Body { status: 200, bytes };
+    match found(lives, started, ticket) {
+        Found::NotStarted => take_missed(
+            journal,
+            started,
+            lives,
+            ticket,
+            took,
+            reply,
+            Answer::NoTicket,
+        ),
+        Found::Cancelled => take_missed(journal, started, lives, ticket, took, reply, Answer::Late),
+        Found::Counts { life, moment } => {
+            let scrape = faulty_of(&lives[life as usize], took, line);
+            take_counted(
+                alloc, journal, book, lives, started, ticket, took, reply, life, moment, scrape,
+            )
+        }
+    }
+}
+
 /// The reply that a body was.
 fn reply_of(body: ReadBody) -> Reply
     ensures { result ≡ Body 200 body.bytes }
@@ -321,6 +368,21 @@ fn scrape_of(alloc: Global, life: &Life, took: i64, rows: &[BodyRow]) -> Result<
     ensures { IfOk result (λ s. s ≡ scrapes.read_scrape life.now.timeout life.now.target (number took) rows.now) }
 {
     read_scrape(alloc, life.timeout, &life.target, moment_number(took), rows)
+}
+
+/// The outcome of a life's scrape whose body has its first faulty line at this number.
+fn faulty_of(life: &Life, took: i64, line: u64) -> Scrape
+    requires { IsMoment took }
+    ensures { result ≡ scrapes.faulty_scrape life.now.timeout (number took) line }
+{
+    faulty_scrape(life.timeout, moment_number(took), line)
+}
+
+/// Whether each row has neither labels nor a timestamp.
+fn are_bare(rows: &[BodyRow]) -> bool
+    ensures { result ≡ list_all built.is_bare rows.now }
+{
+    rows.iter().all(|row| row.labels.as_slice().is_empty() && row.stamp.is_none())
 }
 
 /// A load after a journal: it is taken where it is plain, and the first event.
@@ -408,7 +470,7 @@ fn on_lost(
     take_lost(alloc, journal, book, lives, started, ticket, took)
 }
 
-/// A body after a journal: it is taken where it has status 200, is plain and took at most 10,000 ms.
+/// A body after a journal: it is taken where it has status 200, took at most 10,000 ms, and is faulty or has rows without labels and timestamps alone.
 fn on_body(
     alloc: Global,
     journal: &mut Journal,
@@ -440,9 +502,24 @@ fn on_body(
         return Ok(Answer::NotYet);
     }
     match read_body(alloc, bytes) {
-        Ok(body) => take_read(alloc, journal, book, lives, started, ticket, took, body),
+        Ok(body) => {
+            if !are_bare(body.rows()) {
+                return Ok(Answer::NotYet);
+            }
+            take_read(alloc, journal, book, lives, started, ticket, took, body)
+        }
         Err(unread) => match unread.cause {
-            BodyCause::NotYet => Ok(Answer::NotYet),
+            BodyCause::Line(line) => take_faulty(
+                alloc,
+                journal,
+                book,
+                lives,
+                started,
+                ticket,
+                took,
+                unread.bytes,
+                line,
+            ),
             BodyCause::NoMemory => Err(NoMemory),
         },
     }

@@ -58,6 +58,22 @@ pub fn read_scrape(
     })
 }
 
+/// A scrape whose reply was a body with status 200 whose first faulty line has this number.
+pub fn faulty_scrape(timeout: u64, took: u64, line: u64) -> Scrape
+    ensures { result ≡ spec.faulty_scrape timeout took line }
+{
+    let fault = if timeout < took {
+        ScrapeFault::Slow
+    } else {
+        ScrapeFault::Line(line)
+    };
+    Scrape::Bad {
+        fault,
+        scraped: 0,
+        left: 0,
+    }
+}
+
 /// The samples of a scrape; a bad one has none.
 pub fn samples_in(scrape: &Scrape) -> &[Sample]
     ensures { result.now ≡ spec.samples_of scrape.now }

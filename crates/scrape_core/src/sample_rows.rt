@@ -42,6 +42,8 @@ pub enum ScrapeFault {
     Status(u16),
     /// The body is longer than its limit.
     Size,
+    /// The body is faulty: the number of its first faulty line, counted from 1.
+    Line(u64),
 }
 
 /// The outcome of a scrape.

@@ -1,6 +1,4 @@
-use Rattle.std.proofs.Common.{◌≡◌, ◌≤◌, ◌<◌, ◌+◌, ◌++◌, ℕ, length, take, drop, set, arith, sym, ◌∙◌, ap, get_or, cond, Bool, true, false, w64, to_z, of_z}
-use Rattle.std.specs.List.{filter}
-use Rattle.std.proofs.lemmas.List.Filters.{length-filter_more}
+use Rattle.std.proofs.Common.{◌≡◌, ◌<◌, ◌+◌, ℕ, length, arith, sym, ◌∙◌, ap, cond, Bool, w64, to_z, of_z}
 use Rattle.journal_text.specs.Lines.{number}
 use Rattle.scrape_core.specs.Lives.{starts, scanned}
 use Rattle.scrape_core.specs.Machine.{world}

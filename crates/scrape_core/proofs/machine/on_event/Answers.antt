@@ -1,4 +1,4 @@
-use Rattle.std.proofs.Common.{◌≡◌, sym, ap, ◌∙◌, false}
+use Rattle.std.proofs.Common.{sym, ap, ◌∙◌}
 use Rattle.journal_text.specs.declared.events.Event.{Event}
 use Rattle.scrape_core.specs.Built.{is_built, journal_after}
 use Rattle.scrape_core.specs.Machine.{world_of, book_of}

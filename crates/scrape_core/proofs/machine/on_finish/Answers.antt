@@ -1,4 +1,4 @@
-use Rattle.std.proofs.Common.{◌≡◌, sym, ap, ◌∙◌}
+use Rattle.std.proofs.Common.{sym, ap, ◌∙◌}
 use Rattle.journal_text.specs.declared.events.Event.TheVariants.{Finish}
 use Rattle.scrape_core.specs.Built.{is_built_reply}
 use Rattle.scrape_core.specs.Machine.{world_of, book_of}

@@ -1,7 +1,6 @@
-use Rattle.std.proofs.Common.{◌≡◌, ◌≤◌, ◌++◌, ◌∷◌, [], List, length, sym, ap, ◌∙◌, w64, arith, Bool, true, false}
-use Rattle.std.specs.Prelude.{◌==◌, Err}
+use Rattle.std.proofs.Common.{◌++◌, ◌∷◌, [], sym, ap, ◌∙◌, w64}
+use Rattle.std.specs.Prelude.{Err}
 use Rattle.std.proofs.lemmas.Int.{to_z-of_z}
-use Rattle.std.proofs.lemmas.List.{length-map}
 use Rattle.journal_text.specs.declared.events.Event.TheVariants.{Load}
 use Rattle.scrape_config.specs.Plain.{plain_conf}
 use Rattle.scrape_core.specs.Machine.{world, answer, step, world_of}

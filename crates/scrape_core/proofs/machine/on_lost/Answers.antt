@@ -1,10 +1,10 @@
-use Rattle.std.proofs.Common.{◌≡◌, ◌≤◌, ◌<◌, ◌++◌, ◌∷◌, [], sym, ap, ◌∙◌, w64, arith}
+use Rattle.std.proofs.Common.{◌≤◌, ◌<◌, ◌++◌, ◌∷◌, [], sym, ap, ◌∙◌, w64, arith}
 use Rattle.std.proofs.lemmas.Int.{to_z-of_z}
-use Rattle.outside.specs.declared.replies.Reply.TheVariants.{Body, Lost}
+use Rattle.outside.specs.declared.replies.Reply.TheVariants.{Lost}
 use Rattle.journal_text.specs.declared.events.Event.TheVariants.{Finish}
 use Rattle.journal_text.specs.Lines.{number}
 use Rattle.scrape_core.specs.Machine.{world, answer, step, gives, world_of, book_of}
-use Rattle.scrape_core.proofs.BuiltLemmas.{finish_slow, lost_built, body_built, body_other, status_other, left_answer, left_journal, built_answer, built_world, built_book, built_journal, then_answer, then_is}
+use Rattle.scrape_core.proofs.BuiltLemmas.{finish_slow, lost_built, left_answer, left_journal, built_answer, built_world, built_book, built_journal, then_answer, then_is}
 use Rattle.scrape_core.proofs.machine.on_lost.Goals as goal
 
 pub returns-then-moment_number-gt10000-clause-answer : goal.returns-then-moment_number-gt10000-clause-answer

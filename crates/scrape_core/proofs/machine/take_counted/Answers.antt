@@ -1,4 +1,4 @@
-use Rattle.std.proofs.Common.{◌≡◌, ◌++◌, sym, ◌∙◌, ap, ap₂, get_or, w64, to_z, of_z}
+use Rattle.std.proofs.Common.{◌++◌, sym, ◌∙◌, ap, ap₂, get_or, w64}
 use Rattle.std.proofs.lemmas.Int.{to_z-of_z}
 use Rattle.scrape_core.specs.Lives.{scrape_of_life}
 use Rattle.scrape_core.proofs.FinishLemmas.{counted_world, counted_book}

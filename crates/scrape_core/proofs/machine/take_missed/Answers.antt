@@ -1,4 +1,4 @@
-use Rattle.std.proofs.Common.{◌≡◌, ◌++◌, sym, ◌∙◌, ap}
+use Rattle.std.proofs.Common.{sym, ◌∙◌, ap}
 use Rattle.scrape_core.specs.Machine.{world}
 use Rattle.scrape_core.proofs.FinishLemmas.{missed_step, missed_nothing}
 use Rattle.scrape_core.proofs.machine.take_missed.Goals as goal

@@ -1,4 +1,4 @@
-use Rattle.std.proofs.Common.{◌≡◌, ◌++◌, map, take}
+use Rattle.std.proofs.Common.{◌≡◌, map, take}
 use Rattle.std.specs.List.{flat_map}
 use Rattle.scrape_core.specs.Targets.{born, targets_of_job}
 use Rattle.scrape_core.proofs.target_set.lives_of.Given as goal
