@@ -1,3 +1,4 @@
 pub mod DigitLemmas
+pub mod DurationLemmas
 pub mod NumberLemmas
 pub mod ValueLemmas

@@ -1,11 +1,14 @@
-//! The texts of sample values and the numbers of the text exposition format: which bytes are a value or a timestamp, and how a duration is written.
+//! The texts of sample values and the numbers of the text exposition format: which bytes are a value or a timestamp,
+//! how a duration is written, and which durations a configuration writes.
 //! A value is kept as the bytes that were read, at most 128 of them, since its magnitude is never judged and equal bytes are what makes two values equal.
 //! Contracts see a `ValueText` as the list of its bytes; the grammars stand in `specs/`.
 #![tactic(auto)]
 
+pub mod durations;
 mod grammar;
 pub mod numbers;
 pub mod texts;
 
+pub use durations::{BadDuration, read_duration};
 pub use numbers::{BadNumber, read_millis, write_seconds3};
 pub use texts::{BadValue, ValueError, ValueText};
