@@ -1,0 +1,148 @@
+//! Limits, and what is past them.
+ghost use Rattle.std.specs.Prelude.{◌≡◌, length};
+ghost use Rattle.std.specs.List.{list_any};
+ghost use Rattle.label_set.specs.declared.texts.Pair.{Pair};
+ghost use Rattle.scrape_limits.specs.Limits.{is_past, limit_fault, has_many_samples};
+
+use label_set::{LabelSet, Pair};
+
+/// The limits of a scrape job; 0 is no limit.
+/// (Prometheus documentation, "Configuration", `<scrape_config>`: the setting that each field names.)
+#[derive(Clone, Copy, PartialEq, Eq, Debug)]
+pub struct Limits {
+    /// How many samples a scrape may leave after relabelling (`sample_limit`).
+    pub sample: u64,
+    /// How many labels a sample may have, `__name__` counted (`label_limit`).
+    pub label: u64,
+    /// How many bytes a label name may have, `__name__` looked at as well (`label_name_length_limit`).
+    pub name_length: u64,
+    /// How many bytes a label value may have (`label_value_length_limit`).
+    pub value_length: u64,
+    /// How many bytes an uncompressed body may have (`body_size_limit`).
+    pub body_size: u64,
+    /// How many targets a job may have after relabelling (`target_limit`).
+    pub target: u64,
+}
+
+/// Which limit a label set is past.
+#[derive(Clone, Copy, PartialEq, Eq, Debug)]
+pub enum LimitFault {
+    /// It has too many labels.
+    Labels,
+    /// It has a label name that is too long.
+    NameLength,
+    /// It has a label value that is too long.
+    ValueLength,
+}
+
+/// Which limit a label set is past: the first that holds of too many labels, a label name of too many bytes, and a label value of too many
+/// bytes; `None` exactly where none holds.
+#[tactic(auto, unfolding(crate::specs::Limits::limit_fault))]
+pub fn judge(limits: &Limits, set: &LabelSet) -> Option<LimitFault>
+    ensures { result ≡ limit_fault limits.now set.now }
+{
+    let labels = set.pairs();
+    if exceeds(limits.label, labels.len() as u64) {
+        Some(LimitFault::Labels)
+    } else if has_long_name(limits.name_length, labels) {
+        Some(LimitFault::NameLength)
+    } else if has_long_value(limits.value_length, labels) {
+        Some(LimitFault::ValueLength)
+    } else {
+        None
+    }
+}
+
+/// Whether the samples that relabelling left are more than a scrape may leave.
+pub fn too_many(limits: &Limits, left: u64) -> bool
+    ensures { result ≡ has_many_samples limits.now left }
+{
+    exceeds(limits.sample, left)
+}
+
+/// Whether there is a limit and a count is greater.
+fn exceeds(limit: u64, count: u64) -> bool
+    ensures { result ≡ is_past limit count }
+{
+    limit != 0 && count > limit
+}
+
+fn has_long_name(limit: u64, labels: &[Pair]) -> bool
+    ensures { result ≡ list_any (λ (p : Pair). is_past limit (length p.name)) labels.now }
+{
+    labels
+        .iter()
+        .any(|label| exceeds(limit, label.name.as_str().len() as u64))
+}
+
+fn has_long_value(limit: u64, labels: &[Pair]) -> bool
+    ensures { result ≡ list_any (λ (p : Pair). is_past limit (length p.value)) labels.now }
+{
+    labels
+        .iter()
+        .any(|label| exceeds(limit, label.value.as_str().len() as u64))
+}
+
+#[cfg(test)]
+mod tests {
+    use super::*;
+    use std::test::Fail;
+
+    const NO_LIMITS: Limits = Limits {
+        sample: 0,
+        label: 0,
+        name_length: 0,
+        value_length: 0,
+        body_size: 0,
+        target: 0,
+    };
+
+    #[test]
+    fn sets_are_judged(rt: HostRuntime) -> Result<(), Fail> {
+        let alloc = rt.alloc();
+        let set = LabelSet::empty()
+            .with(alloc, "__name__", "up")?
+            .with(alloc, "job", "batch-é")?;
+        let cases = [
+            ((0, 0, 0), None),
+            ((2, 8, 8), None),
+            ((1, 0, 0), Some(LimitFault::Labels)),
+            ((0, 7, 0), Some(LimitFault::NameLength)),
+            ((0, 0, 7), Some(LimitFault::ValueLength)),
+            ((2, 7, 7), Some(LimitFault::NameLength)),
+            ((1, 1, 1), Some(LimitFault::Labels)),
+            ((3, 9, 7), Some(LimitFault::ValueLength)),
+        ];
+        for ((label, name_length, value_length), fault) in cases {
+            let limits = Limits {
+                label,
+                name_length,
+                value_length,
+                ..NO_LIMITS
+            };
+            assert_eq!(rt; judge(&limits, &set), fault);
+            assert_eq!(rt; judge(&limits, &LabelSet::empty()), None);
+        }
+        Ok(())
+    }
+
+    #[test]
+    fn samples_are_counted(rt: HostRuntime) {
+        let cases = [
+            (0, 0, false),
+            (0, u64::MAX, false),
+            (5, 4, false),
+            (5, 5, false),
+            (5, 6, true),
+            (1, 0, false),
+            (u64::MAX, u64::MAX, false),
+        ];
+        for (sample, left, past) in cases {
+            let limits = Limits {
+                sample,
+                ..NO_LIMITS
+            };
+            assert_eq!(rt; too_many(&limits, left), past);
+        }
+    }
+}
