@@ -1,0 +1,3 @@
+pub mod FreeLemmas
+pub mod OrderLemmas
+pub mod JoinLemmas

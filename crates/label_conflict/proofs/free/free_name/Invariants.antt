@@ -1,0 +1,10 @@
+use Rattle.std.proofs.Common.{◌≡◌}
+use Rattle.label_conflict.specs.Merging as spec
+use Rattle.label_conflict.proofs.FreeLemmas.{reach, free_from}
+use Rattle.label_conflict.proofs.free.free_name.Given as goal
+
+abbrev pub invariant-loop-alloc : goal.invariant-loop-alloc
+invariant-loop-alloc l = spec.free_name l.pairs l.name ≡ free_from l.pairs l.free
+
+abbrev pub decreases-loop-alloc : goal.decreases-loop-alloc
+decreases-loop-alloc l = reach l.pairs l.free
