@@ -1,5 +1,5 @@
 -- Which settings of a rule are refused ("Configuration", relabel_config).
-use Rattle.std.specs.Prelude.{◌≡◌, ℕ, ◌+◌, Bool, true, false, IsTrue, IsSomeAnd, slice_get, List, [], ◌∷◌, length, not, ◌==◌, Option, None, Some, option_map, if◌then◌else◌}
+use Rattle.std.specs.Prelude.{◌≡◌, ℕ, ◌+◌, Bool, false, IsSomeAnd, slice_get, List, [], ◌∷◌, length, not, ◌==◌, Option, None, Some, option_map, if◌then◌else◌}
 use Rattle.std.specs.Option.{option_or}
 use Rattle.std.specs.List.{list_all}
 use Rattle.label_set.specs.Bytes.{is_label_name}
@@ -43,23 +43,13 @@ abbrev pub first_bad_rule : ℕ → List RuleConf → Option (ℕ × RuleField)
 first_bad_rule n [] = None
 first_bad_rule n (r ∷ rs) = option_or (option_map (λ field. (n, field)) (rule_fault r)) (first_bad_rule (n + 1) rs)
 
--- the actions that match a text or the names of labels
-abbrev pub uses_pattern : Action → Bool
-uses_pattern action.Replace = true
-uses_pattern action.Keep = true
-uses_pattern action.Drop = true
-uses_pattern action.LabelMap = true
-uses_pattern action.LabelDrop = true
-uses_pattern action.LabelKeep = true
-uses_pattern _ = false
-
--- a pattern that the action uses is one
+-- the pattern of a rule is one, also where its action doesn't use it
 unfoldable pub HasPattern : RuleConf → Type 0
-HasPattern r = IsTrue (uses_pattern r.action) → IsPattern r.regex
+HasPattern r = IsPattern r.regex
 
--- the action uses a pattern, and it may be refused
+-- it may be refused
 unfoldable pub HasBadPattern : RuleConf → Type 0
-HasBadPattern r = IsTrue (uses_pattern r.action) × MayBeRefused r.regex
+HasBadPattern r = MayBeRefused r.regex
 
 -- what a refusal says: the first bad field of the first bad rule; or a pattern, where no field is refused
 abbrev pub IsFaultOf : List RuleConf → RuleFault → Type 0

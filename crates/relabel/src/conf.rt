@@ -6,6 +6,7 @@ ghost use Rattle.relabel.specs.Refusals.{has_bad_target, rule_fault};
 
 use label_set::{Name, NameList, NoMemory, is_label_name};
 use std::alloc::Global;
+use std::marker::Model;
 
 /// What a rule does.
 #[derive(Clone, Copy, PartialEq, Eq, Debug)]
@@ -50,6 +51,30 @@ pub struct RuleConf {
     /// A template for `Replace` and `LabelMap`.
     pub replacement: Name,
     pub action: Action,
+}
+
+/// Rules in the order in which they run. Contracts see the list of the rules.
+#[derive(Drop, Debug)]
+pub struct RuleList {
+    pub items: Vec<RuleConf>,
+}
+
+impl Model for RuleList {
+    ghost use Rattle.std.specs.Prelude.{List};
+    ghost use Rattle.relabel.specs.declared.conf.RuleConf.{RuleConf};
+
+    ghost Value = { List RuleConf };
+
+    ghost view = { λ l. l.items.items };
+}
+
+impl RuleList {
+    /// The rules.
+    pub fn as_slice(&self) -> &[RuleConf]
+        ensures { result.now ≡ self.now }
+    {
+        self.items.as_slice()
+    }
 }
 
 /// A field of a rule that is refused.

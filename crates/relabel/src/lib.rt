@@ -10,5 +10,5 @@ mod labels;
 mod rule;
 pub mod rules;
 
-pub use conf::{Action, RuleConf, RuleFault, RuleField};
+pub use conf::{Action, RuleConf, RuleFault, RuleField, RuleList};
 pub use rules::Rules;

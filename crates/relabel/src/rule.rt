@@ -4,7 +4,7 @@ ghost use Rattle.std.specs.Str.{bytes_eq};
 ghost use Rattle.std.specs.Char as chars;
 ghost use Rattle.label_set.specs.Sets.{with_label};
 ghost use Rattle.pattern_rule.specs.Patterns.{IsPattern, MayBeRefused, matches, expansion};
-ghost use Rattle.relabel.specs.Refusals.{rule_fault, uses_pattern, HasPattern, HasBadPattern};
+ghost use Rattle.relabel.specs.Refusals.{rule_fault, HasPattern, HasBadPattern};
 ghost use Rattle.relabel.specs.Relabelling.{joined_text, value_or_empty, shard_of, replaced, mapped, after_rule};
 ghost use Rattle.relabel.specs.Built.{IsStepOf};
 ghost use Rattle.relabel.specs.Steps.{template_of, label_of, option_list, kept_where};
@@ -220,6 +220,15 @@ impl Model for Rule {
     ghost invariant = { λ r. IsStepOf r.step r.conf };
 }
 
+/// Reads a pattern that no step uses.
+fn read_pattern(alloc: Global, regex: &str) -> Result<(), PatternError>
+    ensures read { OnOk result (IsPattern regex.now) }
+    ensures refused { IsErrOf result PatternError.BadPattern → MayBeRefused regex.now }
+{
+    Pattern::build(alloc, regex)?;
+    Ok(())
+}
+
 #[tactic(auto, unfolding(crate::specs::Refusals::HasPattern, crate::specs::Refusals::HasBadPattern))]
 fn step_of(alloc: Global, conf: &RuleConf) -> Result<Step, PatternError>
     requires { rule_fault conf.now ≡ None }
@@ -241,9 +250,18 @@ fn step_of(alloc: Global, conf: &RuleConf) -> Result<Step, PatternError>
         }
         Action::Keep => Step::Keeping(Pattern::build(alloc, regex)?),
         Action::Drop => Step::Dropping(Pattern::build(alloc, regex)?),
-        Action::KeepEqual => Step::KeepingEqual,
-        Action::DropEqual => Step::DroppingEqual,
-        Action::HashMod => Step::Hashing,
+        Action::KeepEqual => {
+            read_pattern(alloc, regex)?;
+            Step::KeepingEqual
+        }
+        Action::DropEqual => {
+            read_pattern(alloc, regex)?;
+            Step::DroppingEqual
+        }
+        Action::HashMod => {
+            read_pattern(alloc, regex)?;
+            Step::Hashing
+        }
         Action::LabelMap => {
             let pattern = Pattern::build(alloc, regex)?;
             let name = pattern.filling(alloc, conf.replacement.as_str())?;
@@ -251,8 +269,14 @@ fn step_of(alloc: Global, conf: &RuleConf) -> Result<Step, PatternError>
         }
         Action::LabelDrop => Step::DroppingLabels(Pattern::build(alloc, regex)?),
         Action::LabelKeep => Step::KeepingLabels(Pattern::build(alloc, regex)?),
-        Action::Lowercase => Step::Lowering,
-        Action::Uppercase => Step::Raising,
+        Action::Lowercase => {
+            read_pattern(alloc, regex)?;
+            Step::Lowering
+        }
+        Action::Uppercase => {
+            read_pattern(alloc, regex)?;
+            Step::Raising
+        }
     })
 }
 
