@@ -15,16 +15,16 @@ use Rattle.expo_reader.specs.declared.rows.BodyRow.{BodyRow}
 use Rattle.expo_reader.specs.declared.bodies.BodyCause.{BodyCause}
 use Rattle.expo_reader.specs.Bodies.{reading}
 use Rattle.journal_text.specs.Lines.{number}
-use Rattle.scrape_config.specs.Plain.{plain_conf}
+use Rattle.scrape_core.specs.Plain.{plain_conf}
 use Rattle.outside.specs.declared.replies.Reply.{Reply}
 use Rattle.outside.specs.declared.replies.Reply.TheVariants.{Body, Lost}
 use Rattle.journal_text.specs.declared.events.Event.{Event}
 use Rattle.journal_text.specs.declared.events.Event.TheVariants.{Load, Targets, Tick, Sweep, Finish, Halt}
-use Rattle.scrape_config.specs.declared.conf.Group.{Group}
-use Rattle.scrape_config.specs.declared.conf.JobConf.{JobConf}
-use Rattle.scrape_config.specs.declared.conf.Job.{Job}
-use Rattle.scrape_config.specs.declared.conf.Conf.{Conf}
-use Rattle.scrape_config.specs.Plain.{listed_in, listed}
+use Rattle.scrape_core.specs.declared.plain_conf.Group.{Group}
+use Rattle.scrape_core.specs.declared.plain_conf.JobConf.{JobConf}
+use Rattle.scrape_core.specs.declared.plain_conf.Job.{Job}
+use Rattle.scrape_core.specs.declared.plain_conf.Conf.{Conf}
+use Rattle.scrape_core.specs.Plain.{listed_in, listed}
 use Rattle.scrape_core.specs.declared.answers.Answer.{Answer}
 use Rattle.scrape_core.specs.declared.answers.Answer.TheVariants.{NotYet}
 use Rattle.scrape_core.specs.declared.life_roll.Found.{Found}

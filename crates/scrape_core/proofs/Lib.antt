@@ -1,3 +1,4 @@
+pub mod PlainLemmas
 pub mod StepLemmas
 pub mod FinishLemmas
 pub mod BuiltLemmas

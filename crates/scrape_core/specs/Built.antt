@@ -1,7 +1,7 @@
 -- The kinds of events that are built so far.
 use Rattle.std.specs.Prelude.{Bool, true, false, ◌&&◌, List, [], ◌∷◌, ◌++◌, length, ◌==◌, nat_le, is_none, is_some, Result, Ok, Err, if◌then◌else◌}
 use Rattle.std.specs.List.{list_all}
-use Rattle.scrape_config.specs.Plain.{plain_conf}
+use Rattle.scrape_core.specs.Plain.{plain_conf}
 use Rattle.expo_reader.specs.declared.rows.BodyRow.{BodyRow}
 use Rattle.expo_reader.specs.declared.bodies.BodyCause.{BodyCause}
 use Rattle.expo_reader.specs.Bodies.{reading}

@@ -1,3 +1,4 @@
+pub mod Plain
 pub mod Sets
 pub mod Lives
 pub mod Scrapes

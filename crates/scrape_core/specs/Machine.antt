@@ -1,7 +1,7 @@
 -- The machine: one run forward over a plain state.
 use Rattle.std.specs.Prelude.{◌≡◌, ℕ, ◌+◌, true, false, List, [], ◌∷◌, ◌++◌, length, take, map, slice_get, slice_set, ◌==◌, ◌<◌, ℤ, Option, Some, None, if◌then◌else◌}
 use Rattle.std.specs.List.{filter}
-use Rattle.scrape_config.specs.Plain.{plain_conf}
+use Rattle.scrape_core.specs.Plain.{plain_conf}
 use Rattle.outside.specs.declared.replies.Reply.{Reply}
 use Rattle.journal_text.specs.declared.events.Event.{Event}
 use Rattle.journal_text.specs.declared.events.Event.TheVariants.{Load, Sweep, Finish}

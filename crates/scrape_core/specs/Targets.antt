@@ -3,10 +3,10 @@ use Rattle.std.specs.Prelude.{ℕ, List, [], map, codes, Option, Some, None, min
 use Rattle.std.specs.List.{flat_map}
 use Rattle.label_set.specs.declared.texts.Pair.{Pair}
 use Rattle.label_set.specs.Sets.{with_label}
-use Rattle.scrape_config.specs.declared.conf.Group.{Group}
-use Rattle.scrape_config.specs.declared.conf.JobConf.{JobConf}
-use Rattle.scrape_config.specs.declared.conf.Job.{Job}
-use Rattle.scrape_config.specs.declared.conf.Conf.{Conf}
+use Rattle.scrape_core.specs.declared.plain_conf.Group.{Group}
+use Rattle.scrape_core.specs.declared.plain_conf.JobConf.{JobConf}
+use Rattle.scrape_core.specs.declared.plain_conf.Job.{Job}
+use Rattle.scrape_core.specs.declared.plain_conf.Conf.{Conf}
 use Rattle.journal_text.specs.Lines.{number}
 use Rattle.scrape_core.specs.declared.life_roll.Life.{Life}
 

@@ -9,6 +9,8 @@ pub mod appender_book;
 pub mod life_roll;
 pub mod machine;
 mod outcomes;
+mod plain;
+pub mod plain_conf;
 pub mod report_samples;
 pub mod rising;
 pub mod sample_rows;

@@ -24,6 +24,8 @@ use crate::answers::Answer;
 use crate::appender_book::Book;
 use crate::life_roll::{Found, Life, Start};
 use crate::outcomes::{faulty_scrape, read_scrape};
+use crate::plain::read_plain;
+use crate::plain_conf::PlainError;
 use crate::sample_rows::{Scrape, ScrapeFault};
 use crate::scrapes::{Counted, count};
 use crate::target_set::lives_of;
@@ -31,7 +33,6 @@ use expo_reader::{BodyCause, BodyRow, ReadBody, read_body};
 use journal_text::{Event, Journal};
 use label_set::{Blob, NoMemory, Steps};
 use outside::Reply;
-use scrape_config::{ConfError, read_conf};
 use std::alloc::Global;
 use std::marker::Model;
 use std::sync::ledger::Ledger;
@@ -408,13 +409,13 @@ fn on_load(
     if !journal.is_empty() {
         return Ok(Answer::NotYet);
     }
-    match read_conf(alloc, text.as_slice()) {
+    match read_plain(alloc, text.as_slice()) {
         Ok(conf) => {
             let begun = lives_of(alloc, moment_number(moment), &conf)?;
             take_load(journal, lives, moment, text, begun)
         }
-        Err(ConfError::NotYet) => Ok(Answer::NotYet),
-        Err(ConfError::NoMemory) => Err(NoMemory),
+        Err(PlainError::NotYet) => Ok(Answer::NotYet),
+        Err(PlainError::NoMemory) => Err(NoMemory),
     }
 }
 

@@ -6,9 +6,9 @@ ghost use Rattle.label_set.specs.Sets.{with_label};
 ghost use Rattle.scrape_core.specs.Targets as spec;
 
 use crate::life_roll::{Interval, Life};
+use crate::plain_conf::{Conf, Group, Job, JobConf};
 use crate::rising::RisingSets;
 use label_set::{LabelSet, NoMemory, SetList};
-use scrape_config::{Conf, Group, Job, JobConf};
 use std::alloc::Global;
 
 fn labelled(alloc: Global, set: &LabelSet, name: &str, value: &str) -> Result<LabelSet, NoMemory>

@@ -3,13 +3,13 @@ ghost use Rattle.journal_text.specs.Lines.{IsMoment, IsStatus};
 
 use super::*;
 use crate::life_roll::Interval;
+use crate::plain::read_plain;
 use crate::report_samples::{report_set, reports, with_name};
 use crate::rising::RisingSets;
 use crate::target_set::{lives_of, target_labels};
 use journal_text::Event;
 use label_set::{Blob, LabelSet, NoMemory, Steps};
 use outside::Reply;
-use scrape_config::read_conf;
 use std::alloc::Global;
 use std::marker::Brand;
 use std::process::Abort;
@@ -284,7 +284,7 @@ fn a_life_begins_for_a_target(rt: HostRuntime) -> Result<(), Fail> {
     for (ms, want) in [(0, 1), (15_000, 15_000), (u64::MAX, 1_099_511_627_776)] {
         assert_eq!(rt; Interval::new(ms).ms(), want);
     }
-    let Ok(conf) = read_conf(alloc, CONF) else {
+    let Ok(conf) = read_plain(alloc, CONF) else {
         panic!(rt; "not read");
     };
     let lives = lives_of(alloc, 7, &conf)?;

@@ -2,7 +2,7 @@ use Rattle.std.proofs.Common.{◌++◌, ◌∷◌, [], sym, ap, ◌∙◌, w64}
 use Rattle.std.specs.Prelude.{Err}
 use Rattle.std.proofs.lemmas.Int.{to_z-of_z}
 use Rattle.journal_text.specs.declared.events.Event.TheVariants.{Load}
-use Rattle.scrape_config.specs.Plain.{plain_conf}
+use Rattle.scrape_core.specs.Plain.{plain_conf}
 use Rattle.scrape_core.specs.Machine.{world, answer, step, world_of}
 use Rattle.scrape_core.proofs.BuiltLemmas.{load_built, load_other, load_late, left_answer, left_journal, built_answer, built_world, built_journal, then_answer, then_is, few_lives, no_events}
 use Rattle.scrape_core.proofs.machine.on_load.Goals as goal
