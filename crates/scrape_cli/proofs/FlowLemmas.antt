@@ -109,3 +109,19 @@ said_part p q t v f g a r = record {
   front = (a.0, a.1 ++ q, ap (λ z. z ++ q) a.2 ∙ append_assoc a.0 a.1 q, a.3);
   whole = λ n. absurd (n r);
 }
+
+-- a text that was put, and one tried behind it
+pub said_then : (p q : List ℕ) (t u v : Option (List ℕ)) (f g h : ℕ) → Adds p t u → g ≡ f → IsSaid q u v g h → IsSaid (p ++ q) t v f h
+said_then p q t u v f g h a e s =
+    let Calm : ℕ → Type 0 = λ z. ¬ Rose z h in
+    record {
+      front = (p ++ s.front.0, s.front.1, ap (λ z. p ++ z) s.front.2 ∙ sym (append_assoc p s.front.0 s.front.1), adds_more p s.front.0 t u v a s.front.3);
+      whole = λ n. adds_more p q t u v a (s.whole (subst Calm (sym e) n));
+    }
+
+-- two texts within a message, under other names
+pub said_named : (head word place rest : List ℕ) (w p : List ℕ) (t v : Option (List ℕ)) (f g : ℕ) → w ≡ word → p ≡ place →
+    IsSaid (head ++ (w ++ (p ++ rest))) t v f g → IsSaid (head ++ (word ++ (place ++ rest))) t v f g
+said_named head word place rest w p t v f g a b s =
+    let P : List ℕ → Type 0 = λ z. IsSaid (head ++ z) t v f g in
+    subst P (ap (λ z. z ++ (p ++ rest)) a ∙ ap (λ z. word ++ (z ++ rest)) b) s

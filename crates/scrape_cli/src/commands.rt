@@ -5,26 +5,40 @@ ghost use Rattle.journal_text.specs.declared.events.Event.{Event};
 ghost use Rattle.scrape_core.specs.Machine.{book_of};
 ghost use Rattle.scrape_cli.specs.Scripts.{SpellsBuilt, SpellsNoBuilt};
 ghost use Rattle.scrape_cli.specs.Statuses as spec;
+ghost use Rattle.scrape_cli.specs.Words as words;
 ghost use Rattle.scrape_cli.specs.Texts.{book_text};
 
 use crate::printing::{PrintError, print_book};
 use crate::refusals::Refusal;
 use crate::replays::{ReplayError, replayed};
+use crate::words::Command;
 use label_set::Blob;
 use outside::{Shelf, ShelfError, Sink};
 use scrape_core::Core;
 use std::alloc::Global;
 
-/// A script is at most 256 MiB long.
-const SCRIPT_LIMIT: usize = 268_435_456;
-
-/// Reads the file of a script.
-pub fn read_script<S: Shelf>(alloc: Global, script: &str, shelf: &mut S) -> Result<Blob, Refusal>
-    ensures file { IfOk result (λ bytes. HasFile (S.told shelf.old) script.now bytes) }
-    ensures bound { IfOk result (λ bytes. length bytes ≤ spec.script_limit) }
-    ensures cause { IfErr result (λ r. spec.IsReadCause r script.now (S.told shelf.old) (S.misses shelf.old) (S.misses shelf.new) (S.overs shelf.old) (S.overs shelf.new) (S.faults shelf.old) (S.faults shelf.new)) }
+/// How many bytes the file of a command may have: 256 MiB for a script, and 4 MiB for a configuration.
+fn limit_of(command: Command) -> usize
+    ensures { result ≡ words.limit_of command }
 {
-    match shelf.read_file(alloc, script, SCRIPT_LIMIT) {
+    match command {
+        Command::Replay => 268_435_456,
+        Command::Check => 4_194_304,
+    }
+}
+
+/// Reads the file of a command.
+pub fn read_file<S: Shelf>(
+    alloc: Global,
+    command: Command,
+    file: &str,
+    shelf: &mut S,
+) -> Result<Blob, Refusal>
+    ensures file { IfOk result (λ bytes. HasFile (S.told shelf.old) file.now bytes) }
+    ensures bound { IfOk result (λ bytes. length bytes ≤ words.limit_of command) }
+    ensures cause { IfErr result (λ r. spec.IsReadCause r file.now (words.limit_of command) (S.told shelf.old) (S.misses shelf.old) (S.misses shelf.new) (S.overs shelf.old) (S.overs shelf.new) (S.faults shelf.old) (S.faults shelf.new)) }
+{
+    match shelf.read_file(alloc, file, limit_of(command)) {
         Ok(bytes) => Ok(bytes),
         Err(ShelfError::Absent) => Err(Refusal::Absent),
         Err(ShelfError::TooLong) => Err(Refusal::TooLong),

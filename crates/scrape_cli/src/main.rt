@@ -1,8 +1,11 @@
-//! The program `scrape`: it replays a recorded journal of a scrape manager and prints the book of it, samples, stale markers and reports.
+//! The program `scrape`: it replays a recorded journal of a scrape manager and prints the book of it, samples, stale markers and reports;
+//! or it checks a configuration and prints how many jobs it has.
 //! The library is `tool`, generic over what has files and takes bytes; `main` hands it the real files and the standard streams.
-//! `specs/Statuses.antt` says what each exit status means, and `specs/Texts.antt` what is printed.
+//! `specs/Statuses.antt` says what each exit status means, `specs/Words.antt` which words are taken,
+//! `specs/Checks.antt` what is said of a configuration, and `specs/Texts.antt` how a book is printed.
 #![tactic(auto)]
 
+mod checks;
 mod commands;
 mod messages;
 mod printing;

@@ -1,12 +1,15 @@
 //! Why the program didn't do what it was asked for.
+use scrape_config::ConfFault;
 
 /// Why a command ended without its whole output.
-#[derive(Clone, Copy, PartialEq, Eq, Debug)]
+#[derive(Drop, Debug)]
 pub enum Refusal {
     /// The words are none of the program's.
     BadWords,
     /// There is no file of the name.
     Absent,
+    /// The configuration has this fault.
+    Config(ConfFault),
     /// Reading the file failed.
     ReadFault,
     /// Writing the output failed.

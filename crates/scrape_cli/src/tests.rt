@@ -1,3 +1,6 @@
+mod checks;
+mod fields;
+
 use crate::tool::tool;
 use label_set::{Blob, Name, NoMemory};
 use outside::{
@@ -155,7 +158,7 @@ fn other_words_are_bad(rt: HostRuntime) -> Result<(), Fail> {
         &[],
         &["replay"],
         &["check"],
-        &["check", "s"],
+        &["check", "s", "t"],
         &["replay", "s", "t"],
         &["synth", "1", "0", "1"],
     ];
@@ -219,6 +222,26 @@ impl Shelf for LongShelf {
     }
 }
 
+/// A shelf that finds no memory for any file.
+#[derive(Drop)]
+struct FullShelf;
+
+impl Shelf for FullShelf {
+    ghost use Rattle.std.specs.Prelude.{None};
+
+    ghost told = { λ s. None };
+
+    ghost misses = { λ s. 0 };
+
+    ghost overs = { λ s. 0 };
+
+    ghost faults = { λ s. 0 };
+
+    fn read_file(&mut self, _: Global, _: &str, _: usize) -> Result<Blob, ShelfError> {
+        Err(ShelfError::NoMemory)
+    }
+}
+
 #[test]
 fn scripts_that_are_not_read(rt: HostRuntime) -> Result<(), Fail> {
     let alloc = rt.alloc();
@@ -230,6 +253,8 @@ fn scripts_that_are_not_read(rt: HostRuntime) -> Result<(), Fail> {
     let mut long = LongShelf { overs: 0 };
     let ran = run_over(alloc, &["replay", "s"], &mut long, ROOM, &[])?;
     assert_refuses(&rt, &ran, 9, b"scrape: too long s\n");
+    let ran = run_over(alloc, &["replay", "s"], &mut FullShelf, ROOM, &[])?;
+    assert_refuses(&rt, &ran, 8, b"scrape: no memory\n");
     Ok(())
 }
 
@@ -248,6 +273,45 @@ fn output_that_is_not_taken(rt: HostRuntime) -> Result<(), Fail> {
         assert!(rt; ONE_LOAD_BOOK.starts_with(ran.out.bytes()));
         assert!(rt; ran.err.bytes() == b"scrape: write fault\n".as_slice());
     }
+    Ok(())
+}
+
+/// A script whose only body has so many lines `x 1`.
+fn long_script(alloc: Global, lines: usize, length: &[u8]) -> Result<Vec<u8>, Fail> {
+    let mut script = joined(
+        alloc,
+        &[
+            b"scrape-journal 1\nload 0 76\n{\"scrape_configs\":[{\"job_name\":\"j\",\"static_configs\":[{\"targets\":[\"a:1\"]}]}]}\nsweep 0\nbody 15 0 200 ",
+            length,
+            b"\n",
+        ],
+    )?;
+    for _ in 0..lines {
+        script.extend_from_slice(b"x 1\n")?;
+    }
+    script.push(b'\n')?;
+    Ok(script)
+}
+
+#[test]
+fn each_put_of_a_long_output_may_fail(rt: HostRuntime) -> Result<(), Fail> {
+    let alloc = rt.alloc();
+    let script = long_script(alloc, 4000, b"16000")?;
+    let mut shelf = SureShelf::new(files(alloc, script.as_slice())?)?;
+    let room = 1 << 20;
+    let whole = run_over(alloc, &["replay", "s"], &mut shelf, room, &[])?;
+    assert_eq!(rt; whole.status, 0);
+    let mut put = 0;
+    for call in 0..3 {
+        let ran = run_over(alloc, &["replay", "s"], &mut shelf, room, &[call])?;
+        assert_eq!(rt; ran.status, 7);
+        assert!(rt; whole.out.bytes().starts_with(ran.out.bytes()));
+        assert!(rt; ran.err.bytes() == b"scrape: write fault\n".as_slice());
+        assert!(rt; call == 0 || put < ran.out.bytes().len());
+        put = ran.out.bytes().len();
+    }
+    let ran = run_over(alloc, &["replay", "s"], &mut shelf, room, &[3])?;
+    assert_prints(&rt, &ran, whole.out.bytes());
     Ok(())
 }
 

@@ -1,1 +1,8 @@
-pub mod PlainLemmas
+pub mod FaultLemmas
+pub mod CleanLemmas
+pub mod DefaultLemmas
+pub mod ValueLemmas
+pub mod ListLemmas
+pub mod RuleLemmas
+pub mod JobLemmas
+pub mod ReadLemmas

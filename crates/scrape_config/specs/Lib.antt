@@ -1,1 +1,10 @@
-pub mod Plain
+pub mod Places
+pub mod Faults
+pub mod Forms
+pub mod Tables
+pub mod Walks
+pub mod Defaults
+pub mod Lists
+pub mod Values
+pub mod Reading
+pub mod Settings

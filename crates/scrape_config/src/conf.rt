@@ -1,15 +1,61 @@
 //! What a configuration is.
-use label_set::{Name, NameList, NoMemory};
+ghost use Rattle.std.specs.Prelude.{◌≡◌};
+
+use label_set::{Name, NameList, PairList};
+use relabel::{RuleList, Rules};
+use scrape_limits::Limits;
 use std::marker::Model;
 
-/// Targets that stand together in a job (`static_configs`).
-#[derive(Drop, Debug)]
-pub struct Group {
-    /// The addresses as written, each a host, a colon and a port.
-    pub targets: NameList,
+/// How targets are reached.
+#[derive(Clone, Copy, PartialEq, Eq, Debug)]
+pub enum Scheme {
+    Http,
+    Https,
 }
 
-/// Groups in the order in which they are written.
+/// A parameter of the URL and its values (`params`).
+#[derive(Drop, Debug)]
+pub struct Param {
+    pub name: Name,
+    pub values: NameList,
+}
+
+/// Parameters by rising name. Contracts see the list of the parameters.
+#[derive(Drop, Debug)]
+pub struct ParamList {
+    pub items: Vec<Param>,
+}
+
+impl Model for ParamList {
+    ghost use Rattle.std.specs.Prelude.{List};
+    ghost use Rattle.scrape_config.specs.declared.conf.Param.{Param};
+
+    ghost Value = { List Param };
+
+    ghost view = { λ l. l.items.items };
+}
+
+impl ParamList {
+    /// The parameters.
+    pub fn as_slice(&self) -> &[Param]
+        ensures { result.now ≡ self.now }
+    {
+        self.items.as_slice()
+    }
+}
+
+/// Targets that stand together, with the labels that they share (`static_configs`, or the list of a file).
+#[derive(Drop, Debug)]
+pub struct Group {
+    /// Labels of each target, by rising name; a value may be empty.
+    pub labels: PairList,
+    /// The targets as written, mostly a host, a colon and a port.
+    pub targets: NameList,
+    /// The name of the file that lists the group, for a group of a file.
+    pub file: Option<Name>,
+}
+
+/// Groups in the order in which they are written. Contracts see the list of the groups.
 #[derive(Drop, Debug)]
 pub struct GroupList {
     pub items: Vec<Group>,
@@ -24,6 +70,15 @@ impl Model for GroupList {
     ghost view = { λ l. l.items.items };
 }
 
+impl GroupList {
+    /// The groups.
+    pub fn as_slice(&self) -> &[Group]
+        ensures { result.now ≡ self.now }
+    {
+        self.items.as_slice()
+    }
+}
+
 /// The settings of a job (`scrape_configs`), after defaults.
 #[derive(Drop, Debug)]
 pub struct JobConf {
@@ -32,17 +87,33 @@ pub struct JobConf {
     pub scrape_interval: i64,
     /// How long a scrape may take, in milliseconds.
     pub scrape_timeout: i64,
+    pub metrics_path: Name,
+    pub scheme: Scheme,
+    /// Whether an exposed label stands before the target's label of the same name.
+    pub honor_labels: bool,
+    /// Whether an exposed timestamp stands before the moment of the scrape.
+    pub honor_timestamps: bool,
+    pub params: ParamList,
+    /// The rules for targets (`relabel_configs`).
+    pub relabel: RuleList,
+    /// The rules for samples (`metric_relabel_configs`).
+    pub metric_relabel: RuleList,
+    pub limits: Limits,
     pub groups: GroupList,
+    /// The different files that list groups, at their first places (`file_sd_configs`).
+    pub files: NameList,
 }
 
-/// A job with what is built from its settings.
-#[derive(Drop, Debug)]
+/// A job with the rules that are built from its settings.
+#[derive(Drop)]
 pub struct Job {
     pub conf: JobConf,
+    pub target_rules: Rules,
+    pub metric_rules: Rules,
 }
 
-/// Jobs in the order in which they are written.
-#[derive(Drop, Debug)]
+/// Jobs in the order in which they are written. Contracts see the list of the jobs.
+#[derive(Drop)]
 pub struct JobList {
     pub items: Vec<Job>,
 }
@@ -56,28 +127,17 @@ impl Model for JobList {
     ghost view = { λ l. l.items.items };
 }
 
+impl JobList {
+    /// The jobs.
+    pub fn as_slice(&self) -> &[Job]
+        ensures { result.now ≡ self.now }
+    {
+        self.items.as_slice()
+    }
+}
+
 /// A configuration.
-#[derive(Drop, Debug)]
+#[derive(Drop)]
 pub struct Conf {
     pub jobs: JobList,
-}
-
-/// Why no configuration was read.
-#[derive(Clone, Copy, PartialEq, Eq, Debug)]
-pub enum ConfError {
-    /// The text is not that of a plain configuration, and others are not read yet.
-    NotYet,
-    /// An allocation failed.
-    NoMemory,
-}
-
-impl From<NoMemory> for ConfError {
-    ghost use Rattle.std.specs.Prelude.{◌≡◌};
-    ghost use Rattle.scrape_config.specs.declared.conf.ConfError.TheVariants as variants;
-
-    ghost from_gives = { λ _ error. error ≡ variants.NoMemory };
-
-    fn from(_: NoMemory) -> ConfError {
-        ConfError::NoMemory
-    }
 }

@@ -1,0 +1,89 @@
+-- What is said of a configuration.
+use Rattle.std.specs.Prelude.{◌≡◌, ◌⊎◌, ℕ, ◌<◌, ◌≤◌, List, [], ◌++◌, codes, length, All, Ok, IsOkAnd}
+use Rattle.std.specs.List.{sum_by}
+use Rattle.std.specs.Fmt.{decimal}
+use Rattle.scrape_config.specs.Reading.{reading, HasPatterns, IsRefusal}
+use Rattle.scrape_config.specs.declared.conf.Conf.{Conf}
+use Rattle.scrape_config.specs.declared.conf.Group.{Group}
+use Rattle.scrape_config.specs.declared.conf.Job.{Job}
+use Rattle.scrape_config.specs.declared.fault.ConfFault.{ConfFault}
+use Rattle.scrape_config.specs.declared.fault.ConfFault.TheVariants.{NotJson, Shape, Unknown, Missing, Value, TwiceNamed, TooMany, Rule}
+
+-- how many targets a group lists
+abbrev pub group_targets : Group → ℕ
+group_targets group = length group.targets
+
+-- how many targets groups list
+abbrev pub groups_targets : List Group → ℕ
+groups_targets groups = sum_by group_targets groups
+
+-- how many targets the groups of a job list
+abbrev pub job_targets : Job → ℕ
+job_targets job = groups_targets job.conf.groups
+
+-- how many targets jobs list
+abbrev pub listed_targets : List Job → ℕ
+listed_targets jobs = sum_by job_targets jobs
+
+-- all jobs together list at most 100,000 targets
+abbrev pub target_limit : ℕ
+target_limit = 100000
+
+-- the bytes are read as this configuration, which has no fault
+pub record IsTaken (bytes : List ℕ) (conf : Conf) : Type 0 where
+  pub read : reading bytes ≡ Ok conf
+  pub patterns : All HasPatterns conf.jobs
+  pub few : listed_targets conf.jobs ≤ target_limit
+
+-- the fault of too many listed targets, which has an empty place
+abbrev pub crowd : ConfFault
+crowd = TooMany [] target_limit
+
+-- the fault is that of too many listed targets, in a configuration whose reading has no fault
+abbrev pub IsCrowd : List ℕ → ConfFault → Type 0
+IsCrowd bytes fault = (fault ≡ crowd) × IsOkAnd (reading bytes) (λ conf. target_limit < listed_targets conf.jobs)
+
+-- the bytes are refused for this fault
+abbrev pub IsFault : List ℕ → ConfFault → Type 0
+IsFault bytes fault = IsRefusal (reading bytes) fault ⊎ IsCrowd bytes fault
+
+-- the line for a configuration without a fault: how many jobs it has
+abbrev pub ok_line : ℕ → List ℕ
+ok_line jobs = codes "ok " ++ (decimal jobs ++ codes "\n")
+
+-- the word of a fault
+abbrev pub fault_word : ConfFault → List ℕ
+fault_word NotJson = codes "NotJson"
+fault_word (Shape place) = codes "Shape "
+fault_word (Unknown place) = codes "Unknown "
+fault_word (Missing place) = codes "Missing "
+fault_word (Value place) = codes "Value "
+fault_word (TwiceNamed job) = codes "TwiceNamed "
+fault_word (TooMany place limit) = codes "TooMany "
+fault_word (Rule place) = codes "Rule "
+
+-- the place of a fault, or the name of the job
+abbrev pub fault_place : ConfFault → List ℕ
+fault_place NotJson = []
+fault_place (Shape place) = place
+fault_place (Unknown place) = place
+fault_place (Missing place) = place
+fault_place (Value place) = place
+fault_place (TwiceNamed job) = job
+fault_place (TooMany place limit) = place
+fault_place (Rule place) = place
+
+-- the limit of a fault, behind a blank
+abbrev pub fault_limit : ConfFault → List ℕ
+fault_limit NotJson = []
+fault_limit (Shape place) = []
+fault_limit (Unknown place) = []
+fault_limit (Missing place) = []
+fault_limit (Value place) = []
+fault_limit (TwiceNamed job) = []
+fault_limit (TooMany place limit) = codes " " ++ decimal limit
+fault_limit (Rule place) = []
+
+-- the message of a fault: `NotJson`, `TooMany <place> <limit>`, or another word with its place or name
+abbrev pub fault_message : ConfFault → List ℕ
+fault_message fault = codes "scrape: config " ++ (fault_word fault ++ (fault_place fault ++ (fault_limit fault ++ codes "\n")))

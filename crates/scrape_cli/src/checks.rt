@@ -1,0 +1,94 @@
+//! Checking a configuration.
+ghost use Rattle.std.specs.Prelude.{◌≡◌, ◌^◌, ◌-◌, min, length, IfOk, IfErr, OnOk};
+ghost use Rattle.outside.specs.Objects.{Adds};
+ghost use Rattle.scrape_cli.specs.Checks as spec;
+ghost use Rattle.scrape_cli.specs.Statuses.{IsConfCause, IsPrintCause};
+
+use crate::refusals::Refusal;
+use itoa::Buffer;
+use label_set::{Name, NoMemory};
+use outside::Sink;
+use scrape_config::{Conf, ConfError, ConfFault, Group, Job, read_conf};
+use std::alloc::Global;
+
+/// All jobs together list at most so many targets.
+const TARGET_LIMIT: u64 = 100_000;
+
+/// How many targets groups list; the count stands still at the last value of its type.
+fn group_targets(groups: &[Group]) -> u64
+    ensures { result ≡ min (spec.groups_targets groups.now) (2 ^ 64 - 1) }
+{
+    let mut total: u64 = 0;
+    for group in groups {
+        total = total.saturating_add(group.targets.as_slice().len() as u64);
+    }
+    total
+}
+
+/// The same for jobs.
+fn listed_targets(jobs: &[Job]) -> u64
+    ensures { result ≡ min (spec.listed_targets jobs.now) (2 ^ 64 - 1) }
+{
+    let mut total: u64 = 0;
+    for job in jobs {
+        total = total.saturating_add(group_targets(job.conf.groups.as_slice()));
+    }
+    total
+}
+
+/// The fault of too many listed targets.
+fn crowd(alloc: Global) -> ConfFault
+    ensures { result ≡ spec.crowd }
+{
+    ConfFault::TooMany {
+        place: Name {
+            text: String::new(alloc),
+        },
+        limit: TARGET_LIMIT,
+    }
+}
+
+/// Reads a configuration, which is to have no fault.
+pub fn conf_of(alloc: Global, bytes: &[u8]) -> Result<Conf, Refusal>
+    ensures taken { IfOk result (λ conf. spec.IsTaken bytes.now conf) }
+    ensures cause { IfErr result (λ r. IsConfCause r bytes.now) }
+{
+    match read_conf(alloc, bytes) {
+        Ok(conf) => {
+            if listed_targets(conf.jobs.as_slice()) > TARGET_LIMIT {
+                Err(Refusal::Config(crowd(alloc)))
+            } else {
+                Ok(conf)
+            }
+        }
+        Err(ConfError::Bad(fault)) => Err(Refusal::Config(fault)),
+        Err(ConfError::NoMemory) => Err(Refusal::NoMemory),
+    }
+}
+
+/// The line for a configuration of so many jobs.
+fn ok_line(alloc: Global, jobs: usize) -> Result<Vec<u8>, NoMemory>
+    ensures { IfOk result (λ line. line.items ≡ spec.ok_line jobs) }
+{
+    let mut buffer = Buffer::new();
+    let mut line = Vec::new(alloc);
+    line.extend_from_slice(b"ok ")?;
+    line.extend_from_slice(buffer.format(jobs).as_bytes())?;
+    line.extend_from_slice(b"\n")?;
+    Ok(line)
+}
+
+/// Prints the line for a configuration.
+pub fn print_ok<O: Sink>(alloc: Global, conf: &Conf, out: &mut O) -> Result<(), Refusal>
+    ensures whole { OnOk result (Adds (spec.ok_line (length conf.now.jobs)) (O.told out.old) (O.told out.new)) }
+    ensures cause { IfErr result (λ r. IsPrintCause r (spec.ok_line (length conf.now.jobs)) (O.told out.old) (O.told out.new) (O.faults out.old) (O.faults out.new)) }
+{
+    let line = match ok_line(alloc, conf.jobs.as_slice().len()) {
+        Ok(line) => line,
+        Err(_) => return Err(Refusal::NoMemory),
+    };
+    match out.put(line.as_slice()) {
+        Ok(()) => Ok(()),
+        Err(_) => Err(Refusal::WriteFault),
+    }
+}

@@ -1,0 +1,7 @@
+use Rattle.std.proofs.Common.{◌≡◌, ◌++◌}
+use Rattle.serde_json.specs.View.{members_view}
+use Rattle.scrape_config.specs.Values.{params_of}
+use Rattle.scrape_config.proofs.values.params_of.Given as goal
+
+abbrev pub invariant-loop-name : goal.invariant-loop-name
+invariant-loop-name l = l.items.items ++ params_of (members_view l.name-iterator) ≡ params_of (members_view l.object.entries)

@@ -1,0 +1,266 @@
+use super::*;
+use crate::defaults::base_of;
+use scrape_limits::Limits;
+use std::alloc::AllocError;
+use std::test::Fail;
+
+/// The job of two texts, a configuration with `global` and a job.
+fn job_under(alloc: Global, conf: &str, job: &str) -> Result<JobConf, Fail> {
+    let base = base_of(&Value::from_str(alloc, conf)?);
+    Ok(job_of(alloc, base, &Value::from_str(alloc, job)?)?)
+}
+
+/// The name, interval, timeout, path, scheme and flags of a job.
+fn plain_text(alloc: Global, job: &JobConf) -> Result<String, AllocError> {
+    let name = job.job_name.as_str();
+    let path = job.metrics_path.as_str();
+    format!(in alloc;
+        "{name} {} {} {path} {:?} {} {}",
+        job.scrape_interval, job.scrape_timeout, job.scheme, job.honor_labels, job.honor_timestamps
+    )
+}
+
+fn limits_text(alloc: Global, limits: Limits) -> Result<String, AllocError> {
+    format!(in alloc;
+        "{} {} {} {} {} {}",
+        limits.sample,
+        limits.label,
+        limits.name_length,
+        limits.value_length,
+        limits.body_size,
+        limits.target
+    )
+}
+
+/// Texts with a space behind each.
+fn names_text(alloc: Global, names: &[Name]) -> Result<String, AllocError> {
+    let mut text = String::new(alloc);
+    for name in names {
+        text.push_str(name.as_str())?;
+        text.push(' ')?;
+    }
+    Ok(text)
+}
+
+/// Labels with a space behind each.
+fn pairs_text(alloc: Global, pairs: &[Pair]) -> Result<String, AllocError> {
+    let mut text = String::new(alloc);
+    for pair in pairs {
+        text.push_str(pair.name.as_str())?;
+        text.push('=')?;
+        text.push_str(pair.value.as_str())?;
+        text.push(' ')?;
+    }
+    Ok(text)
+}
+
+fn rule_text(alloc: Global, rule: &RuleConf) -> Result<String, AllocError> {
+    let sources = names_text(alloc, rule.sources.as_slice())?;
+    let separator = rule.separator.as_str();
+    let regex = rule.regex.as_str();
+    let target = rule.target.as_str();
+    let replacement = rule.replacement.as_str();
+    format!(in alloc;
+        "{sources}{separator} {regex} {} {target} {replacement} {:?}/",
+        rule.modulus, rule.action
+    )
+}
+
+fn rules_text(alloc: Global, rules: &[RuleConf]) -> Result<String, AllocError> {
+    let mut text = String::new(alloc);
+    for rule in rules {
+        text.push_str(rule_text(alloc, rule)?.as_str())?;
+    }
+    Ok(text)
+}
+
+fn params_text(alloc: Global, params: &[Param]) -> Result<String, AllocError> {
+    let mut text = String::new(alloc);
+    for param in params {
+        text.push_str(param.name.as_str())?;
+        text.push(' ')?;
+        text.push_str(names_text(alloc, param.values.as_slice())?.as_str())?;
+        text.push('/')?;
+    }
+    Ok(text)
+}
+
+fn groups_text(alloc: Global, groups: &[Group]) -> Result<String, AllocError> {
+    let mut text = String::new(alloc);
+    for group in groups {
+        text.push_str(names_text(alloc, group.targets.as_slice())?.as_str())?;
+        text.push_str(pairs_text(alloc, group.labels.as_slice())?.as_str())?;
+        if let Some(file) = &group.file {
+            text.push_str(file.as_str())?;
+        }
+        text.push('/')?;
+    }
+    Ok(text)
+}
+
+#[test]
+fn plain_fields_have_what_is_said_or_defaults(rt: HostRuntime) -> Result<(), Fail> {
+    let rows = [
+        (
+            r#"{"job_name":"web","scrape_interval":"1h30m","scrape_timeout":"5s","metrics_path":"/m","scheme":"https","honor_labels":true,"honor_timestamps":false}"#,
+            "web 5400000 5000 /m Https true false",
+        ),
+        (
+            r#"{"job_name":"web"}"#,
+            "web 60000 10000 /metrics Http false true",
+        ),
+    ];
+    for (text, want) in rows {
+        let job = job_under(rt.alloc(), "{}", text)?;
+        assert_eq!(rt; plain_text(rt.alloc(), &job)?.as_str(), want);
+    }
+    Ok(())
+}
+
+#[test]
+fn durations_stand_in_the_order_job_global_default(rt: HostRuntime) -> Result<(), Fail> {
+    let rows: [(&str, &str, (i64, i64)); 8] = [
+        (
+            r#"{"global":{"scrape_interval":"15s"}}"#,
+            "{}",
+            (15_000, 10_000),
+        ),
+        (
+            r#"{"global":{"scrape_interval":"5s"}}"#,
+            "{}",
+            (5_000, 5_000),
+        ),
+        (
+            r#"{"global":{"scrape_timeout":"20s"}}"#,
+            "{}",
+            (60_000, 20_000),
+        ),
+        (
+            r#"{"global":{"scrape_interval":"15s","scrape_timeout":"15s"}}"#,
+            r#"{"scrape_interval":"7s"}"#,
+            (7_000, 7_000),
+        ),
+        (
+            r#"{"global":{"scrape_interval":"5s"}}"#,
+            r#"{"scrape_interval":"1m"}"#,
+            (60_000, 5_000),
+        ),
+        (
+            "{}",
+            r#"{"scrape_interval":"0s","scrape_timeout":"0"}"#,
+            (60_000, 10_000),
+        ),
+        (
+            "{}",
+            r#"{"scrape_interval":"3s","scrape_timeout":"2s"}"#,
+            (3_000, 2_000),
+        ),
+        (
+            r#"{"global":{"scrape_interval":"0"}}"#,
+            "{}",
+            (60_000, 10_000),
+        ),
+    ];
+    for (conf, text, want) in rows {
+        let job = job_under(rt.alloc(), conf, text)?;
+        assert!(rt;
+            (job.scrape_interval, job.scrape_timeout) == want,
+            "{conf} {text}"
+        );
+    }
+    Ok(())
+}
+
+#[test]
+fn limits_come_from_global_where_a_job_says_none_or_0(rt: HostRuntime) -> Result<(), Fail> {
+    let rows = [
+        (
+            r#"{"global":{"sample_limit":1,"label_limit":2,"label_name_length_limit":3}}"#,
+            r#"{"label_limit":20,"label_name_length_limit":0,"label_value_length_limit":40,"body_size_limit":50,"target_limit":60}"#,
+            "1 20 3 40 50 60",
+        ),
+        ("{}", "{}", "0 0 0 0 0 0"),
+    ];
+    for (conf, text, want) in rows {
+        let limits = job_under(rt.alloc(), conf, text)?.limits;
+        assert_eq!(rt; limits_text(rt.alloc(), limits)?.as_str(), want);
+    }
+    Ok(())
+}
+
+#[test]
+fn rules_have_what_is_said_or_defaults(rt: HostRuntime) -> Result<(), Fail> {
+    let text =
+        r#"[{},{"source_labels":["a","b"],"separator":"-","regex":"x.*","modulus":8,"target_label":"t","replacement":"y","action":"HashMod"}]"#;
+    let value = Value::from_str(rt.alloc(), text)?;
+    let rules = match value.as_array() {
+        Some(values) => rules_of(rt.alloc(), values.as_slice())?,
+        None => return Err(Fail::from("no list")),
+    };
+    let want = "; (.*) 0  $1 Replace/a b - x.* 8 t y HashMod/";
+    assert_eq!(rt; rules_text(rt.alloc(), rules.as_slice())?.as_str(), want);
+    Ok(())
+}
+
+#[test]
+fn each_list_of_rules_has_its_own(rt: HostRuntime) -> Result<(), Fail> {
+    let text = r#"{"relabel_configs":[{"regex":"r"}],"metric_relabel_configs":[{"regex":"m"},{}]}"#;
+    let job = job_under(rt.alloc(), "{}", text)?;
+    let relabel = rules_text(rt.alloc(), job.relabel.as_slice())?;
+    let metric = rules_text(rt.alloc(), job.metric_relabel.as_slice())?;
+    let both = format!(in rt.alloc(); "{relabel}|{metric}")?;
+    assert_eq!(rt;
+        both.as_str(),
+        "; r 0  $1 Replace/|; m 0  $1 Replace/; (.*) 0  $1 Replace/"
+    );
+    Ok(())
+}
+
+#[test]
+fn params_rise_by_name_and_keep_the_order_of_values(rt: HostRuntime) -> Result<(), Fail> {
+    let job = job_under(
+        rt.alloc(),
+        "{}",
+        r#"{"params":{"module":["http_2xx"],"a":["2","1"]}}"#,
+    )?;
+    assert_eq!(rt;
+        params_text(rt.alloc(), job.params.as_slice())?.as_str(),
+        "a 2 1 /module http_2xx /"
+    );
+    Ok(())
+}
+
+#[test]
+fn groups_have_targets_and_labels(rt: HostRuntime) -> Result<(), Fail> {
+    let text =
+        r#"{"static_configs":[{"targets":["b:1","a:2"],"labels":{"env":"p","dc":""}},{"targets":[]}]}"#;
+    let job = job_under(rt.alloc(), "{}", text)?;
+    assert_eq!(rt;
+        groups_text(rt.alloc(), job.groups.as_slice())?.as_str(),
+        "b:1 a:2 dc= env=p //"
+    );
+    Ok(())
+}
+
+#[test]
+fn groups_of_a_file_name_it(rt: HostRuntime) -> Result<(), Fail> {
+    let value = Value::from_str(rt.alloc(), r#"[{"targets":["a:1"]},{"targets":["b:1"]}]"#)?;
+    let groups = file_groups_of(rt.alloc(), "x.json", &value)?;
+    assert_eq!(rt;
+        groups_text(rt.alloc(), groups.as_slice())?.as_str(),
+        "a:1 x.json/b:1 x.json/"
+    );
+    Ok(())
+}
+
+#[test]
+fn files_stand_once_at_their_first_places(rt: HostRuntime) -> Result<(), Fail> {
+    let text =
+        r#"{"file_sd_configs":[{"files":["y.json","x.json","y.json"]},{"files":["x.json","z.json"]}]}"#;
+    let job = job_under(rt.alloc(), "{}", text)?;
+    assert_eq!(rt;
+        names_text(rt.alloc(), job.files.as_slice())?.as_str(),
+        "y.json x.json z.json "
+    );
+    Ok(())
+}
