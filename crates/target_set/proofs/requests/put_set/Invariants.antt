@@ -1,0 +1,10 @@
+use Rattle.std.proofs.Common.{◌≡◌, drop}
+use Rattle.std.specs.List.{filter_map}
+use Rattle.label_set.specs.declared.texts.Pair.{Pair}
+use Rattle.target_set.specs.Requests.{put_all, param_name}
+use Rattle.target_set.proofs.requests.put_set.Given as goal
+
+abbrev pub invariant-loop-label : goal.invariant-loop-label
+invariant-loop-label l =
+    put_all l.names.keys (filter_map (λ (p : Pair). param_name p.name) (drop l.label-index l.labels))
+    ≡ put_all l.fn.names.keys (filter_map (λ (p : Pair). param_name p.name) l.labels)

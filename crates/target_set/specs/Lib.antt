@@ -1,0 +1,6 @@
+pub mod Prepared
+pub mod Outcomes
+pub mod Listed
+pub mod Requests
+pub mod Walk
+pub mod Sameness

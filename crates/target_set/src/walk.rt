@@ -1,0 +1,76 @@
+//! The walk through the listed targets: what becomes of each.
+ghost use Rattle.std.specs.Prelude.{◌≡◌, ◌≤◌, ◌+◌, ◌++◌, IfOk, OnOk};
+ghost use Rattle.target_set.specs.Listed as spec;
+ghost use Rattle.target_set.specs.Listed.{group_count, group_outcomes, listed_count};
+ghost use Rattle.target_set.specs.Walk as walked;
+
+use crate::outcomes::judged;
+use crate::prepare::{prepared, set_of_group};
+use crate::targets::Outcome;
+use label_set::{LabelSet, NoMemory, Steps};
+use relabel::Rules;
+use scrape_config::{Group, JobConf};
+use std::alloc::Global;
+use std::sync::ledger::Ledger;
+
+/// What becomes of a target, by the set of its group. It takes one step.
+#[tactic(auto, unfolding(crate::specs::Walk::outcome_from))]
+fn outcome_from<L: Ledger>(
+    alloc: Global,
+    conf: &JobConf,
+    rules: &Rules,
+    base: &LabelSet,
+    text: &str,
+    steps: &mut Steps<L>,
+) -> Result<Outcome, NoMemory>
+    ensures outcome { IfOk result (λ o. o ≡ walked.outcome_from conf.now rules.now base.now text.now) }
+    ensures steps { OnOk result (steps.new ≡ steps.old + 1) }
+    ensures at_least { steps.old ≤ steps.new }
+    ensures at_most { steps.new ≤ steps.old + 1 }
+{
+    let set = prepared(alloc, conf, base, text)?;
+    let left = rules.process(alloc, &set, steps)?;
+    judged(alloc, left)
+}
+
+/// Adds what becomes of each target of a group.
+fn push_group<L: Ledger>(
+    alloc: Global,
+    conf: &JobConf,
+    rules: &Rules,
+    group: &Group,
+    out: &mut Vec<Outcome>,
+    steps: &mut Steps<L>,
+) -> Result<(), NoMemory>
+    ensures outcomes { OnOk result (out.new.items ≡ out.old.items ++ group_outcomes conf.now rules.now group.now) }
+    ensures steps { OnOk result (steps.new ≡ steps.old + group_count group.now) }
+    ensures at_least { steps.old ≤ steps.new }
+    ensures at_most { steps.new ≤ steps.old + group_count group.now }
+{
+    let base = set_of_group(alloc, group)?;
+    let texts = group.targets.as_slice();
+    for text in texts {
+        out.push(outcome_from(alloc, conf, rules, &base, text.as_str(), steps)?)?;
+    }
+    Ok(())
+}
+
+/// What becomes of each target that groups list, in their order. Each takes one step.
+pub fn outcomes_of<L: Ledger>(
+    alloc: Global,
+    conf: &JobConf,
+    rules: &Rules,
+    groups: &[Group],
+    steps: &mut Steps<L>,
+) -> Result<Vec<Outcome>, NoMemory>
+    ensures outcomes { IfOk result (λ v. v.items ≡ spec.outcomes_of conf.now rules.now groups.now) }
+    ensures steps { OnOk result (steps.new ≡ steps.old + listed_count groups.now) }
+    ensures at_least { steps.old ≤ steps.new }
+    ensures at_most { steps.new ≤ steps.old + listed_count groups.now }
+{
+    let mut out = Vec::new(alloc);
+    for group in groups {
+        push_group(alloc, conf, rules, group, &mut out, steps)?;
+    }
+    Ok(out)
+}
