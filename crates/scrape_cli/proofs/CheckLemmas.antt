@@ -6,7 +6,8 @@ use Rattle.outside.specs.Objects.{file_of, HasFile, LacksFile, HasLongerFile, Ro
 use Rattle.scrape_config.specs.Reading.{reading, IsRuleAt, IsRefusedPattern, IsRefusal}
 use Rattle.scrape_config.specs.declared.conf.Conf.{Conf}
 use Rattle.scrape_config.specs.declared.fault.ConfFault.{ConfFault}
-use Rattle.scrape_cli.specs.Checks.{target_limit, listed_targets, IsCrowd, IsFault, fault_message}
+use Rattle.scrape_core.specs.Built.{listed_targets}
+use Rattle.scrape_cli.specs.Checks.{target_limit, IsCrowd, IsFault, fault_message}
 use Rattle.scrape_cli.specs.Words.{command_of, file_in, limit_of}
 use Rattle.scrape_cli.specs.Statuses.{TellsFile, IsSaid, Does, DoesFront, IsCause, EndsAs, Speaks, status_at, IsRefusedFor}
 use Rattle.scrape_cli.specs.declared.words.Command.{Command}

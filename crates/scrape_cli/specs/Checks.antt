@@ -1,29 +1,11 @@
 -- What is said of a configuration.
 use Rattle.std.specs.Prelude.{◌≡◌, ◌⊎◌, ℕ, ◌<◌, ◌≤◌, List, [], ◌++◌, codes, length, All, Ok, IsOkAnd}
-use Rattle.std.specs.List.{sum_by}
 use Rattle.std.specs.Fmt.{decimal}
 use Rattle.scrape_config.specs.Reading.{reading, HasPatterns, IsRefusal}
 use Rattle.scrape_config.specs.declared.conf.Conf.{Conf}
-use Rattle.scrape_config.specs.declared.conf.Group.{Group}
-use Rattle.scrape_config.specs.declared.conf.Job.{Job}
+use Rattle.scrape_core.specs.Built.{listed_targets}
 use Rattle.scrape_config.specs.declared.fault.ConfFault.{ConfFault}
 use Rattle.scrape_config.specs.declared.fault.ConfFault.TheVariants.{NotJson, Shape, Unknown, Missing, Value, TwiceNamed, TooMany, Rule}
-
--- how many targets a group lists
-abbrev pub group_targets : Group → ℕ
-group_targets group = length group.targets
-
--- how many targets groups list
-abbrev pub groups_targets : List Group → ℕ
-groups_targets groups = sum_by group_targets groups
-
--- how many targets the groups of a job list
-abbrev pub job_targets : Job → ℕ
-job_targets job = groups_targets job.conf.groups
-
--- how many targets jobs list
-abbrev pub listed_targets : List Job → ℕ
-listed_targets jobs = sum_by job_targets jobs
 
 -- all jobs together list at most 100,000 targets
 abbrev pub target_limit : ℕ

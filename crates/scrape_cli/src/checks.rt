@@ -1,5 +1,5 @@
 //! Checking a configuration.
-ghost use Rattle.std.specs.Prelude.{◌≡◌, ◌^◌, ◌-◌, min, length, IfOk, IfErr, OnOk};
+ghost use Rattle.std.specs.Prelude.{◌≡◌, length, IfOk, IfErr, OnOk};
 ghost use Rattle.outside.specs.Objects.{Adds};
 ghost use Rattle.scrape_cli.specs.Checks as spec;
 ghost use Rattle.scrape_cli.specs.Statuses.{IsConfCause, IsPrintCause};
@@ -8,33 +8,12 @@ use crate::refusals::Refusal;
 use itoa::Buffer;
 use label_set::{Name, NoMemory};
 use outside::Sink;
-use scrape_config::{Conf, ConfError, ConfFault, Group, Job, read_conf};
+use scrape_config::{Conf, ConfError, ConfFault, read_conf};
+use scrape_core::listed_targets;
 use std::alloc::Global;
 
 /// All jobs together list at most so many targets.
 const TARGET_LIMIT: u64 = 100_000;
-
-/// How many targets groups list; the count stands still at the last value of its type.
-fn group_targets(groups: &[Group]) -> u64
-    ensures { result ≡ min (spec.groups_targets groups.now) (2 ^ 64 - 1) }
-{
-    let mut total: u64 = 0;
-    for group in groups {
-        total = total.saturating_add(group.targets.as_slice().len() as u64);
-    }
-    total
-}
-
-/// The same for jobs.
-fn listed_targets(jobs: &[Job]) -> u64
-    ensures { result ≡ min (spec.listed_targets jobs.now) (2 ^ 64 - 1) }
-{
-    let mut total: u64 = 0;
-    for job in jobs {
-        total = total.saturating_add(group_targets(job.conf.groups.as_slice()));
-    }
-    total
-}
 
 /// The fault of too many listed targets.
 fn crowd(alloc: Global) -> ConfFault

@@ -1,6 +1,6 @@
 //! Stepping a core through a script.
-ghost use Rattle.std.specs.Prelude.{◌≡◌, ◌<◌, [], IfOk, IsErrOf, true, false};
-ghost use Rattle.scrape_cli.specs.Scripts.{SpellsBuilt, SpellsNoBuilt, all_built};
+ghost use Rattle.std.specs.Prelude.{◌≡◌, ◌<◌, [], IfOk, IsErrOf};
+ghost use Rattle.scrape_cli.specs.Scripts.{SpellsBuilt, SpellsNoBuilt, AreBuilt, SomeMayBeLeft};
 
 use journal_text::{Journal, ScriptError, read_journal};
 use label_set::{NoMemory, Steps};
@@ -12,7 +12,7 @@ use std::sync::ledger::{Blank, Ledger};
 /// Why a script was not replayed.
 #[derive(Clone, Copy, PartialEq, Eq, Debug)]
 pub enum ReplayError {
-    /// The script isn't of events of the built kinds.
+    /// The script isn't of events of the built kinds, or a pattern of it was refused.
     NotYet,
     /// An allocation failed.
     NoMemory,
@@ -29,15 +29,15 @@ impl From<NoMemory> for ReplayError {
     }
 }
 
-/// A core that took each event of a journal, where each is of a built kind.
+/// A core that took each event of a journal, where none was left.
 fn stepped<L: Ledger>(
     alloc: Global,
     journal: Journal,
     steps: &mut Steps<L>,
 ) -> Result<Core, ReplayError>
     ensures taken { IfOk result (λ core. core ≡ journal.events) }
-    ensures built { IfOk result (λ core. all_built [] journal.events ≡ true) }
-    ensures not_yet { IsErrOf result ReplayError.NotYet → all_built [] journal.events ≡ false }
+    ensures built { IfOk result (λ core. AreBuilt [] journal.events) }
+    ensures not_yet { IsErrOf result ReplayError.NotYet → SomeMayBeLeft [] journal.events }
 {
     let mut core = Core::new(alloc)?;
     let mut events = journal.into_events();
@@ -61,8 +61,8 @@ fn stepped_from<L: Ledger>(
     requires parts { blank.parts ≡ L.parts }
     requires some { 0 < blank.parts }
     ensures taken { IfOk result (λ core. core ≡ journal.events) }
-    ensures built { IfOk result (λ core. all_built [] journal.events ≡ true) }
-    ensures not_yet { IsErrOf result ReplayError.NotYet → all_built [] journal.events ≡ false }
+    ensures built { IfOk result (λ core. AreBuilt [] journal.events) }
+    ensures not_yet { IsErrOf result ReplayError.NotYet → SomeMayBeLeft [] journal.events }
 {
     let mut steps: Steps<L> = Steps::open(blank);
     stepped(alloc, journal, &mut steps)
@@ -70,8 +70,8 @@ fn stepped_from<L: Ledger>(
 
 fn journal_stepped(alloc: Global, journal: Journal) -> Result<Core, ReplayError>
     ensures taken { IfOk result (λ core. core ≡ journal.events) }
-    ensures built { IfOk result (λ core. all_built [] journal.events ≡ true) }
-    ensures not_yet { IsErrOf result ReplayError.NotYet → all_built [] journal.events ≡ false }
+    ensures built { IfOk result (λ core. AreBuilt [] journal.events) }
+    ensures not_yet { IsErrOf result ReplayError.NotYet → SomeMayBeLeft [] journal.events }
 {
     stepped_from::<Brand>(alloc, journal, Blank::new(1))
 }

@@ -1,5 +1,6 @@
 mod checks;
 mod fields;
+mod targets;
 
 use crate::tool::tool;
 use label_set::{Blob, Name, NoMemory};
@@ -172,7 +173,7 @@ fn other_words_are_bad(rt: HostRuntime) -> Result<(), Fail> {
 #[test]
 fn other_scripts_are_not_yet_built(rt: HostRuntime) -> Result<(), Fail> {
     let alloc = rt.alloc();
-    let cases: [&[&[u8]]; 12] = [
+    let cases: [&[&[u8]]; 11] = [
         &[],
         &[b"x 1\n"],
         &[&ONE_LOAD[..16]],
@@ -182,10 +183,8 @@ fn other_scripts_are_not_yet_built(rt: HostRuntime) -> Result<(), Fail> {
         &[&ONE_LOAD[..17], b"load 0 076\n", &ONE_LOAD[27..]],
         // a second load
         &[ONE_LOAD, &ONE_LOAD[17..104]],
-        // a configuration with a member that isn't read
-        &[b"scrape-journal 1\nload 0 13\n{\"global\":{}}\n"],
-        // a sample with a label of its own
-        &[ONE_LOAD, b"sweep 60000\nbody 15 1 200 11\nx{a=\"b\"} 1\n\n"],
+        // a sample with a timestamp of its own
+        &[ONE_LOAD, b"sweep 60000\nbody 15 1 200 6\nx 1 5\n\n"],
         // a status that isn't 200
         &[ONE_LOAD, b"sweep 60000\nbody 15 1 500 0\n\n"],
         // a reply that came too late

@@ -5,8 +5,9 @@ ghost use Rattle.journal_text.specs.declared.events.Event.{Event};
 ghost use Rattle.scrape_config.specs.Reading.{reading, IsRefusedPattern};
 ghost use Rattle.scrape_config.specs.declared.conf.Conf.{Conf};
 ghost use Rattle.scrape_config.specs.declared.fault.ConfFault.{ConfFault};
-ghost use Rattle.scrape_cli.specs.Checks.{listed_targets, target_limit, fault_message};
-ghost use Rattle.scrape_cli.specs.Scripts.{SpellsBuilt};
+ghost use Rattle.scrape_core.specs.Built.{listed_targets};
+ghost use Rattle.scrape_cli.specs.Checks.{target_limit, fault_message};
+ghost use Rattle.scrape_cli.specs.Scripts.{SpellsTaken};
 ghost use Rattle.scrape_cli.specs.Statuses as spec;
 ghost use Rattle.scrape_cli.specs.Words.{command_of, file_in, limit_of, OfWords, OfCommand};
 ghost use Rattle.scrape_cli.specs.declared.refusals.Refusal.{Refusal};
@@ -149,7 +150,7 @@ fn status_at(end: &Result<(), Refusal>) -> u8
 /// | 6, 7 | reading or writing failed, and was counted |
 /// | 8 | memory ran out |
 /// | 9 | the file is longer than its command takes, and the shelf counted that |
-/// | 11 | `replay`: exactly where the script isn't spelled from events of the built kinds |
+/// | 11 | `replay`: only where the script isn't spelled from events of the built kinds, or a pattern of its configuration may be refused |
 pub fn tool<S: Shelf, O: Sink, E: Sink>(
     alloc: Global,
     words: &[String],
@@ -173,7 +174,7 @@ pub fn tool<S: Shelf, O: Sink, E: Sink>(
     ensures statuses { (result.status ≡ 0) ⊎ ((r : Refusal) × (result.status ≡ spec.status_of r)) }
     ensures missing { (c : Command) → command_of (map string_bytes words.now) ≡ Some c → spec.TellsNone (S.told shelf.old) (file_in (map string_bytes words.now)) → ¬ Rose (S.faults shelf.old) (S.faults shelf.new) → (result.status ≡ 3) ⊎ (result.status ≡ 8) }
     ensures longer { (c : Command) → command_of (map string_bytes words.now) ≡ Some c → spec.TellsLonger (S.told shelf.old) (file_in (map string_bytes words.now)) (limit_of c) → ¬ Rose (S.faults shelf.old) (S.faults shelf.new) → (result.status ≡ 9) ⊎ (result.status ≡ 8) }
-    ensures complete { (bytes : List ℕ) (journal : List Event) → command_of (map string_bytes words.now) ≡ Some Replay → spec.TellsFile (S.told shelf.old) (file_in (map string_bytes words.now)) bytes → length bytes ≤ limit_of Replay → SpellsBuilt bytes journal → ¬ Rose (S.faults shelf.old) (S.faults shelf.new) → ¬ Rose (O.faults out.old) (O.faults out.new) → (result.status ≡ 0) ⊎ (result.status ≡ 8) }
+    ensures complete { (bytes : List ℕ) (journal : List Event) → command_of (map string_bytes words.now) ≡ Some Replay → spec.TellsFile (S.told shelf.old) (file_in (map string_bytes words.now)) bytes → length bytes ≤ limit_of Replay → SpellsTaken bytes journal → ¬ Rose (S.faults shelf.old) (S.faults shelf.new) → ¬ Rose (O.faults out.old) (O.faults out.new) → (result.status ≡ 0) ⊎ (result.status ≡ 8) }
     ensures taken { (bytes : List ℕ) (conf : Conf) → command_of (map string_bytes words.now) ≡ Some Check → spec.TellsFile (S.told shelf.old) (file_in (map string_bytes words.now)) bytes → length bytes ≤ limit_of Check → reading bytes ≡ Ok conf → listed_targets conf.jobs ≤ target_limit → ((place : List ℕ) → ¬ IsRefusedPattern conf place) → ¬ Rose (S.faults shelf.old) (S.faults shelf.new) → ¬ Rose (O.faults out.old) (O.faults out.new) → (result.status ≡ 0) ⊎ (result.status ≡ 8) }
     ensures refused { (bytes : List ℕ) (fault : ConfFault) → command_of (map string_bytes words.now) ≡ Some Check → spec.TellsFile (S.told shelf.old) (file_in (map string_bytes words.now)) bytes → length bytes ≤ limit_of Check → reading bytes ≡ Err fault → ¬ Rose (S.faults shelf.old) (S.faults shelf.new) → spec.IsRefusedFor fault result.status (E.told err.old) (E.told err.new) (E.faults err.old) (E.faults err.new) ⊎ (result.status ≡ 8) }
     ensures crowded { (bytes : List ℕ) (conf : Conf) → command_of (map string_bytes words.now) ≡ Some Check → spec.TellsFile (S.told shelf.old) (file_in (map string_bytes words.now)) bytes → length bytes ≤ limit_of Check → reading bytes ≡ Ok conf → target_limit < listed_targets conf.jobs → ¬ Rose (S.faults shelf.old) (S.faults shelf.new) → (result.status ≡ 4) ⊎ (result.status ≡ 8) }

@@ -1,176 +1,193 @@
--- What an event that is built, or isn't, makes of a journal.
-use Rattle.std.proofs.Common.{◌≡◌, ◌≢◌, ℕ, ℤ, ◌+◌, ◌<◌, ◌≤◌, List, [], ◌∷◌, ◌++◌, length, map, Bool, true, false, not, cond, refl, sym, ap, ap₂, ◌∙◌, arith, append-nil, length-append}
-use Rattle.std.specs.Prelude.{Some, None, nat_le, is_some, ◌&&◌, Ok, Err}
-use Rattle.std.specs.List.{list_all}
-use Rattle.std.specs.Prelude.{Result, IfOk, OnOk, OnErr, ◌==◌}
-use Rattle.std.proofs.Common.{subst}
-use Rattle.scrape_core.specs.declared.appender_book.Entry.{Entry}
-use Rattle.scrape_core.specs.declared.life_roll.Start.{Start}
-use Rattle.scrape_core.specs.Kept.{IsKept}
-use Rattle.std.specs.List.{flat_map}
+-- What an event that is taken, or is left, makes of a journal.
+use Rattle.std.proofs.Common.{◌≡◌, ◌≢◌, ◌⊎◌, inl, inr, ℕ, ℤ, ◌+◌, ◌<◌, ◌≤◌, List, [], ◌∷◌, ◌++◌, length, map, Bool, true, false, refl, sym, ap, ap₂, ◌∙◌, subst, arith, append-nil, length-append}
+use Rattle.std.specs.Prelude.{Option, Some, None, nat_le, ◌&&◌, Result, Ok, Err, IfOk, OnOk, OnErr, ◌==◌, All, IsOkAnd, IfErr}
+use Rattle.std.specs.List.{list_all, flat_map, sum_by}
 use Rattle.std.proofs.lemmas.List.{length-map}
-use Rattle.std.proofs.lemmas.Bool.{ne_eqb}
+use Rattle.std.proofs.lemmas.Bool.{ne_eqb, false≢true}
 use Rattle.std.proofs.lemmas.Bool.Decides.{nat_tests}
+use Rattle.std.proofs.Math.Dec.{eqb-suc-zero}
 use Rattle.expo_reader.specs.declared.rows.BodyRow.{BodyRow}
 use Rattle.expo_reader.specs.declared.bodies.BodyCause.{BodyCause}
-use Rattle.expo_reader.specs.Bodies.{reading}
+use Rattle.expo_reader.specs.Bodies as body
 use Rattle.journal_text.specs.Lines.{number}
-use Rattle.scrape_core.specs.Plain.{plain_conf}
 use Rattle.outside.specs.declared.replies.Reply.{Reply}
 use Rattle.outside.specs.declared.replies.Reply.TheVariants.{Body, Lost}
 use Rattle.journal_text.specs.declared.events.Event.{Event}
 use Rattle.journal_text.specs.declared.events.Event.TheVariants.{Load, Targets, Tick, Sweep, Finish, Halt}
-use Rattle.scrape_core.specs.declared.plain_conf.Group.{Group}
-use Rattle.scrape_core.specs.declared.plain_conf.JobConf.{JobConf}
-use Rattle.scrape_core.specs.declared.plain_conf.Job.{Job}
-use Rattle.scrape_core.specs.declared.plain_conf.Conf.{Conf}
-use Rattle.scrape_core.specs.Plain.{listed_in, listed}
-use Rattle.scrape_core.specs.declared.answers.Answer.{Answer}
-use Rattle.scrape_core.specs.declared.answers.Answer.TheVariants.{NotYet}
+use Rattle.scrape_config.specs.Reading as conf
+use Rattle.scrape_config.specs.declared.conf.Conf.{Conf}
+use Rattle.scrape_config.specs.declared.fault.ConfFault.{ConfFault}
+use Rattle.scrape_config.specs.declared.fault.ConfFault.TheVariants as fault
+use Rattle.scrape_config.specs.declared.fault.ConfError.{ConfError}
+use Rattle.scrape_config.specs.declared.fault.ConfError.TheVariants as error
+use Rattle.scrape_core.specs.declared.appender_book.Entry.{Entry}
+use Rattle.scrape_core.specs.declared.life_roll.Life.{Life}
+use Rattle.scrape_core.specs.declared.life_roll.Start.{Start}
 use Rattle.scrape_core.specs.declared.life_roll.Found.{Found}
 use Rattle.scrape_core.specs.declared.life_roll.Found.TheVariants.{NotStarted, Cancelled, Counts}
-use Rattle.scrape_core.specs.Built.{is_bare, is_built_reading, is_built, is_built_reply, is_not_yet, is_first, answer_after, journal_after}
-use Rattle.scrape_core.specs.Machine.{World, world, step, gives, answer, finish_answer, found, world_of, book_of}
-use Rattle.scrape_core.specs.Targets.{born, targets_of_group, targets_of_job, targets_of}
-use Rattle.scrape_core.specs.declared.life_roll.Life.{Life}
-use Rattle.std.proofs.lemmas.Bool.{false≢true}
-use Rattle.std.proofs.Math.Dec.{eqb-suc-zero}
+use Rattle.scrape_core.specs.declared.answers.Answer.{Answer}
+use Rattle.scrape_core.specs.declared.answers.Answer.TheVariants.{NotYet}
+use Rattle.scrape_core.specs.Built as built
+use Rattle.scrape_core.specs.Built.{is_built, is_timely, is_built_reply, is_built_reading, is_unstamped, is_not_yet, is_first, IsBuilt, MayBeLeft, IsTaken, IsLeft, IsStep}
+use Rattle.scrape_core.specs.Kept.{IsKept}
+use Rattle.scrape_core.specs.Machine.{World, world, step, gives, answer, finish_answer, found, world_of, book_of, timeout_of}
 use Rattle.scrape_core.proofs.StepLemmas.{world_push, book_of_push}
 use Rattle.scrape_core.proofs.FinishLemmas.{load_nothing, sweep_nothing}
 
+-- an event that is left
 module _ (es : List Event) (e : Event) where
-  -- it is built
-  module _ (h : is_built es e ≡ true) where
-    pub built_journal : journal_after es e ≡ es ++ e ∷ []
-    built_journal = ap (λ b. cond b (es ++ e ∷ []) es) h
+  pub left : MayBeLeft es e → IsStep es e NotYet es
+  left h = inr (record { cause = h; answer_is = refl; same = refl })
 
-    module _ (w : World) (s : w ≡ world_of es) where
-      pub built_answer : answer_after es e ≡ answer w e
-      built_answer = ap (λ b. cond b (answer (world_of es) e) NotYet) h ∙ ap (λ z. answer z e) (sym s)
+  pub left_kind : is_built es e ≡ false → IsStep es e NotYet es
+  left_kind h = left (inl h)
 
-      pub built_world : world_of (journal_after es e) ≡ step w e
-      built_world = ap world_of built_journal ∙ (world_push es e ∙ ap (λ z. step z e) (sym s))
+-- an event that is taken, where d is the same event as the machine saw it
+module _ {E : Type 0} (r : Result Answer E) (w : World) (es fs : List Event) (d e : Event) (same : d ≡ e) (s : w ≡ world_of es)
+    (j : OnOk r (fs ≡ es ++ d ∷ [])) where
+  joined : OnOk r (fs ≡ es ++ e ∷ [])
+  joined = subst (λ z. OnOk r (fs ≡ es ++ z ∷ [])) same j
 
-      pub built_book : book_of (journal_after es e) ≡ book_of es ++ gives w e
-      built_book = ap book_of built_journal ∙ (book_of_push es e ∙ ap (λ z. book_of es ++ gives z e) (sym s))
+  pub taken : IsBuilt es e → IfOk r (λ a. a ≡ answer w d) → IfOk r (λ a. IsStep es e a fs)
+  taken b h = of r j h
+    where
+      of : (q : Result Answer E) → OnOk q (fs ≡ es ++ d ∷ []) → IfOk q (λ a. a ≡ answer w d) → IfOk q (λ a. IsStep es e a fs)
+      of (Ok a) jj hh = inl (record {
+        built = b;
+        answer_is = hh ∙ ap₂ (λ z (x : Event). answer z x) s same;
+        joined = jj ∙ ap (λ (z : Event). es ++ z ∷ []) same;
+      })
+      of (Err x) jj hh = tt
 
-      pub built_silent : gives w e ≡ [] → book_of (journal_after es e) ≡ book_of es
-      built_silent g = built_book ∙ (ap (λ z. book_of es ++ z) g ∙ append-nil _)
+  pub taken_world : (v : World) → OnOk r (v ≡ step w d) → OnOk r (v ≡ world_of fs)
+  taken_world v h = of r j h
+    where
+      of : (q : Result Answer E) → OnOk q (fs ≡ es ++ d ∷ []) → OnOk q (v ≡ step w d) → OnOk q (v ≡ world_of fs)
+      of (Ok a) jj hh = hh ∙ (ap (λ z. step z d) s ∙ (sym (world_push es d) ∙ ap world_of (sym jj)))
+      of (Err x) jj hh = tt
 
-  -- it isn't
-  module _ (h : is_built es e ≡ false) where
-    pub left_journal : journal_after es e ≡ es
-    left_journal = ap (λ b. cond b (es ++ e ∷ []) es) h
+  pub taken_book : (bs cs : List Entry) → bs ≡ book_of es → OnOk r (cs ≡ bs ++ gives w d) → OnOk r (cs ≡ book_of fs)
+  taken_book bs cs b h = of r j h
+    where
+      of : (q : Result Answer E) → OnOk q (fs ≡ es ++ d ∷ []) → OnOk q (cs ≡ bs ++ gives w d) → OnOk q (cs ≡ book_of fs)
+      of (Ok a) jj hh = hh ∙ (ap₂ (λ z v. z ++ gives v d) b s ∙ (sym (book_of_push es d) ∙ ap book_of (sym jj)))
+      of (Err x) jj hh = tt
 
-    pub left_answer : answer_after es e ≡ NotYet
-    left_answer = ap (λ b. cond b (answer (world_of es) e) NotYet) h
+  pub taken_silent : gives (world_of es) e ≡ [] → OnOk r (book_of fs ≡ book_of es)
+  taken_silent g = of r j
+    where
+      of : (q : Result Answer E) → OnOk q (fs ≡ es ++ d ∷ []) → OnOk q (book_of fs ≡ book_of es)
+      of (Ok a) jj = ap book_of jj ∙ (book_of_push es d ∙ (ap (λ z. book_of es ++ z) (ap (λ (z : Event). gives (world_of es) z) same ∙ g) ∙ append-nil _))
+      of (Err x) jj = tt
 
--- an event that gives no entry leaves the book
-silent_book : (es : List Event) (e : Event) → gives (world_of es) e ≡ [] → book_of (journal_after es e) ≡ book_of es
-silent_book es e g = by_kind (is_built es e) refl
-  where
-    by_kind : (b : Bool) → is_built es e ≡ b → book_of (journal_after es e) ≡ book_of es
-    by_kind true h = built_silent es e h (world_of es) refl g
-    by_kind false h = ap book_of (left_journal es e h)
+pub load_silent : (es : List Event) (m : ℤ) (text : List ℕ) → gives (world_of es) (Load m text) ≡ []
+load_silent es m text = load_nothing (world_of es) m text
 
-pub load_book : (es : List Event) (m : ℤ) (text : List ℕ) → book_of (journal_after es (Load m text)) ≡ book_of es
-load_book es m text = silent_book es (Load m text) (load_nothing (world_of es) m text)
-
-pub sweep_book : (es : List Event) (m : ℤ) → book_of (journal_after es (Sweep m)) ≡ book_of es
-sweep_book es m = silent_book es (Sweep m) (sweep_nothing (world_of es) m)
-
--- as many targets as are listed
-length-group : (job : JobConf) (gs : List Group) → length (flat_map (targets_of_group job) gs) ≡ length (flat_map (λ (g : Group). g.targets) gs)
-length-group job [] = refl
-length-group job (g ∷ gs) =
-    length-append (targets_of_group job g) (flat_map (targets_of_group job) gs)
-    ∙ (ap₂ (λ m n. m + n) (length-map g.targets _) (length-group job gs)
-    ∙ sym (length-append g.targets (flat_map (λ (g : Group). g.targets) gs)))
-
-pub length-targets : (js : List Job) → length (flat_map targets_of_job js) ≡ length (flat_map listed_in js)
-length-targets [] = refl
-length-targets (j ∷ js) =
-    length-append (targets_of_job j) (flat_map targets_of_job js)
-    ∙ (ap₂ (λ m n. m + n) (length-group j.conf j.conf.groups) (length-targets js)
-    ∙ sym (length-append (listed_in j) (flat_map listed_in js)))
-
-pub few_lives : (vs : List Life) (m : ℕ) (c : Conf) → vs ≡ map (born m) (targets_of (Some c)) → length (listed c) ≤ 10000 → length vs ≤ 10000
-few_lives vs m c e few =
-    let n : length vs ≡ length (listed c) = ap length e ∙ (length-map (targets_of (Some c)) (born m) ∙ length-targets c.jobs) in
-    omega arith
-
--- what holds of an answer or a value holds of one that is equal
-pub then_answer : {A E : Type 0} (r : Result A E) (x y : A) → x ≡ y → IfOk r (λ a. a ≡ x) → IfOk r (λ a. a ≡ y)
-then_answer (Ok a) x y e h = h ∙ e
-then_answer (Err e') x y e h = tt
-
-pub then_is : {A E V : Type 0} (r : Result A E) (v x y : V) → x ≡ y → OnOk r (v ≡ x) → OnOk r (v ≡ y)
-then_is (Ok a) v x y e h = h ∙ e
-then_is (Err e') v x y e h = tt
+pub sweep_silent : (es : List Event) (m : ℤ) → gives (world_of es) (Sweep m) ≡ []
+sweep_silent es m = sweep_nothing (world_of es) m
 
 -- which events are built
-pub sweep_built : (es : List Event) (m : ℤ) → is_built es (Sweep m) ≡ true
+pub sweep_built : (es : List Event) (m : ℤ) → IsBuilt es (Sweep m)
 unfolding is_built
-sweep_built es m = refl
-
-pub load_built : (es : List Event) (m : ℤ) (text : List ℕ) (c : Conf) → es ≡ [] → plain_conf text ≡ Some c → is_built es (Load m text) ≡ true
-unfolding is_built
-load_built es m text c n p = ap₂ (λ fs o. is_first fs && is_some o) n p
+sweep_built es m = record { kind = refl; patterns = tt }
 
 no_more : (b : Bool) → (b && false) ≡ false
 no_more true = refl
 no_more false = refl
 
-pub load_other : (es : List Event) (m : ℤ) (text : List ℕ) → plain_conf text ≡ None → is_built es (Load m text) ≡ false
+pub load_built : (es : List Event) (m : ℤ) (text : List ℕ) (c : Conf) → es ≡ [] → conf.reading text ≡ Ok c → built.is_built_conf (Ok c) ≡ true →
+    All conf.HasPatterns c.jobs → IsBuilt es (Load m text)
 unfolding is_built
-load_other es m text p = ap (λ o. is_first es && is_some o) p ∙ no_more (is_first es)
+load_built es m text c n p b h = record {
+  kind = ap₂ (λ fs (o : Result Conf ConfFault). is_first fs && built.is_built_conf o) n p ∙ b;
+  patterns = (let P : Result Conf ConfFault → Type 0 = λ o. IsOkAnd o (λ (x : Conf). All conf.HasPatterns x.jobs) in subst P (sym p) h);
+}
+
+pub load_other : (es : List Event) (m : ℤ) (text : List ℕ) (c : Conf) → conf.reading text ≡ Ok c → built.is_built_conf (Ok c) ≡ false →
+    is_built es (Load m text) ≡ false
+unfolding is_built
+load_other es m text c p b = ap (λ (o : Result Conf ConfFault). is_first es && built.is_built_conf o) p ∙ (ap (λ z. is_first es && z) b ∙ no_more (is_first es))
 
 pub load_late : (es : List Event) (m : ℤ) (text : List ℕ) → (length es == 0) ≡ false → is_built es (Load m text) ≡ false
 unfolding is_built
 load_late [] m text n = let q : true ≡ false = n in absurd (false≢true (sym q))
 load_late (e ∷ es) m text n = refl
 
+-- a load whose configuration is refused has a fault, or a pattern that may be refused
+rule_of : (c : Conf) (f : ConfFault) → conf.IsRuleAt (conf.IsRefusedPattern c) f → (place : List ℕ) × conf.IsRefusedPattern c place
+rule_of c (fault.Rule place) h = (place, h)
+rule_of c fault.NotJson h = absurd h
+rule_of c (fault.Shape place) h = absurd h
+rule_of c (fault.Unknown place) h = absurd h
+rule_of c (fault.Missing place) h = absurd h
+rule_of c (fault.Value place) h = absurd h
+rule_of c (fault.TwiceNamed job) h = absurd h
+rule_of c (fault.TooMany place limit) h = absurd h
+
+err_kind : (es : List Event) (m : ℤ) (text : List ℕ) (f : ConfFault) → conf.reading text ≡ Err f → is_built es (Load m text) ≡ false
+unfolding is_built
+err_kind es m text f p = ap (λ (o : Result Conf ConfFault). is_first es && built.is_built_conf o) p ∙ no_more (is_first es)
+
+load_refused : (es : List Event) (m : ℤ) (text : List ℕ) (f : ConfFault) → conf.IsRefusal (conf.reading text) f → MayBeLeft es (Load m text)
+load_refused es m text f (inl h) = inl (err_kind es m text f h)
+load_refused es m text f (inr h) = inr (of (conf.reading text) h)
+  where
+    of : (o : Result Conf ConfFault) → IsOkAnd o (λ c. conf.IsRuleAt (conf.IsRefusedPattern c) f) →
+        IsOkAnd o (λ (c : Conf). (place : List ℕ) × conf.IsRefusedPattern c place)
+    of (Ok c) q = rule_of c f q
+    of (Err x) q = absurd q
+
+-- the same for what is answered of bytes
+pub load_cause : (es : List Event) (m : ℤ) (text bytes : List ℕ) → bytes ≡ text → (e : ConfError) (f : ConfFault) → e ≡ error.Bad f → conf.IsCause (conf.reading bytes) e →
+    MayBeLeft es (Load m text)
+load_cause es m text bytes same e f is h =
+    let P : ConfError → Type 0 = λ z. conf.IsCause (conf.reading bytes) z in
+    let Q : List ℕ → Type 0 = λ z. conf.IsRefusal (conf.reading z) f in
+    load_refused es m text f (subst Q same (subst P is h))
+
 pub no_events : (es : List Event) → (length es == 0) ≡ true → es ≡ []
 no_events [] n = refl
 no_events (e ∷ es) n = absurd (false≢true (sym (eqb-suc-zero (length es)) ∙ n))
 
-pub finish_slow : (es : List Event) (k : ℕ) (took : ℤ) (r : Reply) → 10000 < number took → is_built es (Finish k took r) ≡ false
-unfolding is_built
-finish_slow es k took r slow = let late : nat_le (number took) 10000 ≡ false = grind (arith, nat_tests) in ap (λ b. b && is_built_reply r) late
+module _ (w : World) (es : List Event) (s : w ≡ world_of es) (k : ℕ) (took : ℤ) where
+  pub finish_slow : (r : Reply) → is_timely (timeout_of w k) (number took) ≡ false → is_built es (Finish k took r) ≡ false
+  unfolding is_built
+  finish_slow r late = ap (λ z. is_timely (timeout_of z k) (number took) && is_built_reply r) (sym s) ∙ ap (λ b. b && is_built_reply r) late
 
-in_time : (took : ℤ) → number took ≤ 10000 → nat_le (number took) 10000 ≡ true
-in_time took h = grind (arith, nat_tests)
+  finish_kind : (r : Reply) → is_timely (timeout_of w k) (number took) ≡ true → is_built_reply r ≡ true → is_built es (Finish k took r) ≡ true
+  unfolding is_built
+  finish_kind r early b = ap (λ z. is_timely (timeout_of z k) (number took) && is_built_reply r) (sym s) ∙ (ap (λ z. z && is_built_reply r) early ∙ b)
 
-pub lost_built : (es : List Event) (k : ℕ) (took : ℤ) → number took ≤ 10000 → is_built es (Finish k took Lost) ≡ true
-unfolding is_built
-lost_built es k took h = ap (λ b. b && true) (in_time took h)
+  pub lost_built : is_timely (timeout_of w k) (number took) ≡ true → IsBuilt es (Finish k took Lost)
+  lost_built early = record { kind = finish_kind Lost early refl; patterns = tt }
 
-pub body_built : (es : List Event) (k : ℕ) (took : ℤ) (bytes : List ℕ) (rows : List BodyRow) → number took ≤ 10000 → reading bytes ≡ Ok rows →
-    list_all is_bare rows ≡ true → is_built es (Finish k took (Body 200 bytes)) ≡ true
-unfolding is_built
-body_built es k took bytes rows h e bare = ap₂ (λ b (x : Result (List BodyRow) BodyCause). b && is_built_reading x) (in_time took h) e ∙ bare
+  pub body_built : (status : ℕ) (bytes : List ℕ) (rows : List BodyRow) → is_timely (timeout_of w k) (number took) ≡ true → status ≡ 200 →
+      body.reading bytes ≡ Ok rows → list_all is_unstamped rows ≡ true → IsBuilt es (Finish k took (Body status bytes))
+  body_built status bytes rows early ok e bare = record {
+    kind = finish_kind (Body status bytes) early (ap₂ (λ n (x : Result (List BodyRow) BodyCause). (n == 200) && is_built_reading x) ok e ∙ bare);
+    patterns = tt;
+  }
 
-pub body_faulty : (es : List Event) (k : ℕ) (took : ℤ) (bytes : List ℕ) (cause : BodyCause) → number took ≤ 10000 → reading bytes ≡ Err cause →
-    is_built es (Finish k took (Body 200 bytes)) ≡ true
-unfolding is_built
-body_faulty es k took bytes cause h e = ap₂ (λ b (x : Result (List BodyRow) BodyCause). b && is_built_reading x) (in_time took h) e
-
-pub body_other : (es : List Event) (k : ℕ) (took : ℤ) (status : ℕ) (bytes : List ℕ) (rows : List BodyRow) → reading bytes ≡ Ok rows →
-    list_all is_bare rows ≡ false → is_built es (Finish k took (Body status bytes)) ≡ false
-unfolding is_built
-body_other es k took status bytes rows e other =
-    ap (λ (x : Result (List BodyRow) BodyCause). nat_le (number took) 10000 && ((status == 200) && is_built_reading x)) e
-    ∙ (ap (λ b. nat_le (number took) 10000 && ((status == 200) && b)) other
-    ∙ (ap (λ b. nat_le (number took) 10000 && b) (no_more (status == 200)) ∙ no_more (nat_le (number took) 10000)))
-
-pub status_other : (es : List Event) (k : ℕ) (took : ℤ) (status : ℕ) (bytes : List ℕ) → status ≢ 200 → is_built es (Finish k took (Body status bytes)) ≡ false
-unfolding is_built
-status_other es k took status bytes n =
-    ap (λ b. nat_le (number took) 10000 && (b && is_built_reading (reading bytes))) (ne_eqb status 200 n) ∙ no_more (nat_le (number took) 10000)
+  pub body_faulty : (status : ℕ) (bytes : List ℕ) (cause : BodyCause) → is_timely (timeout_of w k) (number took) ≡ true → status ≡ 200 →
+      body.reading bytes ≡ Err cause → IsBuilt es (Finish k took (Body status bytes))
+  body_faulty status bytes cause early ok e = record {
+    kind = finish_kind (Body status bytes) early (ap₂ (λ n (x : Result (List BodyRow) BodyCause). (n == 200) && is_built_reading x) ok e);
+    patterns = tt;
+  }
 
 pub reply_other : (es : List Event) (k : ℕ) (took : ℤ) (r : Reply) → is_built_reply r ≡ false → is_built es (Finish k took r) ≡ false
 unfolding is_built
-reply_other es k took r h = ap (λ b. nat_le (number took) 10000 && b) h ∙ no_more (nat_le (number took) 10000)
+reply_other es k took r h = ap (λ b. is_timely (timeout_of (world_of es) k) (number took) && b) h ∙ no_more (is_timely (timeout_of (world_of es) k) (number took))
+
+pub body_other : (es : List Event) (k : ℕ) (took : ℤ) (status : ℕ) (bytes : List ℕ) (rows : List BodyRow) → body.reading bytes ≡ Ok rows →
+    list_all is_unstamped rows ≡ false → is_built es (Finish k took (Body status bytes)) ≡ false
+body_other es k took status bytes rows e other =
+    reply_other es k took (Body status bytes)
+    (ap (λ (x : Result (List BodyRow) BodyCause). (status == 200) && is_built_reading x) e ∙ (ap (λ b. (status == 200) && b) other ∙ no_more (status == 200)))
+
+pub status_other : (es : List Event) (k : ℕ) (took : ℤ) (status : ℕ) (bytes : List ℕ) → status ≢ 200 → is_built es (Finish k took (Body status bytes)) ≡ false
+status_other es k took status bytes n =
+    reply_other es k took (Body status bytes) (ap (λ b. b && is_built_reading (body.reading bytes)) (ne_eqb status 200 n))
 
 pub targets_other : (es : List Event) (m : ℤ) (job file text : List ℕ) → is_built es (Targets m job file text) ≡ false
 unfolding is_built
@@ -184,23 +201,18 @@ pub halt_other : (es : List Event) (m : ℤ) → is_built es (Halt m) ≡ false
 unfolding is_built
 halt_other es m = refl
 
--- what holds whatever comes
-pub on_ok_always : {A E : Type 0} (r : Result A E) (P : Type 0) → P → OnOk r P
-on_ok_always (Ok a) P p = p
-on_ok_always (Err e) P p = tt
-
 -- an event keeps what a core keeps
-pub keeps : {A E : Type 0} (r : Result A E) (es fs : List Event) (e : Event) (bs cs : List Entry) (ls ks : List Life) (ss ts : List Start) → IsKept es bs ls ss →
-    OnOk r (fs ≡ journal_after es e) → OnErr r (fs ≡ es) → OnOk r (world ks ts ≡ world_of (journal_after es e)) → OnErr r (ks ≡ ls) → OnErr r (ts ≡ ss) →
-    OnOk r (cs ≡ book_of (journal_after es e)) → OnErr r (cs ≡ bs) → OnOk r (length ks ≤ 10000) → IsKept fs cs ks ts
-keeps (Ok a) es fs e bs cs ls ks ss ts kept j je s sl ss' b be f = record { state = s ∙ ap world_of (sym j); book_is = b ∙ ap book_of (sym j); few = f }
-keeps (Err x) es fs e bs cs ls ks ss ts kept j je s sl ss' b be f = record {
+pub keeps : {A E : Type 0} (r : Result A E) (es fs : List Event) (bs cs : List Entry) (ls ks : List Life) (ss ts : List Start) → IsKept es bs ls ss →
+    OnErr r (fs ≡ es) → OnOk r (world ks ts ≡ world_of fs) → OnErr r (ks ≡ ls) → OnErr r (ts ≡ ss) →
+    OnOk r (cs ≡ book_of fs) → OnErr r (cs ≡ bs) → OnOk r (length ks ≤ 100000) → IsKept fs cs ks ts
+keeps (Ok a) es fs bs cs ls ks ss ts kept je s sl ss' b be f = record { state = s; book_is = b; few = f }
+keeps (Err x) es fs bs cs ls ks ss ts kept je s sl ss' b be f = record {
   state = ap₂ world sl ss' ∙ (kept.state ∙ ap world_of (sym je));
   book_is = be ∙ (kept.book_is ∙ ap book_of (sym je));
-  few = (let P : List Life → Type 0 = λ z. length z ≤ 10000 in subst P (sym sl) kept.few);
+  few = (let P : List Life → Type 0 = λ z. length z ≤ 100000 in subst P (sym sl) kept.few);
 }
 
--- a built event is never answered that it isn't
+-- a built event is never answered that it was left
 finish_known : (w : World) (took : ℤ) (r : Reply) (f : Found) → is_not_yet (finish_answer w took r f) ≡ false
 finish_known w took r NotStarted = refl
 finish_known w took r Cancelled = refl
@@ -215,14 +227,26 @@ built_known w es (Sweep m) h = refl
 built_known w es (Finish k took r) h = finish_known w took r (found w k)
 built_known w es (Halt m) h = absurd (false≢true h)
 
-pub kinds : (es : List Event) (e : Event) → is_not_yet (answer_after es e) ≡ not (is_built es e)
-kinds es e = by_kind (is_built es e) refl
-  where
-    by_kind : (b : Bool) → is_built es e ≡ b → is_not_yet (answer_after es e) ≡ not (is_built es e)
-    by_kind true h = ap is_not_yet (built_answer es e h (world_of es) refl) ∙ (built_known (world_of es) es e h ∙ sym (ap not h))
-    by_kind false h = ap is_not_yet (left_answer es e h) ∙ sym (ap not h)
+-- what the answer tells of a step
+pub step_taken : (es : List Event) (e : Event) (a : Answer) (now : List Event) → IsStep es e a now → is_not_yet a ≡ false → IsTaken es e a now
+step_taken es e a now (inl h) n = h
+step_taken es e a now (inr h) n = absurd (false≢true (sym n ∙ ap is_not_yet h.answer_is))
 
--- as much for an answer
-pub then_kinds : {E : Type 0} (r : Result Answer E) (es : List Event) (e : Event) → IfOk r (λ a. a ≡ answer_after es e) → IfOk r (λ a. is_not_yet a ≡ not (is_built es e))
-then_kinds (Ok a) es e h = ap is_not_yet h ∙ kinds es e
-then_kinds (Err x) es e h = tt
+pub step_left : (es : List Event) (e : Event) (a : Answer) (now : List Event) → IsStep es e a now → is_not_yet a ≡ true → IsLeft es e a now
+step_left es e a now (inl h) n = absurd (false≢true (sym (built_known (world_of es) es e h.built.kind) ∙ (ap is_not_yet (sym h.answer_is) ∙ n)))
+step_left es e a now (inr h) n = h
+
+-- what is equal to one of two equal values
+pub on_ok_then : {A E X : Type 0} (r : Result A E) (x y z : X) → x ≡ y → OnOk r (z ≡ y) → OnOk r (x ≡ z)
+on_ok_then (Ok a) x y z e h = e ∙ sym h
+on_ok_then (Err q) x y z e h = tt
+
+pub if_taken : {E : Type 0} (r : Result Answer E) (es : List Event) (e : Event) (now : List Event) → IfOk r (λ a. IsStep es e a now) →
+    IfOk r (λ a. is_not_yet a ≡ false → IsTaken es e a now)
+if_taken (Ok a) es e now h = λ n. step_taken es e a now h n
+if_taken (Err x) es e now h = tt
+
+pub if_left : {E : Type 0} (r : Result Answer E) (es : List Event) (e : Event) (now : List Event) → IfOk r (λ a. IsStep es e a now) →
+    IfOk r (λ a. is_not_yet a ≡ true → IsLeft es e a now)
+if_left (Ok a) es e now h = λ n. step_left es e a now h n
+if_left (Err x) es e now h = tt

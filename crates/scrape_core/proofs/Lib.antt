@@ -1,4 +1,5 @@
-pub mod PlainLemmas
 pub mod StepLemmas
 pub mod FinishLemmas
 pub mod BuiltLemmas
+pub mod TargetLemmas
+pub mod RowLemmas

@@ -1,55 +1,123 @@
 -- The kinds of events that are built so far.
-use Rattle.std.specs.Prelude.{Bool, true, false, ◌&&◌, List, [], ◌∷◌, ◌++◌, length, ◌==◌, nat_le, is_none, is_some, Result, Ok, Err, if◌then◌else◌}
-use Rattle.std.specs.List.{list_all}
-use Rattle.scrape_core.specs.Plain.{plain_conf}
+use Rattle.std.specs.Prelude.{◌≡◌, ◌⊎◌, ℕ, ◌+◌, ⊤, Bool, true, false, ◌&&◌, List, [], ◌∷◌, ◌++◌, length, ◌==◌, nat_le, Option, Some, None, is_none, Result, Ok, Err, All, IsOkAnd}
+use Rattle.std.specs.List.{list_all, sum_by}
 use Rattle.expo_reader.specs.declared.rows.BodyRow.{BodyRow}
 use Rattle.expo_reader.specs.declared.bodies.BodyCause.{BodyCause}
-use Rattle.expo_reader.specs.Bodies.{reading}
+use Rattle.expo_reader.specs.Bodies as body
 use Rattle.outside.specs.declared.replies.Reply.{Reply}
 use Rattle.outside.specs.declared.replies.Reply.TheVariants.{Body, Lost}
+use Rattle.scrape_limits.specs.declared.limits.Limits.{Limits}
+use Rattle.scrape_config.specs.Reading as conf
+use Rattle.scrape_config.specs.declared.conf.Job.{Job}
+use Rattle.scrape_config.specs.declared.conf.Conf.{Conf}
+use Rattle.scrape_config.specs.declared.fault.ConfFault.{ConfFault}
+use Rattle.target_set.specs.Listed.{listed_count}
 use Rattle.journal_text.specs.declared.events.Event.{Event}
 use Rattle.journal_text.specs.declared.events.Event.TheVariants.{Load, Sweep, Finish}
 use Rattle.journal_text.specs.Lines.{number}
 use Rattle.scrape_core.specs.declared.answers.Answer.{Answer}
 use Rattle.scrape_core.specs.declared.answers.Answer.TheVariants.{NotYet}
-use Rattle.scrape_core.specs.Machine.{answer, world_of}
+use Rattle.scrape_core.specs.Machine.{World, answer, world_of, timeout_of}
 
 -- nothing has happened yet
 abbrev pub is_first : List Event → Bool
 is_first [] = true
 is_first (e ∷ es) = false
 
--- a row without labels and without a timestamp
-abbrev pub is_bare : BodyRow → Bool
-is_bare r = (length r.labels == 0) && is_none r.stamp
+-- no limit is set
+unfoldable pub is_unlimited : Limits → Bool
+is_unlimited l =
+    (l.sample == 0) && ((l.label == 0) && ((l.name_length == 0) && ((l.value_length == 0) && ((l.body_size == 0) && (l.target == 0)))))
 
--- a body that is faulty, or whose rows have neither labels nor a timestamp
+-- the settings of a job that are built: timestamps are honoured, and there are no rules for samples and no limits
+unfoldable pub is_built_job : Job → Bool
+is_built_job j = j.conf.honor_timestamps && ((length j.conf.metric_relabel == 0) && is_unlimited j.conf.limits)
+
+-- how many targets a job lists
+abbrev pub job_count : Job → ℕ
+job_count j = listed_count j.conf.groups
+
+-- how many targets jobs list
+abbrev pub listed_targets : List Job → ℕ
+listed_targets jobs = sum_by job_count jobs
+
+-- a job lists at most 10,000 targets
+abbrev pub is_few_job : Job → Bool
+is_few_job j = nat_le (job_count j) 10000
+
+-- each job does, and all jobs list at most 100,000
+unfoldable pub is_few : Conf → Bool
+is_few c = list_all is_few_job c.jobs && nat_le (listed_targets c.jobs) 100000
+
+-- a configuration without a fault whose settings are built and that lists no more targets
+abbrev pub is_built_conf : Result Conf ConfFault → Bool
+is_built_conf (Ok c) = list_all is_built_job c.jobs && is_few c
+is_built_conf (Err fault) = false
+
+-- a row without a timestamp
+abbrev pub is_unstamped : BodyRow → Bool
+is_unstamped r = is_none r.stamp
+
+-- a body that is faulty, or whose rows have no timestamp
 abbrev pub is_built_reading : Result (List BodyRow) BodyCause → Bool
-is_built_reading (Ok rows) = list_all is_bare rows
+is_built_reading (Ok rows) = list_all is_unstamped rows
 is_built_reading (Err e) = true
 
 -- a lost reply, or such a body with status 200
 abbrev pub is_built_reply : Reply → Bool
 is_built_reply Lost = true
-is_built_reply (Body status bytes) = (status == 200) && is_built_reading (reading bytes)
+is_built_reply (Body status bytes) = (status == 200) && is_built_reading (body.reading bytes)
 is_built_reply _ = false
 
--- after this journal the event is of a built kind: a plain load as the first event, a sweep,
--- or a finish after at most 10,000 ms of such a reply
+-- a fetch took no longer than its timeout, where it has one
+abbrev pub is_timely : Option ℕ → ℕ → Bool
+is_timely None took = true
+is_timely (Some timeout) took = nat_le took timeout
+
+-- after this journal the event is of a built kind: a load of such a configuration as the first event, a sweep, or a finish
+-- that came within the timeout of the ticket's job, with such a reply
 unfoldable pub is_built : List Event → Event → Bool
-is_built es (Load m text) = is_first es && is_some (plain_conf text)
+is_built es (Load m text) = is_first es && is_built_conf (conf.reading text)
 is_built es (Sweep m) = true
-is_built es (Finish k took r) = nat_le (number took) 10000 && is_built_reply r
+is_built es (Finish k took r) = is_timely (timeout_of (world_of es) k) (number took) && is_built_reply r
 is_built es _ = false
 
--- the answer to an event after a journal, and the journal then: what isn't built changes nothing
-abbrev pub answer_after : List Event → Event → Answer
-answer_after es e = if is_built es e then answer (world_of es) e else NotYet
+-- each pattern of a load is read
+abbrev pub HasReadPatterns : Event → Type 0
+HasReadPatterns (Load m text) = IsOkAnd (conf.reading text) (λ (c : Conf). All conf.HasPatterns c.jobs)
+HasReadPatterns _ = ⊤
 
-abbrev pub journal_after : List Event → Event → List Event
-journal_after es e = if is_built es e then es ++ e ∷ [] else es
+-- a pattern of a load may be refused: it isn't read, or it nests too deep for `regex`
+abbrev pub HasRefusedPattern : Event → Type 0
+HasRefusedPattern (Load m text) = IsOkAnd (conf.reading text) (λ (c : Conf). (place : List ℕ) × conf.IsRefusedPattern c place)
+HasRefusedPattern _ = ⊥
 
--- the answer to an event that isn't built
+-- an event that is taken is of a built kind, and its patterns are read; one that is left isn't, or a pattern of it may be refused.
+-- Both hold only of a load with a pattern that nests too deep
+pub record IsBuilt (es : List Event) (e : Event) : Type 0 where
+  pub kind : is_built es e ≡ true
+  pub patterns : HasReadPatterns e
+
+abbrev pub MayBeLeft : List Event → Event → Type 0
+MayBeLeft es e = (is_built es e ≡ false) ⊎ HasRefusedPattern e
+
+-- the event joined the journal, with the answer after it
+pub record IsTaken (es : List Event) (e : Event) (a : Answer) (now : List Event) : Type 0 where
+  pub built : IsBuilt es e
+  pub answer_is : a ≡ answer (world_of es) e
+  pub joined : now ≡ es ++ e ∷ []
+
+-- the event was left, and the journal is as before
+pub record IsLeft (es : List Event) (e : Event) (a : Answer) (now : List Event) : Type 0 where
+  pub cause : MayBeLeft es e
+  pub answer_is : a ≡ NotYet
+  pub same : now ≡ es
+
+-- what becomes of an event
+abbrev pub IsStep : List Event → Event → Answer → List Event → Type 0
+IsStep es e a now = IsTaken es e a now ⊎ IsLeft es e a now
+
+-- the answer to an event that is left
 abbrev pub is_not_yet : Answer → Bool
 is_not_yet NotYet = true
 is_not_yet _ = false

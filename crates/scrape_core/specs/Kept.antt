@@ -10,4 +10,4 @@ use Rattle.scrape_core.specs.Machine.{world, world_of, book_of}
 pub record IsKept (es : List Event) (book : List Entry) (lives : List Life) (started : List Start) : Type 0 where
   pub state : world lives started ≡ world_of es
   pub book_is : book ≡ book_of es
-  pub few : length lives ≤ 10000
+  pub few : length lives ≤ 100000

@@ -1,4 +1,3 @@
-pub mod Plain
 pub mod Sets
 pub mod Lives
 pub mod Scrapes

@@ -29,7 +29,7 @@ scanned m k l =
 
 -- the outcome of the life's scrape that took so long and got this reply
 abbrev pub outcome_for : Life → ℤ → Reply → Scrape
-outcome_for l took r = outcome l.timeout l.target (number took) r
+outcome_for l took r = outcome l.timeout l.honor l.target (number took) r
 
 -- the life after a scrape that counts: nothing is in flight, and what was tracked and known is the scrape's
 abbrev pub counted : Life → Scrape → Life

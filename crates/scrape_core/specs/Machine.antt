@@ -1,7 +1,7 @@
 -- The machine: one run forward over a plain state.
 use Rattle.std.specs.Prelude.{◌≡◌, ℕ, ◌+◌, true, false, List, [], ◌∷◌, ◌++◌, length, take, map, slice_get, slice_set, ◌==◌, ◌<◌, ℤ, Option, Some, None, if◌then◌else◌}
 use Rattle.std.specs.List.{filter}
-use Rattle.scrape_core.specs.Plain.{plain_conf}
+use Rattle.scrape_config.specs.Reading.{reading}
 use Rattle.outside.specs.declared.replies.Reply.{Reply}
 use Rattle.journal_text.specs.declared.events.Event.{Event}
 use Rattle.journal_text.specs.declared.events.Event.TheVariants.{Load, Sweep, Finish}
@@ -49,6 +49,18 @@ found_start ls k (Some s) = if s.finished then NotStarted else found_life k s.li
 abbrev pub found : World → ℕ → Found
 found w k = found_start w.lives k (slice_get w.started k)
 
+-- the timeout of the job of a ticket's scrape, where one has started
+abbrev pub timeout_of_life : Option Life → Option ℕ
+timeout_of_life None = None
+timeout_of_life (Some l) = Some l.timeout
+
+abbrev pub timeout_of_start : List Life → Option Start → Option ℕ
+timeout_of_start ls None = None
+timeout_of_start ls (Some s) = timeout_of_life (slice_get ls s.life)
+
+abbrev pub timeout_of : World → ℕ → Option ℕ
+timeout_of w k = timeout_of_start w.lives (slice_get w.started k)
+
 -- what was found is among so many lives
 abbrev pub IsWithin : ℕ → Found → Type 0
 IsWithin count NotStarted = Unit {0}
@@ -83,7 +95,7 @@ gives_from w e n (l ∷ ls) = life_gives n (local w e n l) l ++ gives_from w e (
 
 -- the lives that an event begins: a load begins one for each target of its configuration
 abbrev pub begun : Event → List Life
-begun (Load m text) = map (born (number m)) (targets_of (plain_conf text))
+begun (Load m text) = map (born (number m)) (targets_of (reading text))
 begun _ = []
 
 -- the scrape of life n that a sweep at m starts, if any

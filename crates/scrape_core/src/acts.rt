@@ -3,6 +3,7 @@ ghost use Rattle.std.specs.Prelude.{◌≡◌, ◌≤◌, ◌<◌, ◌+◌, ◌^
 ghost use Rattle.std.specs.List.{filter};
 ghost use Rattle.journal_text.specs.declared.events.Event.TheVariants.{Sweep};
 ghost use Rattle.journal_text.specs.Lines.{number, IsMoment};
+ghost use Rattle.scrape_core.specs.Built as built;
 ghost use Rattle.scrape_core.specs.Lives as lives_of;
 ghost use Rattle.scrape_core.specs.Machine as spec;
 ghost use Rattle.scrape_core.specs.Scrapes as scrapes;
@@ -150,6 +151,35 @@ pub fn found(lives: &[Life], started: &[Start], ticket: u64) -> Found
     ensures within { spec.IsWithin (length lives.now) result }
 {
     found_start(lives, ticket, started.get(ticket as usize).copied())
+}
+
+/// The timeout of the job of a ticket's scrape, where one has started.
+fn timeout_of(lives: &[Life], started: &[Start], ticket: u64) -> Option<u64>
+    ensures { result ≡ spec.timeout_of (spec.world lives.now started.now) ticket }
+{
+    match started.get(ticket as usize).copied() {
+        None => None,
+        Some(start) => timeout_of_life(lives.get(start.life as usize)),
+    }
+}
+
+fn timeout_of_life(life: Option<&Life>) -> Option<u64>
+    ensures { result ≡ spec.timeout_of_life (option_copied life.entry) }
+{
+    match life {
+        None => None,
+        Some(life) => Some(life.timeout),
+    }
+}
+
+/// Whether a fetch for a ticket took no longer than its timeout, where it has one.
+pub fn is_timely(lives: &[Life], started: &[Start], ticket: u64, took: u64) -> bool
+    ensures { result ≡ built.is_timely (spec.timeout_of (spec.world lives.now started.now) ticket) took }
+{
+    match timeout_of(lives, started, ticket) {
+        None => true,
+        Some(timeout) => took <= timeout,
+    }
 }
 
 /// The scrape with a ticket has had its finish.

@@ -25,11 +25,11 @@ pub enum Answer {
         forced: u32,
         ended: u64,
     },
-    /// The event isn't of a built kind; nothing changed.
+    /// The event was left: it isn't of a built kind, or a pattern of its configuration was refused. Nothing changed.
     NotYet,
 }
 
-/// Whether the event of an answer isn't of a built kind.
+/// Whether the event of an answer was left.
 pub fn is_not_yet(answer: &Answer) -> bool
     ensures { result ≡ built.is_not_yet answer.now }
 {

@@ -6,19 +6,19 @@
 mod acts;
 pub mod answers;
 pub mod appender_book;
+pub mod births;
+mod kinds;
 pub mod life_roll;
 pub mod machine;
 mod outcomes;
-mod plain;
-pub mod plain_conf;
 pub mod report_samples;
 pub mod rising;
 pub mod sample_rows;
 mod scrapes;
-pub mod target_set;
 
 pub use answers::{Answer, is_not_yet};
 pub use appender_book::{Book, Entry, EntryList, Kind};
+pub use kinds::listed_targets;
 pub use machine::Core;
 pub use report_samples::{Report, ReportCounts};
 pub use sample_rows::{Sample, SampleList, Scrape, ScrapeFault};

@@ -1,5 +1,7 @@
 //! Lives of targets, and the scrapes that were started.
-ghost use Rattle.std.specs.Prelude.{◌≡◌, ◌≤◌, ◌^◌};
+ghost use Rattle.std.specs.Prelude.{◌≡◌, ◌≤◌, ◌^◌, false};
+ghost use Rattle.label_conflict.specs.Merging.{bears};
+ghost use Rattle.label_set.specs.SetText.{metric_label};
 ghost use Rattle.scrape_core.specs.Targets.{interval_of};
 
 use crate::rising::RisingSets;
@@ -43,6 +45,43 @@ impl Interval {
     }
 }
 
+/// The labels of a target, which have no `__name__`; seen as their list.
+#[derive(Debug, Drop)]
+pub struct TargetLabels {
+    set: LabelSet,
+}
+
+impl Model for TargetLabels {
+    ghost use Rattle.std.specs.Prelude.{◌≡◌, List, false};
+    ghost use Rattle.label_set.specs.declared.texts.Pair.{Pair};
+    ghost use Rattle.label_set.specs.SetText.{metric_label};
+    ghost use Rattle.label_conflict.specs.Merging.{bears};
+
+    ghost Value = { List Pair };
+
+    ghost view = { λ t. t.set };
+
+    ghost invariant = { λ t. bears t.set metric_label ≡ false };
+}
+
+impl TargetLabels {
+    /// The labels of a set without `__name__`.
+    pub fn new(set: LabelSet) -> TargetLabels
+        requires { bears set metric_label ≡ false }
+        ensures { result ≡ set }
+    {
+        TargetLabels { set }
+    }
+
+    /// The set of the labels.
+    pub fn set(&self) -> &LabelSet
+        ensures value { result.now ≡ self.now }
+        ensures nameless { bears self.now metric_label ≡ false }
+    {
+        &self.set
+    }
+}
+
 /// A scrape in flight: its ticket, and the moment of its start.
 #[derive(Clone, Copy, Debug, PartialEq, Eq)]
 pub struct Flight {
@@ -54,7 +93,9 @@ pub struct Flight {
 #[derive(Debug, Drop)]
 pub struct Life {
     /// The target's labels.
-    pub target: LabelSet,
+    pub target: TargetLabels,
+    /// Whether an exposed label stands before the target's label of the same name.
+    pub honor: bool,
     pub interval: Interval,
     /// The scrape timeout in milliseconds.
     pub timeout: u64,

@@ -6,33 +6,31 @@ ghost use Rattle.journal_text.specs.declared.events.Event.{Event};
 ghost use Rattle.journal_text.specs.declared.events.Event.TheVariants.{Load, Sweep, Finish};
 ghost use Rattle.journal_text.specs.Lines.{number, IsMoment};
 ghost use Rattle.journal_text.specs.Events.{IsInLimits, HasNames, MayFollow, now_of};
-ghost use Rattle.std.specs.Prelude.{List, IfSome, Ok, Err, pos, not};
-ghost use Rattle.std.specs.List.{list_all};
+ghost use Rattle.std.specs.Prelude.{List, All, IfSome, Ok, Err, pos, true, false};
 ghost use Rattle.expo_reader.specs.declared.bodies.BodyCause.TheVariants.{Line};
 ghost use Rattle.scrape_core.specs.declared.life_roll.Start.{Start};
 ghost use Rattle.scrape_core.specs.declared.life_roll.Found.TheVariants.{Counts};
-ghost use Rattle.scrape_core.specs.declared.answers.Answer.TheVariants.{NotYet};
 ghost use Rattle.scrape_core.specs.Built as built;
 ghost use Rattle.scrape_core.specs.Lives.{outcome_for};
 ghost use Rattle.scrape_core.specs.Machine as spec;
 ghost use Rattle.scrape_core.specs.Scrapes as scrapes;
 
 use crate::acts::{
-    count_starts, fault_in, finish, found, moment_number, settle, starts_of, sweep_lives,
+    count_starts, fault_in, finish, found, is_timely, moment_number, settle, starts_of, sweep_lives,
 };
 use crate::answers::Answer;
 use crate::appender_book::Book;
+use crate::births::lives_of;
+use crate::kinds::{are_unstamped, is_built_conf};
 use crate::life_roll::{Found, Life, Start};
 use crate::outcomes::{faulty_scrape, read_scrape};
-use crate::plain::read_plain;
-use crate::plain_conf::PlainError;
 use crate::sample_rows::{Scrape, ScrapeFault};
 use crate::scrapes::{Counted, count};
-use crate::target_set::lives_of;
 use expo_reader::{BodyCause, BodyRow, ReadBody, read_body};
 use journal_text::{Event, Journal};
 use label_set::{Blob, NoMemory, Steps};
 use outside::Reply;
+use scrape_config::{ConfError, read_conf};
 use std::alloc::Global;
 use std::marker::Model;
 use std::sync::ledger::Ledger;
@@ -48,7 +46,7 @@ fn take_sweep(
 ) -> Result<Answer, NoMemory>
     requires limits { IsMoment moment }
     requires order { MayFollow (now_of journal.old.events) (Sweep moment) }
-    requires few { length lives.old.items ≤ 10000 }
+    requires few { length lives.old.items ≤ 100000 }
     ensures answer { IfOk result (λ a. a ≡ spec.answer (spec.world lives.old.items started.old.items) (Sweep moment)) }
     ensures world { OnOk result (spec.world lives.new.items started.new.items ≡ spec.step (spec.world lives.old.items started.old.items) (Sweep moment)) }
     ensures journal { OnOk result (journal.new.events ≡ journal.old.events ++ Sweep moment ∷ []) }
@@ -84,13 +82,13 @@ fn take_load(
 ) -> Result<Answer, NoMemory>
     requires limits { IsInLimits (Load moment text) }
     requires order { MayFollow (now_of journal.old.events) (Load moment text) }
-    requires few { length begun.items ≤ 10000 }
+    requires few { length begun.items ≤ 100000 }
     requires none { lives.old.items ≡ [] }
     requires begun { begun.items ≡ spec.begun (Load moment text) }
     ensures answer { (ss : List Start) → IfOk result (λ a. a ≡ spec.answer (spec.world lives.old.items ss) (Load moment text)) }
     ensures world { (ss : List Start) → OnOk result (spec.world lives.new.items ss ≡ spec.step (spec.world lives.old.items ss) (Load moment text)) }
     ensures journal { OnOk result (journal.new.events ≡ journal.old.events ++ Load moment text ∷ []) }
-    ensures few { OnOk result (length lives.new.items ≤ 10000) }
+    ensures few { OnOk result (length lives.new.items ≤ 100000) }
     ensures err_lives { OnErr result (lives.new.items ≡ lives.old.items) }
     ensures err { OnErr result (journal.new.events ≡ journal.old.events) }
 {
@@ -261,6 +259,7 @@ fn take_read(
     requires limits { IsInLimits (Finish ticket took (Body 200 body.bytes)) }
     requires took { IsMoment took }
     requires read { reading body.bytes ≡ Ok body.rows }
+    requires fit { All scrapes.IsFit body.rows }
     ensures answer { IfOk result (λ a. a ≡ spec.answer (spec.world lives.old started.old) (Finish ticket took (Body 200 body.bytes))) }
     ensures world { OnOk result (spec.world lives.new started.new ≡ spec.step (spec.world lives.old started.old) (Finish ticket took (Body 200 body.bytes))) }
     ensures book { OnOk result (book.new.entries ≡ book.old.entries ++ spec.gives (spec.world lives.old started.old) (Finish ticket took (Body 200 body.bytes))) }
@@ -365,10 +364,18 @@ fn reply_of(body: ReadBody) -> Reply
 
 /// The outcome of a life's scrape whose body has these rows.
 fn scrape_of(alloc: Global, life: &Life, took: i64, rows: &[BodyRow]) -> Result<Scrape, NoMemory>
-    requires { IsMoment took }
-    ensures { IfOk result (λ s. s ≡ scrapes.read_scrape life.now.timeout life.now.target (number took) rows.now) }
+    requires took { IsMoment took }
+    requires fit { All scrapes.IsFit rows.now }
+    ensures { IfOk result (λ s. s ≡ scrapes.read_scrape life.now.timeout life.now.honor life.now.target (number took) rows.now) }
 {
-    read_scrape(alloc, life.timeout, &life.target, moment_number(took), rows)
+    read_scrape(
+        alloc,
+        life.timeout,
+        life.honor,
+        &life.target,
+        moment_number(took),
+        rows,
+    )
 }
 
 /// The outcome of a life's scrape whose body has its first faulty line at this number.
@@ -379,43 +386,40 @@ fn faulty_of(life: &Life, took: i64, line: u64) -> Scrape
     faulty_scrape(life.timeout, moment_number(took), line)
 }
 
-/// Whether each row has neither labels nor a timestamp.
-fn are_bare(rows: &[BodyRow]) -> bool
-    ensures { result ≡ list_all built.is_bare rows.now }
-{
-    rows.iter().all(|row| row.labels.as_slice().is_empty() && row.stamp.is_none())
-}
-
-/// A load after a journal: it is taken where it is plain, and the first event.
-fn on_load(
+/// A load after a journal: it is taken where its configuration is built, and it is the first event.
+fn on_load<L: Ledger>(
     alloc: Global,
     journal: &mut Journal,
     lives: &mut Vec<Life>,
     started: &[Start],
     moment: i64,
     text: Blob,
+    steps: &mut Steps<L>,
 ) -> Result<Answer, NoMemory>
     requires limits { IsInLimits (Load moment text) }
     requires order { MayFollow (now_of journal.old.events) (Load moment text) }
     requires state { spec.world lives.old.items started.now ≡ spec.world_of journal.old.events }
-    requires few { length lives.old.items ≤ 10000 }
-    ensures answer { IfOk result (λ a. a ≡ built.answer_after journal.old.events (Load moment text)) }
-    ensures world { OnOk result (spec.world lives.new.items started.now ≡ spec.world_of (built.journal_after journal.old.events (Load moment text))) }
-    ensures journal { OnOk result (journal.new.events ≡ built.journal_after journal.old.events (Load moment text)) }
-    ensures few { OnOk result (length lives.new.items ≤ 10000) }
+    requires few { length lives.old.items ≤ 100000 }
+    ensures step { IfOk result (λ a. built.IsStep journal.old.events (Load moment text) a journal.new.events) }
+    ensures world { OnOk result (spec.world lives.new.items started.now ≡ spec.world_of journal.new.events) }
+    ensures book { OnOk result (spec.book_of journal.new.events ≡ spec.book_of journal.old.events) }
+    ensures few { OnOk result (length lives.new.items ≤ 100000) }
     ensures err_lives { OnErr result (lives.new.items ≡ lives.old.items) }
     ensures err { OnErr result (journal.new.events ≡ journal.old.events) }
 {
     if !journal.is_empty() {
         return Ok(Answer::NotYet);
     }
-    match read_plain(alloc, text.as_slice()) {
+    match read_conf(alloc, text.as_slice()) {
         Ok(conf) => {
-            let begun = lives_of(alloc, moment_number(moment), &conf)?;
+            if !is_built_conf(&conf) {
+                return Ok(Answer::NotYet);
+            }
+            let begun = lives_of(alloc, moment_number(moment), &conf, steps)?;
             take_load(journal, lives, moment, text, begun)
         }
-        Err(PlainError::NotYet) => Ok(Answer::NotYet),
-        Err(PlainError::NoMemory) => Err(NoMemory),
+        Err(ConfError::Bad(_)) => Ok(Answer::NotYet),
+        Err(ConfError::NoMemory) => Err(NoMemory),
     }
 }
 
@@ -430,11 +434,11 @@ fn on_sweep(
     requires limits { IsMoment moment }
     requires order { MayFollow (now_of journal.old.events) (Sweep moment) }
     requires state { spec.world lives.old.items started.old.items ≡ spec.world_of journal.old.events }
-    requires few { length lives.old.items ≤ 10000 }
-    ensures answer { IfOk result (λ a. a ≡ built.answer_after journal.old.events (Sweep moment)) }
-    ensures world { OnOk result (spec.world lives.new.items started.new.items ≡ spec.world_of (built.journal_after journal.old.events (Sweep moment))) }
-    ensures journal { OnOk result (journal.new.events ≡ built.journal_after journal.old.events (Sweep moment)) }
-    ensures few { OnOk result (length lives.new.items ≤ 10000) }
+    requires few { length lives.old.items ≤ 100000 }
+    ensures step { IfOk result (λ a. built.IsStep journal.old.events (Sweep moment) a journal.new.events) }
+    ensures world { OnOk result (spec.world lives.new.items started.new.items ≡ spec.world_of journal.new.events) }
+    ensures book { OnOk result (spec.book_of journal.new.events ≡ spec.book_of journal.old.events) }
+    ensures few { OnOk result (length lives.new.items ≤ 100000) }
     ensures err_lives { OnErr result (lives.new.items ≡ lives.old.items) }
     ensures err_started { OnErr result (started.new.items ≡ started.old.items) }
     ensures err { OnErr result (journal.new.events ≡ journal.old.events) }
@@ -442,7 +446,7 @@ fn on_sweep(
     take_sweep(alloc, journal, lives, started, moment)
 }
 
-/// A lost reply after a journal: it is taken where it took at most 10,000 ms.
+/// A lost reply after a journal: it is taken where it came within its timeout.
 fn on_lost(
     alloc: Global,
     journal: &mut Journal,
@@ -456,22 +460,21 @@ fn on_lost(
     requires took { IsMoment took }
     requires state { spec.world lives.old started.old ≡ spec.world_of journal.old.events }
     requires book { book.old.entries ≡ spec.book_of journal.old.events }
-    ensures answer { IfOk result (λ a. a ≡ built.answer_after journal.old.events (Finish ticket took Lost)) }
-    ensures world { OnOk result (spec.world lives.new started.new ≡ spec.world_of (built.journal_after journal.old.events (Finish ticket took Lost))) }
-    ensures book { OnOk result (book.new.entries ≡ spec.book_of (built.journal_after journal.old.events (Finish ticket took Lost))) }
-    ensures journal { OnOk result (journal.new.events ≡ built.journal_after journal.old.events (Finish ticket took Lost)) }
+    ensures step { IfOk result (λ a. built.IsStep journal.old.events (Finish ticket took Lost) a journal.new.events) }
+    ensures world { OnOk result (spec.world lives.new started.new ≡ spec.world_of journal.new.events) }
+    ensures book { OnOk result (book.new.entries ≡ spec.book_of journal.new.events) }
     ensures err_lives { OnErr result (lives.new ≡ lives.old) }
     ensures err_started { OnErr result (started.new ≡ started.old) }
     ensures err_book { OnErr result (book.new.entries ≡ book.old.entries) }
     ensures err { OnErr result (journal.new.events ≡ journal.old.events) }
 {
-    if moment_number(took) > 10_000 {
+    if !is_timely(lives, started, ticket, moment_number(took)) {
         return Ok(Answer::NotYet);
     }
     take_lost(alloc, journal, book, lives, started, ticket, took)
 }
 
-/// A body after a journal: it is taken where it has status 200, took at most 10,000 ms, and is faulty or has rows without labels and timestamps alone.
+/// A body after a journal: it is taken where it came within its timeout, has status 200, and is faulty or has rows without timestamps alone.
 fn on_body(
     alloc: Global,
     journal: &mut Journal,
@@ -487,16 +490,15 @@ fn on_body(
     requires took { IsMoment took }
     requires state { spec.world lives.old started.old ≡ spec.world_of journal.old.events }
     requires book { book.old.entries ≡ spec.book_of journal.old.events }
-    ensures answer { IfOk result (λ a. a ≡ built.answer_after journal.old.events (Finish ticket took (Body status bytes))) }
-    ensures world { OnOk result (spec.world lives.new started.new ≡ spec.world_of (built.journal_after journal.old.events (Finish ticket took (Body status bytes)))) }
-    ensures book { OnOk result (book.new.entries ≡ spec.book_of (built.journal_after journal.old.events (Finish ticket took (Body status bytes)))) }
-    ensures journal { OnOk result (journal.new.events ≡ built.journal_after journal.old.events (Finish ticket took (Body status bytes))) }
+    ensures step { IfOk result (λ a. built.IsStep journal.old.events (Finish ticket took (Body status bytes)) a journal.new.events) }
+    ensures world { OnOk result (spec.world lives.new started.new ≡ spec.world_of journal.new.events) }
+    ensures book { OnOk result (book.new.entries ≡ spec.book_of journal.new.events) }
     ensures err_lives { OnErr result (lives.new ≡ lives.old) }
     ensures err_started { OnErr result (started.new ≡ started.old) }
     ensures err_book { OnErr result (book.new.entries ≡ book.old.entries) }
     ensures err { OnErr result (journal.new.events ≡ journal.old.events) }
 {
-    if moment_number(took) > 10_000 {
+    if !is_timely(lives, started, ticket, moment_number(took)) {
         return Ok(Answer::NotYet);
     }
     if status != 200 {
@@ -504,7 +506,7 @@ fn on_body(
     }
     match read_body(alloc, bytes) {
         Ok(body) => {
-            if !are_bare(body.rows()) {
+            if !are_unstamped(body.rows()) {
                 return Ok(Answer::NotYet);
             }
             take_read(alloc, journal, book, lives, started, ticket, took, body)
@@ -540,10 +542,9 @@ fn on_finish(
     requires limits { IsInLimits (Finish ticket took reply) }
     requires state { spec.world lives.old started.old ≡ spec.world_of journal.old.events }
     requires book { book.old.entries ≡ spec.book_of journal.old.events }
-    ensures answer { IfOk result (λ a. a ≡ built.answer_after journal.old.events (Finish ticket took reply)) }
-    ensures world { OnOk result (spec.world lives.new started.new ≡ spec.world_of (built.journal_after journal.old.events (Finish ticket took reply))) }
-    ensures book { OnOk result (book.new.entries ≡ spec.book_of (built.journal_after journal.old.events (Finish ticket took reply))) }
-    ensures journal { OnOk result (journal.new.events ≡ built.journal_after journal.old.events (Finish ticket took reply)) }
+    ensures step { IfOk result (λ a. built.IsStep journal.old.events (Finish ticket took reply) a journal.new.events) }
+    ensures world { OnOk result (spec.world lives.new started.new ≡ spec.world_of journal.new.events) }
+    ensures book { OnOk result (book.new.entries ≡ spec.book_of journal.new.events) }
     ensures err_lives { OnErr result (lives.new ≡ lives.old) }
     ensures err_started { OnErr result (started.new ≡ started.old) }
     ensures err_book { OnErr result (book.new.entries ≡ book.old.entries) }
@@ -561,31 +562,33 @@ fn on_finish(
 }
 
 /// An event after a journal.
-fn on_event(
+fn on_event<L: Ledger>(
     alloc: Global,
     journal: &mut Journal,
     book: &mut Book,
     lives: &mut Vec<Life>,
     started: &mut Vec<Start>,
     event: Event,
+    steps: &mut Steps<L>,
 ) -> Result<Answer, NoMemory>
     requires limits { IsInLimits event }
     requires order { MayFollow (now_of journal.old.events) event }
     requires state { spec.world lives.old.items started.old.items ≡ spec.world_of journal.old.events }
     requires book { book.old.entries ≡ spec.book_of journal.old.events }
-    requires few { length lives.old.items ≤ 10000 }
-    ensures answer { IfOk result (λ a. a ≡ built.answer_after journal.old.events event) }
-    ensures world { OnOk result (spec.world lives.new.items started.new.items ≡ spec.world_of (built.journal_after journal.old.events event)) }
-    ensures book { OnOk result (book.new.entries ≡ spec.book_of (built.journal_after journal.old.events event)) }
-    ensures journal { OnOk result (journal.new.events ≡ built.journal_after journal.old.events event) }
-    ensures few { OnOk result (length lives.new.items ≤ 10000) }
+    requires few { length lives.old.items ≤ 100000 }
+    ensures step { IfOk result (λ a. built.IsStep journal.old.events event a journal.new.events) }
+    ensures world { OnOk result (spec.world lives.new.items started.new.items ≡ spec.world_of journal.new.events) }
+    ensures book { OnOk result (book.new.entries ≡ spec.book_of journal.new.events) }
+    ensures few { OnOk result (length lives.new.items ≤ 100000) }
     ensures err_lives { OnErr result (lives.new.items ≡ lives.old.items) }
     ensures err_started { OnErr result (started.new.items ≡ started.old.items) }
     ensures err_book { OnErr result (book.new.entries ≡ book.old.entries) }
     ensures err { OnErr result (journal.new.events ≡ journal.old.events) }
 {
     match event {
-        Event::Load { moment, text } => on_load(alloc, journal, lives, started, moment, text),
+        Event::Load { moment, text } => {
+            on_load(alloc, journal, lives, started, moment, text, steps)
+        }
         Event::Sweep { moment } => on_sweep(alloc, journal, lives, started, moment),
         Event::Finish {
             ticket,
@@ -640,19 +643,19 @@ impl Core {
     }
 
     /// Takes an event: the answer is the defined one after the journal, which then ends with the event, and the book is that of the new journal.
-    /// `NotYet` comes exactly where the event isn't of a built kind, and then the journal stays. After a refusal the event is dropped and the core as before.
+    /// `NotYet` comes only where the event isn't of a built kind, or a pattern of its configuration may be refused, and then the journal stays.
+    /// After a refusal the event is dropped and the core as before.
     /// The moment is at least `now`, and the event keeps the limits of a journal's events.
     pub fn step<L: Ledger>(
         &mut self,
         alloc: Global,
         event: Event,
-        _steps: &mut Steps<L>,
+        steps: &mut Steps<L>,
     ) -> Result<Answer, NoMemory>
         requires limits { IsInLimits event }
         requires order { MayFollow (now_of self.old) event }
-        ensures answer { IfOk result (λ a. a ≡ built.answer_after self.old event) }
-        ensures not_yet { IfOk result (λ a. built.is_not_yet a ≡ not (built.is_built self.old event)) }
-        ensures journal { OnOk result (self.new ≡ built.journal_after self.old event) }
+        ensures taken { IfOk result (λ a. built.is_not_yet a ≡ false → built.IsTaken self.old event a self.new) }
+        ensures not_yet { IfOk result (λ a. built.is_not_yet a ≡ true → built.IsLeft self.old event a self.new) }
         ensures err { OnErr result (self.new ≡ self.old) }
     {
         on_event(
@@ -662,6 +665,7 @@ impl Core {
             &mut self.lives,
             &mut self.started,
             event,
+            steps,
         )
     }
 

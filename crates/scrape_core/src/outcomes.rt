@@ -1,32 +1,51 @@
 //! What a scrape comes to.
-ghost use Rattle.std.specs.Prelude.{◌≡◌, map, IfOk};
+ghost use Rattle.std.specs.Prelude.{◌≡◌, map, All, IfOk};
 ghost use Rattle.scrape_core.specs.Scrapes as spec;
 ghost use Rattle.scrape_core.specs.Sets.{rising};
 
-use crate::report_samples::with_name;
+use crate::life_roll::TargetLabels;
 use crate::rising::RisingSets;
 use crate::sample_rows::{Sample, SampleList, Scrape, ScrapeFault};
 use expo_reader::BodyRow;
-use label_set::{LabelSet, NoMemory};
+use label_conflict::merge;
+use label_set::NoMemory;
 use std::alloc::Global;
 
-fn sample_of(alloc: Global, target: &LabelSet, row: &BodyRow) -> Result<Sample, NoMemory>
-    ensures { IfOk result (λ s. s ≡ spec.sample_of target.now row.now) }
+fn sample_of(
+    alloc: Global,
+    honor: bool,
+    target: &TargetLabels,
+    row: &BodyRow,
+) -> Result<Sample, NoMemory>
+    requires { spec.IsFit row.now }
+    ensures { IfOk result (λ s. s ≡ spec.sample_of honor target.now row.now) }
 {
     Ok(Sample {
-        set: with_name(alloc, target, row.name.as_str())?,
+        set: merge(
+            alloc,
+            row.name.as_str(),
+            row.labels.as_slice(),
+            target.set(),
+            honor,
+        )?,
         value: row.value.copy(alloc)?,
         stamp: row.stamp,
     })
 }
 
-/// The samples of rows without labels, for a target.
-fn samples_of(alloc: Global, target: &LabelSet, rows: &[BodyRow]) -> Result<Vec<Sample>, NoMemory>
-    ensures { IfOk result (λ v. v.items ≡ map (spec.sample_of target.now) rows.now) }
+/// The samples of rows, for a target.
+fn samples_of(
+    alloc: Global,
+    honor: bool,
+    target: &TargetLabels,
+    rows: &[BodyRow],
+) -> Result<Vec<Sample>, NoMemory>
+    requires { All spec.IsFit rows.now }
+    ensures { IfOk result (λ v. v.items ≡ map (spec.sample_of honor target.now) rows.now) }
 {
     let mut samples = Vec::with_capacity(alloc, rows.len())?;
     for row in rows {
-        let sample = sample_of(alloc, target, row)?;
+        let sample = sample_of(alloc, honor, target, row)?;
         samples.reserve(1)?;
         samples.push_reserved(sample);
     }
@@ -37,11 +56,13 @@ fn samples_of(alloc: Global, target: &LabelSet, rows: &[BodyRow]) -> Result<Vec<
 pub fn read_scrape(
     alloc: Global,
     timeout: u64,
-    target: &LabelSet,
+    honor: bool,
+    target: &TargetLabels,
     took: u64,
     rows: &[BodyRow],
 ) -> Result<Scrape, NoMemory>
-    ensures { IfOk result (λ s. s ≡ spec.read_scrape timeout target.now took rows.now) }
+    requires { All spec.IsFit rows.now }
+    ensures { IfOk result (λ s. s ≡ spec.read_scrape timeout honor target.now took rows.now) }
 {
     if timeout < took {
         return Ok(Scrape::Bad {
@@ -52,7 +73,7 @@ pub fn read_scrape(
     }
     Ok(Scrape::Good {
         rows: SampleList {
-            items: samples_of(alloc, target, rows)?,
+            items: samples_of(alloc, honor, target, rows)?,
         },
         scraped: rows.len() as u64,
     })

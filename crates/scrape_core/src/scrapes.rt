@@ -118,7 +118,7 @@ fn entries_of(
     ensures { IfOk result (λ l. l ≡ scrape_of_life number life.now scrape.now moment took) }
 {
     let counts = counts_of(scrape, took, all, &life.known);
-    let mut last = reports(alloc, number, &life.target, moment, &counts)?;
+    let mut last = reports(alloc, number, life.target.set(), moment, &counts)?;
     let samples = samples_in(scrape);
     let mut items = Vec::with_capacity(alloc, samples.len())?;
     push_samples(alloc, &mut items, number, moment, samples)?;

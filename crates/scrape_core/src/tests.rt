@@ -3,10 +3,8 @@ ghost use Rattle.journal_text.specs.Lines.{IsMoment, IsStatus};
 
 use super::*;
 use crate::life_roll::Interval;
-use crate::plain::read_plain;
 use crate::report_samples::{report_set, reports, with_name};
 use crate::rising::RisingSets;
-use crate::target_set::{lives_of, target_labels};
 use journal_text::Event;
 use label_set::{Blob, LabelSet, NoMemory, Steps};
 use outside::Reply;
@@ -145,7 +143,7 @@ fn nothing_unbuilt_is_taken<L: Ledger>(
     let kept = core.events();
     assert_eq!(rt; load(alloc, core, steps, 0)?, Answer::NotYet);
     assert_eq!(rt;
-        body(alloc, core, steps, 15, 200, "x{a=\"b\"} 1\n")?,
+        body(alloc, core, steps, 15, 200, "x 1 5\n")?,
         Answer::NotYet
     );
     assert_eq!(rt; body(alloc, core, steps, 15, 404, "")?, Answer::NotYet);
@@ -227,8 +225,20 @@ fn one_load_then_a_lost_reply(rt: HostRuntime) -> Result<(), Fail> {
     Ok(())
 }
 
+/// The labels of the target `a:1` of a job `j`.
+fn target(alloc: Global) -> Result<LabelSet, NoMemory> {
+    let mut set = LabelSet::empty();
+    for (name, value) in [("instance", "a:1"), ("job", "j")] {
+        match set.with(alloc, name, value) {
+            Ok(next) => set = next,
+            Err(_) => return Err(NoMemory),
+        }
+    }
+    Ok(set)
+}
+
 fn series(alloc: Global, name: &str) -> Result<LabelSet, NoMemory> {
-    with_name(alloc, &target_labels(alloc, "j", "a:1")?, name)
+    with_name(alloc, &target(alloc)?, name)
 }
 
 #[test]
@@ -252,7 +262,7 @@ fn sets_rise(rt: HostRuntime) -> Result<(), Fail> {
 #[test]
 fn book_keeps_what_is_appended(rt: HostRuntime) -> Result<(), Fail> {
     let alloc = rt.alloc();
-    let target = target_labels(alloc, "j", "a:1")?;
+    let target = target(alloc)?;
     let mut book = Book::new(alloc)?;
     book.reserve(1)?;
     book.append(Entry {
@@ -279,24 +289,9 @@ fn book_keeps_what_is_appended(rt: HostRuntime) -> Result<(), Fail> {
 }
 
 #[test]
-fn a_life_begins_for_a_target(rt: HostRuntime) -> Result<(), Fail> {
-    let alloc = rt.alloc();
+fn an_interval_keeps_its_limits(rt: HostRuntime) -> Result<(), Fail> {
     for (ms, want) in [(0, 1), (15_000, 15_000), (u64::MAX, 1_099_511_627_776)] {
         assert_eq!(rt; Interval::new(ms).ms(), want);
     }
-    let Ok(conf) = read_plain(alloc, CONF) else {
-        panic!(rt; "not read");
-    };
-    let lives = lives_of(alloc, 7, &conf)?;
-    assert_eq!(rt; lives.len(), 1);
-    let life = &lives[0];
-    assert!(rt; life.target == target_labels(alloc, "j", "a:1")?);
-    assert_eq!(rt;
-        (life.interval.ms(), life.timeout, life.planned),
-        (60_000, 10_000, 7)
-    );
-    assert!(rt;
-        life.flight.is_none() && life.tracked.as_slice().is_empty() && life.known.len() == 0
-    );
     Ok(())
 }

@@ -1,8 +1,7 @@
-use Rattle.std.proofs.Common.{◌≡◌, ◌++◌, ◌∷◌, [], List, Bool, true, false, not, reverse, sym, ap, ◌∙◌, cond}
+use Rattle.std.proofs.Common.{◌++◌, [], List, reverse, sym, ap, subst, ◌∙◌}
 use Rattle.journal_text.specs.declared.events.Event.{Event}
-use Rattle.scrape_core.specs.Built.{is_built, journal_after}
-use Rattle.scrape_cli.specs.Scripts.{all_built}
-use Rattle.scrape_cli.proofs.ScriptLemmas.{next_event, after_next, next_fits, next_unbuilt, built_more, not_true, not_false}
+use Rattle.scrape_cli.specs.Scripts.{AreBuilt}
+use Rattle.scrape_cli.proofs.ScriptLemmas.{next_event, after_next, next_fits, next_left, built_more}
 use Rattle.scrape_cli.proofs.replays.stepped.Goals as goal
 
 pub step-requires-clause-limits : goal.step-requires-clause-limits
@@ -18,17 +17,14 @@ step-requires-clause-order g c =
 pub returns-then-is_not_yet-clause-not_yet : goal.returns-then-is_not_yet-clause-not_yet
 returns-then-is_not_yet-clause-not_yet g c e =
     let n = next_event c.args.journal.events c.loop-event.core c.in-Some.event c.loop-event.events.items c.pop.new.self.items c.loop-event.invariant.whole c.in-Some.ensures.items in
-    let kind : not (is_built c.loop-event.core c.in-Some.event) ≡ true = sym c.in_ok-answer.ensures.not_yet ∙ (sym c.is_not_yet.ensures ∙ c.if-is_not_yet.true) in
-    next_unbuilt c.args.journal.events c.loop-event.core c.in-Some.event c.pop.new.self.items n (not_true _ kind)
+    let step = c.in_ok-answer.ensures.not_yet (sym c.is_not_yet.ensures ∙ c.if-is_not_yet.true) in
+    next_left c.args.journal.events c.loop-event.core c.in-Some.event c.pop.new.self.items n step.cause
 
 pub loop-event-preserved : goal.loop-event-preserved
 loop-event-preserved g c =
     let n = next_event c.args.journal.events c.loop-event.core c.in-Some.event c.loop-event.events.items c.pop.new.self.items c.loop-event.invariant.whole c.in-Some.ensures.items in
-    let kind : not (is_built c.loop-event.core c.in-Some.event) ≡ false = sym c.in_ok-answer.ensures.not_yet ∙ (sym c.is_not_yet.ensures ∙ c.if-is_not_yet.false) in
-    let built = not_false _ kind in
-    let joined : c.step.new.self ≡ c.loop-event.core ++ c.in-Some.event ∷ [] =
-    c.in_ok-answer.ensures.journal ∙ ap (λ b. cond b (c.loop-event.core ++ c.in-Some.event ∷ []) c.loop-event.core) built in
+    let step = c.in_ok-answer.ensures.taken (sym c.is_not_yet.ensures ∙ c.if-is_not_yet.false) in
     record {
-      whole = ap (λ (z : List Event). z ++ reverse c.pop.new.self.items) joined ∙ after_next c.args.journal.events c.loop-event.core c.in-Some.event c.pop.new.self.items n;
-      built = ap (λ (z : List Event). all_built [] z) joined ∙ built_more c.loop-event.core c.in-Some.event c.loop-event.invariant.built built;
+      whole = ap (λ (z : List Event). z ++ reverse c.pop.new.self.items) step.joined ∙ after_next c.args.journal.events c.loop-event.core c.in-Some.event c.pop.new.self.items n;
+      built = subst (AreBuilt []) (sym step.joined) (built_more c.loop-event.core c.in-Some.event c.loop-event.invariant.built step.built);
     }

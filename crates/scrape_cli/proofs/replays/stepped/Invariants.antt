@@ -1,12 +1,12 @@
-use Rattle.std.proofs.Common.{◌≡◌, ◌++◌, [], true, vec_len}
+use Rattle.std.proofs.Common.{◌≡◌, ◌++◌, [], vec_len}
 use Rattle.std.specs.Prelude.{reverse}
-use Rattle.scrape_cli.specs.Scripts.{all_built}
+use Rattle.scrape_cli.specs.Scripts.{AreBuilt}
 use Rattle.scrape_cli.proofs.replays.stepped.Given as goal
 
 abbrev pub invariant-loop-event : goal.invariant-loop-event
 invariant-loop-event g l = record {
   whole : l.core ++ reverse l.events.items ≡ l.fn.journal.events;
-  built : all_built [] l.core ≡ true;
+  built : AreBuilt [] l.core;
 }
 
 abbrev pub decreases-loop-event : goal.decreases-loop-event

@@ -1,53 +1,40 @@
-use Rattle.std.proofs.Common.{◌++◌, ◌∷◌, [], sym, ap, ◌∙◌, w64}
-use Rattle.std.specs.Prelude.{Err}
+use Rattle.std.proofs.Common.{◌≡◌, true, false, sym, ap, ◌∙◌, w64}
 use Rattle.std.proofs.lemmas.Int.{to_z-of_z}
+use Rattle.std.specs.Prelude.{Ok}
 use Rattle.journal_text.specs.declared.events.Event.TheVariants.{Load}
-use Rattle.scrape_core.specs.Plain.{plain_conf}
-use Rattle.scrape_core.specs.Machine.{world, answer, step, world_of}
-use Rattle.scrape_core.proofs.BuiltLemmas.{load_built, load_other, load_late, left_answer, left_journal, built_answer, built_world, built_journal, then_answer, then_is, few_lives, no_events}
+use Rattle.scrape_config.specs.Reading.{reading}
+use Rattle.scrape_core.specs.Built.{is_built_conf}
+use Rattle.scrape_core.specs.Machine.{world}
+use Rattle.scrape_core.proofs.BuiltLemmas.{load_built, load_other, load_late, load_cause, load_silent, left, left_kind, taken, taken_world, taken_silent, no_events}
+use Rattle.scrape_core.proofs.TargetLemmas.{built_few, few_lives}
 use Rattle.scrape_core.proofs.machine.on_load.Goals as goal
 
-pub returns-then-not-is_empty-clause-answer : goal.returns-then-not-is_empty-clause-answer
-returns-then-not-is_empty-clause-answer c = let unbuilt = load_late c.args.journal.now.events c.args.moment c.args.text (sym c.is_empty.ensures ∙ c.if-not-is_empty.true) in sym (left_answer c.args.journal.now.events (Load c.args.moment c.args.text) unbuilt)
+pub returns-then-not-is_empty-clause-step : goal.returns-then-not-is_empty-clause-step
+returns-then-not-is_empty-clause-step g c = left_kind _ _ (load_late c.args.journal.now.events c.args.moment c.args.text (sym c.is_empty.ensures ∙ c.if-not-is_empty.true))
 
-pub returns-then-not-is_empty-clause-world : goal.returns-then-not-is_empty-clause-world
-returns-then-not-is_empty-clause-world c = let unbuilt = load_late c.args.journal.now.events c.args.moment c.args.text (sym c.is_empty.ensures ∙ c.if-not-is_empty.true) in c.requires.state ∙ ap world_of (sym (left_journal c.args.journal.now.events (Load c.args.moment c.args.text) unbuilt))
+pub returns-then-not-is_built_conf-clause-step : goal.returns-then-not-is_built_conf-clause-step
+returns-then-not-is_built_conf-clause-step g c =
+    left_kind _ _ (load_other c.args.journal.now.events c.args.moment c.args.text c.in-Ok.conf (ap reading (sym c.as_slice.ensures) ∙ c.in-Ok.ensures.read)
+    (sym c.is_built_conf.ensures ∙ c.if-not-is_built_conf.true))
 
-pub returns-then-not-is_empty-clause-journal : goal.returns-then-not-is_empty-clause-journal
-returns-then-not-is_empty-clause-journal c = let unbuilt = load_late c.args.journal.now.events c.args.moment c.args.text (sym c.is_empty.ensures ∙ c.if-not-is_empty.true) in sym (left_journal c.args.journal.now.events (Load c.args.moment c.args.text) unbuilt)
+pub returns-in-Err-Bad-clause-step : goal.returns-in-Err-Bad-clause-step
+returns-in-Err-Bad-clause-step g c =
+    left _ _ (load_cause c.args.journal.now.events c.args.moment c.args.text c.as_slice.result.now c.as_slice.ensures c.in-Err-Bad.field-0 _ c.in-Err-Bad.field-0-is c.in-Err-Bad.ensures.refused)
 
-pub returns-in-Err-NotYet-clause-answer : goal.returns-in-Err-NotYet-clause-answer
-returns-in-Err-NotYet-clause-answer c = let unbuilt = load_other c.args.journal.now.events c.args.moment c.args.text (ap plain_conf (sym c.as_slice.ensures) ∙ c.in-Err-NotYet.ensures.not_yet (ap Err c.in-Err-NotYet.field-0-is)) in sym (left_answer c.args.journal.now.events (Load c.args.moment c.args.text) unbuilt)
+pub returns-in-Ok-clause-step : goal.returns-in-Ok-clause-step
+returns-in-Ok-clause-step g c =
+    let w = world c.args.lives.now.items c.args.started.now in
+    let none = no_events c.args.journal.now.events (sym c.is_empty.ensures ∙ c.if-not-is_empty.false) in
+    let same = ap (λ z. Load z c.args.text) (to_z-of_z w64 c.args.moment c.ranges.moment) in
+    let built = load_built c.args.journal.now.events c.args.moment c.args.text c.in-Ok.conf none (ap reading (sym c.as_slice.ensures) ∙ c.in-Ok.ensures.read)
+    (sym c.is_built_conf.ensures ∙ c.if-not-is_built_conf.false) c.in-Ok.ensures.patterns in
+    taken _ w c.args.journal.now.events _ _ (Load c.args.moment c.args.text) same c.requires.state c.take_load.ensures.journal built (c.take_load.ensures.answer c.args.started.now)
 
-pub returns-in-Err-NotYet-clause-world : goal.returns-in-Err-NotYet-clause-world
-returns-in-Err-NotYet-clause-world c = let unbuilt = load_other c.args.journal.now.events c.args.moment c.args.text (ap plain_conf (sym c.as_slice.ensures) ∙ c.in-Err-NotYet.ensures.not_yet (ap Err c.in-Err-NotYet.field-0-is)) in c.requires.state ∙ ap world_of (sym (left_journal c.args.journal.now.events (Load c.args.moment c.args.text) unbuilt))
-
-pub returns-in-Err-NotYet-clause-journal : goal.returns-in-Err-NotYet-clause-journal
-returns-in-Err-NotYet-clause-journal c = let unbuilt = load_other c.args.journal.now.events c.args.moment c.args.text (ap plain_conf (sym c.as_slice.ensures) ∙ c.in-Err-NotYet.ensures.not_yet (ap Err c.in-Err-NotYet.field-0-is)) in sym (left_journal c.args.journal.now.events (Load c.args.moment c.args.text) unbuilt)
+pub returns-in-Ok-clause-book : goal.returns-in-Ok-clause-book
+returns-in-Ok-clause-book g c =
+    let w = world c.args.lives.now.items c.args.started.now in
+    let same = ap (λ z. Load z c.args.text) (to_z-of_z w64 c.args.moment c.ranges.moment) in
+    taken_silent _ w c.args.journal.now.events _ _ (Load c.args.moment c.args.text) same c.requires.state c.take_load.ensures.journal (load_silent c.args.journal.now.events c.args.moment c.args.text)
 
 pub take_load-requires-clause-few : goal.take_load-requires-clause-few
-take_load-requires-clause-few c = few_lives _ _ c.in-Ok.conf c.in_ok-begun-in-Ok.ensures c.in-Ok.ensures.few
-
-pub returns-in-Ok-clause-answer : goal.returns-in-Ok-clause-answer
-returns-in-Ok-clause-answer c =
-    let none = no_events c.args.journal.now.events (sym c.is_empty.ensures ∙ c.if-not-is_empty.false) in
-    let is_built = load_built c.args.journal.now.events c.args.moment c.args.text c.in-Ok.conf none (ap plain_conf (sym c.as_slice.ensures) ∙ c.in-Ok.ensures.conf) in
-    let w = world c.args.lives.now.items c.args.started.now in
-    let back = to_z-of_z w64 c.args.moment c.ranges.moment in
-    then_answer _ _ _ (ap (λ z. answer w (Load z c.args.text)) back ∙ sym (built_answer c.args.journal.now.events (Load c.args.moment c.args.text) is_built w c.requires.state)) (c.take_load.ensures.answer c.args.started.now)
-
-pub returns-in-Ok-clause-world : goal.returns-in-Ok-clause-world
-returns-in-Ok-clause-world c =
-    let none = no_events c.args.journal.now.events (sym c.is_empty.ensures ∙ c.if-not-is_empty.false) in
-    let is_built = load_built c.args.journal.now.events c.args.moment c.args.text c.in-Ok.conf none (ap plain_conf (sym c.as_slice.ensures) ∙ c.in-Ok.ensures.conf) in
-    let w = world c.args.lives.now.items c.args.started.now in
-    let back = to_z-of_z w64 c.args.moment c.ranges.moment in
-    then_is _ _ _ _ (ap (λ z. step w (Load z c.args.text)) back ∙ sym (built_world c.args.journal.now.events (Load c.args.moment c.args.text) is_built w c.requires.state)) (c.take_load.ensures.world c.args.started.now)
-
-pub returns-in-Ok-clause-journal : goal.returns-in-Ok-clause-journal
-returns-in-Ok-clause-journal c =
-    let none = no_events c.args.journal.now.events (sym c.is_empty.ensures ∙ c.if-not-is_empty.false) in
-    let is_built = load_built c.args.journal.now.events c.args.moment c.args.text c.in-Ok.conf none (ap plain_conf (sym c.as_slice.ensures) ∙ c.in-Ok.ensures.conf) in
-    let w = world c.args.lives.now.items c.args.started.now in
-    let back = to_z-of_z w64 c.args.moment c.ranges.moment in
-    then_is _ _ _ _ (ap (λ z. c.args.journal.now.events ++ Load z c.args.text ∷ []) back ∙ sym (built_journal c.args.journal.now.events (Load c.args.moment c.args.text) is_built)) c.take_load.ensures.journal
+take_load-requires-clause-few g c = few_lives _ _ c.in-Ok.conf c.in_ok-begun-in-Ok.ensures (built_few c.in-Ok.conf (sym c.is_built_conf.ensures ∙ c.if-not-is_built_conf.false))
