@@ -5,7 +5,7 @@ use Rattle.outside.specs.declared.objects.StoredFile.{StoredFile}
 use Rattle.outside.specs.Objects.{file_of, HasFile, LacksFile, HasLongerFile, Rose}
 use Rattle.scrape_config.specs.Reading.{reading, IsRuleAt, IsRefusedPattern, IsRefusal}
 use Rattle.scrape_config.specs.declared.conf.Conf.{Conf}
-use Rattle.scrape_config.specs.declared.fault.ConfFault.{ConfFault}
+use Rattle.config_fields.specs.declared.fault.ConfFault.{ConfFault}
 use Rattle.scrape_core.specs.Built.{listed_targets}
 use Rattle.scrape_cli.specs.Checks.{target_limit, IsCrowd, IsFault, fault_message}
 use Rattle.scrape_cli.specs.Words.{command_of, file_in, limit_of}

@@ -4,8 +4,8 @@ use Rattle.std.specs.Fmt.{decimal}
 use Rattle.scrape_config.specs.Reading.{reading, HasPatterns, IsRefusal}
 use Rattle.scrape_config.specs.declared.conf.Conf.{Conf}
 use Rattle.scrape_core.specs.Built.{listed_targets}
-use Rattle.scrape_config.specs.declared.fault.ConfFault.{ConfFault}
-use Rattle.scrape_config.specs.declared.fault.ConfFault.TheVariants.{NotJson, Shape, Unknown, Missing, Value, TwiceNamed, TooMany, Rule}
+use Rattle.config_fields.specs.declared.fault.ConfFault.{ConfFault}
+use Rattle.config_fields.specs.declared.fault.ConfFault.TheVariants.{NotJson, Shape, Unknown, Missing, Value, TwiceNamed, TooMany, Rule}
 
 -- all jobs together list at most 100,000 targets
 abbrev pub target_limit : ℕ

@@ -7,7 +7,7 @@ use Rattle.scrape_cli.specs.Texts.{book_text}
 use Rattle.scrape_cli.specs.Scripts.{SpellsBuilt, SpellsNoBuilt}
 use Rattle.journal_text.specs.declared.events.Event.{Event}
 use Rattle.scrape_config.specs.declared.conf.Conf.{Conf}
-use Rattle.scrape_config.specs.declared.fault.ConfFault.{ConfFault}
+use Rattle.config_fields.specs.declared.fault.ConfFault.{ConfFault}
 use Rattle.scrape_cli.specs.Words.{limit_of, command_of, file_in, OfWords}
 use Rattle.scrape_cli.specs.Checks.{IsTaken, IsFault, ok_line, fault_message}
 use Rattle.scrape_cli.specs.declared.words.Command.{Command}

@@ -4,7 +4,7 @@ ghost use Rattle.outside.specs.Objects.{Rose, LacksFile, HasLongerFile};
 ghost use Rattle.journal_text.specs.declared.events.Event.{Event};
 ghost use Rattle.scrape_config.specs.Reading.{reading, IsRefusedPattern};
 ghost use Rattle.scrape_config.specs.declared.conf.Conf.{Conf};
-ghost use Rattle.scrape_config.specs.declared.fault.ConfFault.{ConfFault};
+ghost use Rattle.config_fields.specs.declared.fault.ConfFault.{ConfFault};
 ghost use Rattle.scrape_core.specs.Built.{listed_targets};
 ghost use Rattle.scrape_cli.specs.Checks.{target_limit, fault_message};
 ghost use Rattle.scrape_cli.specs.Scripts.{SpellsTaken};

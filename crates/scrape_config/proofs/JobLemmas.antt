@@ -1,21 +1,45 @@
 -- What a configuration says in which the walk finds no fault.
-use Rattle.std.proofs.Common.{◌≡◌, ℕ, ◌+◌, List, [], ◌∷◌, ◌++◌, length, slice_get, refl, sym, ◌∙◌, Option, None, Some, codes}
+use Rattle.std.proofs.Common.{◌≡◌, ℕ, ℤ, ◌+◌, List, [], ◌∷◌, ◌++◌, length, slice_get, refl, sym, ◌∙◌, Option, None, Some, codes}
 use Rattle.std.specs.Prelude.{unwrap_or, option_and_then}
-use Rattle.serde_json.specs.Data.{Data, Items, no_items, item}
+use Rattle.serde_json.specs.Data.{Data, Items, no_items, item, Members, no_members, member}
 use Rattle.serde_json.specs.Find.{get, as_array, as_object}
 use Rattle.relabel.specs.Refusals.{first_bad_rule}
-use Rattle.scrape_config.specs.Places.{field_place, item_place}
-use Rattle.scrape_config.specs.Tables.{job_field, top_field}
-use Rattle.scrape_config.specs.Walks.{flaws}
+use Rattle.config_fields.specs.Places.{field_place, item_place}
+use Rattle.config_fields.specs.Tables.{job_field, top_field}
+use Rattle.config_fields.specs.Walks.{flaws, missing_before, owed_after}
 use Rattle.scrape_config.specs.Defaults.{list_under, item_count, interval_in, base_of}
 use Rattle.scrape_config.specs.Lists.{crowd, objects_faults, list_faults, job_field_faults, owed_by_job, job_members_faults, job_faults, jobs_walk, twice_named, name_again, names_of, job_crowd, jobs_faults, top_field_faults, top_members_faults, conf_faults}
 use Rattle.scrape_config.specs.Values.{job_of, rules_of}
 use Rattle.scrape_config.specs.Reading.{jobs_place}
 use Rattle.scrape_config.specs.declared.defaults.Base.{Base}
-use Rattle.scrape_config.specs.declared.tables.ListKind.TheVariants as list
-use Rattle.scrape_config.proofs.FaultLemmas.{both_clean, of_shape-clean}
-use Rattle.scrape_config.proofs.CleanLemmas.{get-object, of_found, job_members-clean, IsCleanJobField, top_members-clean, IsCleanTopField}
+use Rattle.config_fields.specs.declared.tables.ListKind.TheVariants as list
+use Rattle.config_fields.specs.declared.tables.Owed.{Owed}
+use Rattle.config_fields.proofs.FaultLemmas.{both_clean, of_shape-clean}
+use Rattle.config_fields.proofs.CleanLemmas.{OfEach, get-object, of_found}
 use Rattle.scrape_config.proofs.RuleLemmas.{rules_fine}
+
+-- the fields of a job without faults
+module _ (most : ℤ) (place : List ℕ) where
+  abbrev pub IsCleanJobField : List ℕ → Data → Type 0
+  IsCleanJobField key d = job_field_faults (job_field most key) (field_place place key) d ≡ []
+
+  pub job_members-clean : (owed : Owed) (ms : Members) → job_members_faults most place owed ms ≡ [] → OfEach IsCleanJobField ms
+  job_members-clean owed no_members e = tt
+  job_members-clean owed (member key d ms) e =
+      let first = both_clean (missing_before place owed key) _ e in
+      let rest = both_clean (job_field_faults (job_field most key) (field_place place key) d) (job_members_faults most place (owed_after owed key) ms) first.1 in
+      (rest.0, job_members-clean (owed_after owed key) ms rest.1)
+
+-- the fields of a text without faults
+module _ (base : Base) where
+  abbrev pub IsCleanTopField : List ℕ → Data → Type 0
+  IsCleanTopField key d = top_field_faults base (top_field key) (field_place [] key) d ≡ []
+
+  pub top_members-clean : (ms : Members) → top_members_faults base ms ≡ [] → OfEach IsCleanTopField ms
+  top_members-clean no_members e = tt
+  top_members-clean (member key d ms) e =
+      let parts = both_clean (top_field_faults base (top_field key) (field_place [] key) d) (top_members_faults base ms) e in
+      (parts.0, top_members-clean ms parts.1)
 
 -- a list of rules without faults
 list_fine : (place : List ℕ) (d : Data) → list_faults list.Rules place d ≡ [] → first_bad_rule 0 (rules_of (unwrap_or (as_array d) no_items)) ≡ None

@@ -1,5 +1,3 @@
-pub mod FaultLemmas
-pub mod CleanLemmas
 pub mod DefaultLemmas
 pub mod ValueLemmas
 pub mod ListLemmas

@@ -1,22 +1,13 @@
 -- Lists of JSON, item by item.
-use Rattle.std.proofs.Common.{◌≡◌, ℕ, suc, ◌+◌, ◌<◌, List, [], ◌∷◌, ◌++◌, length, drop, refl, sym, ap, ◌∙◌, get_or, Option, add-one, drop-cons, arith}
-use Rattle.serde_json.specs.View.{items_view}
+use Rattle.std.proofs.Common.{◌≡◌, ℕ, suc, ◌+◌, ◌<◌, List, ◌∷◌, ◌++◌, length, drop, sym, ap, ◌∙◌, get_or, Option, add-one, drop-cons}
 use Rattle.serde_json.specs.declared.value.Value.{Value}
-use Rattle.scrape_config.specs.Faults.{best}
-use Rattle.scrape_config.specs.Defaults.{item_count}
-use Rattle.scrape_config.specs.declared.fault.ConfFault.{ConfFault}
-use Rattle.scrape_config.proofs.FaultLemmas.{best_after}
+use Rattle.config_fields.specs.Faults.{best}
+use Rattle.config_fields.specs.declared.fault.ConfFault.{ConfFault}
+use Rattle.config_fields.proofs.FaultLemmas.{best_after}
 
 -- the items from a place on begin with the item at the place
 pub next_item : (vs : List Value) (i : ℕ) (v : Value) → v ≡ get_or vs i v → i < length vs → drop i vs ≡ v ∷ drop (i + 1) vs
 next_item vs i v at inside = rw (add-one, drop-cons vs i v) (ap (λ (x : Value). x ∷ drop (suc i) vs) (sym at))
-
-pub item_count_view : (vs : List Value) → item_count (items_view vs) ≡ length vs
-item_count_view [] = refl
-item_count_view (v ∷ vs) = ap (λ n. 1 + n) (item_count_view vs) ∙ arith_one vs
-  where
-    arith_one : (vs : List Value) → 1 + length vs ≡ length (v ∷ vs)
-    arith_one vs = omega arith
 
 -- the fault of three lists
 pub three_parts : (found : Option ConfFault) (fs gs hs : List ConfFault) → best found (fs ++ (gs ++ hs)) ≡ best (best (best found fs) gs) hs

@@ -5,8 +5,8 @@ use Rattle.std.proofs.lemmas.Str.{IsUtf8-from_is_utf8, is_utf8-from_IsUtf8}
 use Rattle.std.specs.Str.{is_utf8}
 use Rattle.serde_json.specs.Read.{read}
 use Rattle.scrape_config.specs.Reading.{json_of, IsRuleAt, IsRuleCause}
-use Rattle.scrape_config.specs.declared.fault.ConfFault.{ConfFault}
-use Rattle.scrape_config.specs.declared.fault.ConfFault.TheVariants.{NotJson, Shape, Unknown, Missing, Value, TwiceNamed, TooMany, Rule}
+use Rattle.config_fields.specs.declared.fault.ConfFault.{ConfFault}
+use Rattle.config_fields.specs.declared.fault.ConfFault.TheVariants.{NotJson, Shape, Unknown, Missing, Value, TwiceNamed, TooMany, Rule}
 use Rattle.scrape_config.specs.declared.fault.ConfError.{ConfError}
 use Rattle.scrape_config.specs.declared.fault.ConfError.TheVariants.{Bad, NoMemory}
 

@@ -1,67 +1,32 @@
 -- A rule in which the walk finds no fault has no field that `Rules::build` refuses.
-use Rattle.std.proofs.Common.{◌≡◌, ℕ, zero, suc, ◌+◌, Bool, true, false, not, List, [], ◌++◌, length, refl, sym, ap, ◌∙◌, Option, None, Some, option_map, option_and_then, nat_lt, codes, arith, if◌then◌else◌}
+use Rattle.std.proofs.Common.{◌≡◌, ℕ, zero, suc, ◌+◌, Bool, true, false, not, List, [], ◌++◌, length, refl, sym, ap, ◌∙◌, Option, None, Some, option_and_then, nat_lt, codes, arith, if◌then◌else◌}
 use Rattle.std.specs.Prelude.{unwrap_or, option_to_list, is_some, ◌==◌}
 use Rattle.std.specs.List.{list_all}
 use Rattle.std.proofs.lemmas.Bool.{and_parts}
 use Rattle.std.proofs.lemmas.Bool.Decides.{nat_tests}
 use Rattle.label_set.specs.Bytes.{is_label_name}
 use Rattle.serde_json.specs.Data.{Data, Num, Items, no_items, item, Members}
-use Rattle.serde_json.specs.Find.{get, as_str, as_array, as_object, as_number, as_u64}
+use Rattle.serde_json.specs.Find.{get, as_str, as_array, as_object, as_u64}
 use Rattle.relabel.specs.Refusals.{rule_fault, has_bad_modulus, has_bad_target, first_bad_rule}
 use Rattle.relabel.specs.declared.conf.Action.{Action}
 use Rattle.relabel.specs.declared.conf.Action.TheVariants as action
-use Rattle.scrape_config.specs.Places.{field_place, item_place}
-use Rattle.scrape_config.specs.Forms.{judged, is_text_of, is_modulus, action_of, flaw_of}
-use Rattle.scrape_config.specs.Tables.{field_of, rule_field, target_form, needs_target, owed_by, key_text, text}
-use Rattle.scrape_config.specs.Walks.{flaws, passes, are_texts_of, item_faults, texts_faults, field_faults, members_faults, object_faults}
+use Rattle.config_fields.specs.Places.{field_place, item_place}
+use Rattle.config_fields.specs.Forms.{is_text_of, is_modulus, action_of}
+use Rattle.config_fields.specs.Tables.{field_of, rule_field, target_form, needs_target, owed_by, key_text}
+use Rattle.config_fields.specs.Walks.{passes, are_texts_of, field_faults, members_faults, object_faults}
 use Rattle.scrape_config.specs.Defaults.{text_under, whole_under, list_under, texts_of, texts_under, action_said, action_in}
 use Rattle.scrape_config.specs.Lists.{object_in, objects_faults}
 use Rattle.scrape_config.specs.Values.{text_or, rule_of, rules_of}
-use Rattle.scrape_config.specs.declared.forms.Kind.TheVariants as kind
-use Rattle.scrape_config.specs.declared.forms.TextForm.{TextForm}
-use Rattle.scrape_config.specs.declared.forms.TextForm.TheVariants as form
-use Rattle.scrape_config.specs.declared.tables.Field.TheVariants as field
-use Rattle.scrape_config.specs.declared.tables.ListKind.TheVariants as list
-use Rattle.scrape_config.specs.declared.tables.ObjectKind.{ObjectKind}
-use Rattle.scrape_config.specs.declared.tables.ObjectKind.TheVariants as object
-use Rattle.scrape_config.specs.declared.tables.Key.{Key}
-use Rattle.scrape_config.specs.declared.tables.Key.TheVariants as required
-use Rattle.scrape_config.proofs.FaultLemmas.{both_clean, flaws-clean, of_shape-clean}
-use Rattle.scrape_config.proofs.CleanLemmas.{get-object, of_found, OfEach, Comes, AllCome, members-clean, IsCleanField}
+use Rattle.config_fields.specs.declared.forms.TextForm.TheVariants as form
+use Rattle.config_fields.specs.declared.tables.ListKind.TheVariants as list
+use Rattle.config_fields.specs.declared.tables.ObjectKind.{ObjectKind}
+use Rattle.config_fields.specs.declared.tables.ObjectKind.TheVariants as object
+use Rattle.config_fields.specs.declared.tables.Key.{Key}
+use Rattle.config_fields.specs.declared.tables.Key.TheVariants as required
+use Rattle.config_fields.proofs.FaultLemmas.{both_clean, of_shape-clean}
+use Rattle.config_fields.proofs.CleanLemmas.{text-clean, modulus-clean, texts-clean, get-object, of_found, OfEach, Comes, AllCome, members-clean, IsCleanField}
 
--- a value without a flaw is of its kind and allowed
-judged-clean : (o : Option Bool) → judged o ≡ None → o ≡ Some true
-judged-clean None e = absurd cc
-judged-clean (Some true) e = refl
-judged-clean (Some false) e = absurd cc
-
-allowed : {A : Type 0} (is_allowed : A → Bool) (o : Option A) → option_map is_allowed o ≡ Some true → (a : A) × (o ≡ Some a) × (is_allowed a ≡ true)
-allowed is_allowed None e = absurd cc
-allowed is_allowed (Some a) e = (a, refl, some_same (is_allowed a) true e)
-  where
-    some_same : (b c : Bool) → Some b ≡ Some c → b ≡ c
-    some_same b c s = cc
-
--- a text field without a fault
-pub text-clean : (f : TextForm) (place : List ℕ) (d : Data) → field_faults (text f) place d ≡ [] → (t : List ℕ) × (as_str d ≡ Some t) × (is_text_of f t ≡ true)
-unfolding field_faults flaw_of
-text-clean f place d e = allowed (is_text_of f) (as_str d) (judged-clean _ (flaws-clean place _ e))
-
-modulus-clean : (place : List ℕ) (d : Data) → field_faults (field.Plain kind.Modulus) place d ≡ [] → (n : Num) × (as_number d ≡ Some n) × (is_modulus n ≡ true)
-unfolding field_faults flaw_of
-modulus-clean place d e = allowed is_modulus (as_number d) (judged-clean _ (flaws-clean place _ e))
-
-texts-clean : (f : TextForm) (place : List ℕ) (d : Data) → field_faults (field.Texts f) place d ≡ [] → (ds : Items) × (as_array d ≡ Some ds) × (are_texts_of f ds ≡ true)
-unfolding field_faults texts_faults
-texts-clean f place d e =
-    let list = of_shape-clean place (as_array d) (λ ds. flaws place (judged (Some (are_texts_of f ds))) ++ item_faults place 0 ds) e in
-    let parts = both_clean (flaws place (judged (Some (are_texts_of f list.0)))) (item_faults place 0 list.0) list.2 in
-    (list.0, list.1, some_same _ _ (judged-clean _ (flaws-clean place _ parts.0)))
-  where
-    some_same : (b c : Bool) → Some b ≡ Some c → b ≡ c
-    some_same b c s = cc
-
--- the texts of such a list are label names
+-- the texts of a list of label names are label names
 names_by : (o : Option (List ℕ)) (ts : List (List ℕ)) → passes form.LabelName o ≡ true → list_all is_label_name ts ≡ true → list_all is_label_name (option_to_list o ++ ts) ≡ true
 unfolding is_text_of
 names_by None ts p q = q

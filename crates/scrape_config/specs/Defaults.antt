@@ -8,7 +8,7 @@ use Rattle.serde_json.specs.Find.{get, as_str, as_bool, as_number, as_u64, as_ar
 use Rattle.relabel.specs.declared.conf.Action.{Action}
 use Rattle.relabel.specs.declared.conf.Action.TheVariants as action
 use Rattle.scrape_limits.specs.declared.limits.Limits.{Limits}
-use Rattle.scrape_config.specs.Forms.{millis_of, action_of}
+use Rattle.config_fields.specs.Forms.{millis_of, action_of}
 use Rattle.scrape_config.specs.declared.defaults.Base.{Base}
 
 -- the text, the truth value, the whole number of a field

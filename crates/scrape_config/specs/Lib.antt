@@ -1,8 +1,3 @@
-pub mod Places
-pub mod Faults
-pub mod Forms
-pub mod Tables
-pub mod Walks
 pub mod Defaults
 pub mod Lists
 pub mod Values

@@ -4,26 +4,26 @@ use Rattle.std.specs.List.{list_any}
 use Rattle.std.specs.Str.{bytes_eq}
 use Rattle.serde_json.specs.Data.{Data, Items, no_items, item, Members, no_members, member}
 use Rattle.serde_json.specs.Find.{as_array, as_object}
-use Rattle.scrape_config.specs.Places.{field_place, item_place}
-use Rattle.scrape_config.specs.Faults.{placed}
-use Rattle.scrape_config.specs.Tables.{job_field, top_field}
-use Rattle.scrape_config.specs.Walks.{flaws, of_shape, field_faults, missing_before, owed_after, missing_at_end, object_faults}
+use Rattle.config_fields.specs.Places.{field_place, item_place}
+use Rattle.config_fields.specs.Faults.{placed}
+use Rattle.config_fields.specs.Tables.{job_field, top_field}
+use Rattle.config_fields.specs.Walks.{flaws, of_shape, field_faults, missing_before, owed_after, missing_at_end, object_faults}
 use Rattle.scrape_config.specs.Defaults.{text_under, item_count, target_count, files_in, action_in, interval_in, base_of}
-use Rattle.scrape_config.specs.declared.fault.ConfFault.{ConfFault}
-use Rattle.scrape_config.specs.declared.fault.ConfFault.TheVariants.{TwiceNamed}
-use Rattle.scrape_config.specs.declared.fault.Flaw.{Flaw}
-use Rattle.scrape_config.specs.declared.fault.Flaw.TheVariants as flaw
+use Rattle.config_fields.specs.declared.fault.ConfFault.{ConfFault}
+use Rattle.config_fields.specs.declared.fault.ConfFault.TheVariants.{TwiceNamed}
+use Rattle.config_fields.specs.declared.fault.Flaw.{Flaw}
+use Rattle.config_fields.specs.declared.fault.Flaw.TheVariants as flaw
 use Rattle.scrape_config.specs.declared.defaults.Base.{Base}
-use Rattle.scrape_config.specs.declared.tables.ListKind.{ListKind}
-use Rattle.scrape_config.specs.declared.tables.ListKind.TheVariants as list
-use Rattle.scrape_config.specs.declared.tables.JobField.{JobField}
-use Rattle.scrape_config.specs.declared.tables.JobField.TheVariants as job
-use Rattle.scrape_config.specs.declared.tables.TopField.{TopField}
-use Rattle.scrape_config.specs.declared.tables.TopField.TheVariants as top
-use Rattle.scrape_config.specs.declared.tables.ObjectKind.{ObjectKind}
-use Rattle.scrape_config.specs.declared.tables.ObjectKind.TheVariants as object
-use Rattle.scrape_config.specs.declared.tables.Key.TheVariants as required
-use Rattle.scrape_config.specs.declared.tables.Owed.{Owed}
+use Rattle.config_fields.specs.declared.tables.ListKind.{ListKind}
+use Rattle.config_fields.specs.declared.tables.ListKind.TheVariants as list
+use Rattle.config_fields.specs.declared.tables.JobField.{JobField}
+use Rattle.config_fields.specs.declared.tables.JobField.TheVariants as job
+use Rattle.config_fields.specs.declared.tables.TopField.{TopField}
+use Rattle.config_fields.specs.declared.tables.TopField.TheVariants as top
+use Rattle.config_fields.specs.declared.tables.ObjectKind.{ObjectKind}
+use Rattle.config_fields.specs.declared.tables.ObjectKind.TheVariants as object
+use Rattle.config_fields.specs.declared.tables.Key.TheVariants as required
+use Rattle.config_fields.specs.declared.tables.Owed.{Owed}
 
 -- the object of an item of a list
 unfoldable pub object_in : ListKind → Data → ObjectKind

@@ -5,12 +5,12 @@ use Rattle.serde_json.specs.Data.{Data}
 use Rattle.serde_json.specs.Read.{read}
 use Rattle.relabel.specs.Refusals.{HasPattern, HasBadPattern}
 use Rattle.relabel.specs.declared.conf.RuleConf.{RuleConf}
-use Rattle.scrape_config.specs.Places.{field_place, item_place}
-use Rattle.scrape_config.specs.Faults.{told}
+use Rattle.config_fields.specs.Places.{field_place, item_place}
+use Rattle.config_fields.specs.Faults.{told}
 use Rattle.scrape_config.specs.Lists.{conf_faults, groups_faults}
 use Rattle.scrape_config.specs.Values.{conf_of, file_groups_of}
-use Rattle.scrape_config.specs.declared.fault.ConfFault.{ConfFault}
-use Rattle.scrape_config.specs.declared.fault.ConfFault.TheVariants.{NotJson, Rule}
+use Rattle.config_fields.specs.declared.fault.ConfFault.{ConfFault}
+use Rattle.config_fields.specs.declared.fault.ConfFault.TheVariants.{NotJson, Rule}
 use Rattle.scrape_config.specs.declared.fault.ConfError.{ConfError}
 use Rattle.scrape_config.specs.declared.fault.ConfError.TheVariants.{Bad, NoMemory}
 use Rattle.scrape_config.specs.declared.conf.Group.{Group}

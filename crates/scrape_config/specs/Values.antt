@@ -1,11 +1,11 @@
 -- The configuration that a text without faults gives.
-use Rattle.std.specs.Prelude.{ℕ, ℤ, true, false, List, [], ◌∷◌, ◌++◌, codes, Option, Some, None, option_map, option_and_then, option_to_list, unwrap_or}
+use Rattle.std.specs.Prelude.{ℕ, ℤ, true, false, List, [], ◌∷◌, ◌++◌, codes, Option, Some, None, option_map, option_and_then, option_to_list, unwrap_or, if◌then◌else◌}
+use Rattle.std.specs.Str.{bytes_eq}
 use Rattle.serde_json.specs.Data.{Data, Items, no_items, item, Members, no_members, member}
 use Rattle.serde_json.specs.Find.{get, as_str, as_array, as_object}
 use Rattle.label_set.specs.declared.texts.Pair.{Pair}
 use Rattle.relabel.specs.declared.conf.Action.TheVariants as action
 use Rattle.relabel.specs.declared.conf.RuleConf.{RuleConf}
-use Rattle.scrape_config.specs.Forms.{scheme_of}
 use Rattle.scrape_config.specs.Defaults.{text_under, truth_under, whole_under, list_under, texts_of, texts_under, files_in, action_in, interval_in, timeout_or, limits_or, base_of}
 use Rattle.scrape_config.specs.declared.defaults.Base.{Base}
 use Rattle.scrape_config.specs.declared.conf.Scheme.{Scheme}
@@ -62,6 +62,10 @@ params_of (member name d ms) = record { name = name; values = texts_of (unwrap_o
 -- the timeout of a job
 unfoldable pub timeout_in : Base → Data → ℤ
 timeout_in base d = timeout_or base.timeout (interval_in base d) d
+
+-- `http` or `https`
+unfoldable pub scheme_of : List ℕ → Option Scheme
+scheme_of text = if bytes_eq text (codes "http") then Some scheme.Http else (if bytes_eq text (codes "https") then Some scheme.Https else None)
 
 -- the scheme of a job
 unfoldable pub scheme_in : Data → Scheme

@@ -3,7 +3,7 @@ ghost use Rattle.std.specs.Prelude.{◌≡◌, ℕ, pos, codes, nat_lt, option_m
 ghost use Rattle.serde_json.specs.View.{view, items_view};
 ghost use Rattle.scrape_config.specs.Defaults as spec;
 
-use crate::forms::{action_of, millis_of};
+use config_fields::forms::{action_of, millis_of};
 use indexmap::IndexSet;
 use label_set::{Name, NameList, NoMemory};
 use relabel::Action;

@@ -1,24 +1,18 @@
 //! The configuration of a scrape manager, read from JSON: its jobs after defaults, or the one fault that is to be mended first.
 //! `read_conf` reads a configuration and `read_groups` the list of a file of groups; `JobConf::same` and `JobConf::compatible` compare settings.
 //! Contracts see a configuration as itself, with its lists as lists and its texts as lists of bytes; what each field may hold
-//! is defined in `specs/`, in tables, and a fault is the first of the least number in the walk through the text.
+//! is defined in the tables of `config_fields`, and a fault is the first of the least number in the walk through the text.
 #![tactic(auto)]
 
 mod conf;
 mod defaults;
 mod fault;
-mod forms;
 mod lists;
-mod place;
 mod read;
 mod settings;
-mod tables;
 mod values;
-mod walks;
 
 pub use conf::{Conf, Group, GroupList, Job, JobConf, JobList, Param, ParamList, Scheme};
-pub use fault::{ConfError, ConfFault};
+pub use config_fields::ConfFault;
+pub use fault::ConfError;
 pub use read::{read_conf, read_groups};
-
-#[cfg(test)]
-mod tests;

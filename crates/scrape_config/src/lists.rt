@@ -1,19 +1,21 @@
 //! The walk through lists of objects, jobs and a whole text.
 ghost use Rattle.std.specs.Prelude.{◌≡◌, OnOk, IfOk, []};
 ghost use Rattle.serde_json.specs.View.{view, members_view, items_view};
-ghost use Rattle.scrape_config.specs.Faults.{best, told};
-ghost use Rattle.scrape_config.specs.Tables.{top_field};
-ghost use Rattle.scrape_config.specs.Places.{field_place};
-ghost use Rattle.scrape_config.specs.Walks.{flaws};
+ghost use Rattle.config_fields.specs.Faults.{best, told};
+ghost use Rattle.config_fields.specs.Tables.{top_field};
+ghost use Rattle.config_fields.specs.Places.{field_place};
+ghost use Rattle.config_fields.specs.Walks.{flaws};
 ghost use Rattle.scrape_config.specs.Lists as spec;
 
 use crate::defaults::{
     Base, action_in, base_of, files_in, has_too_many_targets, interval_in, text_under,
 };
-use crate::fault::{ConfFault, Flaw, is_told_over, note, note_field};
-use crate::place::{at_field, at_item};
-use crate::tables::{JobField, Key, ListKind, ObjectKind, Owed, TopField, job_field, top_field};
-use crate::walks::{end, field, object, pass_by};
+use config_fields::fault::{ConfFault, Flaw, is_told_over, note, note_field};
+use config_fields::place::{at_field, at_item};
+use config_fields::tables::{
+    JobField, Key, ListKind, ObjectKind, Owed, TopField, job_field, top_field,
+};
+use config_fields::walks::{end, field, object, pass_by};
 use indexmap::IndexSet;
 use label_set::{Name, NoMemory};
 use serde_json::{Map, Value};
@@ -56,7 +58,7 @@ fn crowd(alloc: Global, list: ListKind, values: &[Value]) -> Result<Option<Flaw>
 }
 
 /// The objects of a list.
-#[tactic(auto, using(crate::proofs::FaultLemmas::best_after))]
+#[tactic(auto, using(config_fields::proofs::FaultLemmas::best_after))]
 fn objects(
     alloc: Global,
     list: ListKind,
@@ -117,7 +119,7 @@ fn field_of_job(
 }
 
 /// The fields of a job whose timeout may be at most so long.
-#[tactic(auto, using(crate::proofs::FaultLemmas::best_after))]
+#[tactic(auto, using(config_fields::proofs::FaultLemmas::best_after))]
 fn members_of_job(
     alloc: Global,
     most: i64,
@@ -157,7 +159,7 @@ fn job(
 }
 
 /// The jobs of a list.
-#[tactic(auto, using(crate::proofs::FaultLemmas::best_after))]
+#[tactic(auto, using(config_fields::proofs::FaultLemmas::best_after))]
 fn each_job(
     alloc: Global,
     base: Base,
@@ -220,7 +222,7 @@ fn crowded(
 }
 
 /// The list of jobs.
-#[tactic(auto, using(crate::proofs::ListLemmas::three_parts, crate::proofs::ListLemmas::item_count_view), unfolding(crate::specs::Lists::jobs_faults))]
+#[tactic(auto, using(crate::proofs::ListLemmas::three_parts, crate::proofs::DefaultLemmas::item_count_view), unfolding(crate::specs::Lists::jobs_faults))]
 fn jobs(
     alloc: Global,
     base: Base,
@@ -270,7 +272,7 @@ fn field_of_text(
 }
 
 /// The fields of the whole text.
-#[tactic(auto, using(crate::proofs::FaultLemmas::best_after))]
+#[tactic(auto, using(config_fields::proofs::FaultLemmas::best_after))]
 fn members_of_text(
     alloc: Global,
     base: Base,

@@ -2,17 +2,18 @@
 ghost use Rattle.std.specs.Prelude.{◌≡◌, ◌++◌, ◌∷◌, [], Ok, None, All, IfOk, IfErr, OnOk, option_map, codes};
 ghost use Rattle.serde_json.specs.View.{view, items_view};
 ghost use Rattle.relabel.specs.Refusals.{HasPattern, first_bad_rule};
-ghost use Rattle.scrape_config.specs.Places.{field_place, item_place};
+ghost use Rattle.config_fields.specs.Places.{field_place, item_place};
 ghost use Rattle.scrape_config.specs.Lists.{conf_faults, job_faults, jobs_walk};
 ghost use Rattle.scrape_config.specs.Values.{conf_of, job_of, jobs_of, built};
 ghost use Rattle.scrape_config.specs.Reading as spec;
 
 use crate::conf::{Conf, GroupList, Job, JobList};
 use crate::defaults::{Base, base_of, list_under};
-use crate::fault::{ConfError, ConfFault};
+use crate::fault::ConfError;
 use crate::lists::{conf_fault, groups_fault};
-use crate::place::{at_field, at_item};
 use crate::values::{file_groups_of, job_of};
+use config_fields::ConfFault;
+use config_fields::place::{at_field, at_item};
 use label_set::{Name, NoMemory};
 use relabel::{RuleConf, RuleFault, Rules};
 use serde_json::Value;

@@ -11,7 +11,6 @@ use crate::defaults::{
     Base, action_in, files_in, interval_in, limits_or, list_under, text_under, timeout_or,
     truth_under, whole_under,
 };
-use crate::forms::scheme_of;
 use label_set::{Name, NameList, NoMemory, Pair, PairList};
 use relabel::{Action, RuleConf, RuleList};
 use serde_json::{Map, Value};
@@ -180,6 +179,20 @@ fn timeout_in(base: Base, job: &Value) -> i64
     ensures { result ≡ spec.timeout_in base (view job.now) }
 {
     timeout_or(base.timeout, interval_in(base, job), job)
+}
+
+/// `http` or `https`.
+#[tactic(auto, unfolding(crate::specs::Values::scheme_of))]
+fn scheme_of(text: &str) -> Option<Scheme>
+    ensures { result ≡ spec.scheme_of text.now }
+{
+    if text == "http" {
+        Some(Scheme::Http)
+    } else if text == "https" {
+        Some(Scheme::Https)
+    } else {
+        None
+    }
 }
 
 /// The scheme of a job.

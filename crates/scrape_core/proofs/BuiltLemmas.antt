@@ -16,8 +16,8 @@ use Rattle.journal_text.specs.declared.events.Event.{Event}
 use Rattle.journal_text.specs.declared.events.Event.TheVariants.{Load, Targets, Tick, Sweep, Finish, Halt}
 use Rattle.scrape_config.specs.Reading as conf
 use Rattle.scrape_config.specs.declared.conf.Conf.{Conf}
-use Rattle.scrape_config.specs.declared.fault.ConfFault.{ConfFault}
-use Rattle.scrape_config.specs.declared.fault.ConfFault.TheVariants as fault
+use Rattle.config_fields.specs.declared.fault.ConfFault.{ConfFault}
+use Rattle.config_fields.specs.declared.fault.ConfFault.TheVariants as fault
 use Rattle.scrape_config.specs.declared.fault.ConfError.{ConfError}
 use Rattle.scrape_config.specs.declared.fault.ConfError.TheVariants as error
 use Rattle.scrape_core.specs.declared.appender_book.Entry.{Entry}

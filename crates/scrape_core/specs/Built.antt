@@ -10,7 +10,7 @@ use Rattle.scrape_limits.specs.declared.limits.Limits.{Limits}
 use Rattle.scrape_config.specs.Reading as conf
 use Rattle.scrape_config.specs.declared.conf.Job.{Job}
 use Rattle.scrape_config.specs.declared.conf.Conf.{Conf}
-use Rattle.scrape_config.specs.declared.fault.ConfFault.{ConfFault}
+use Rattle.config_fields.specs.declared.fault.ConfFault.{ConfFault}
 use Rattle.target_set.specs.Listed.{listed_count}
 use Rattle.journal_text.specs.declared.events.Event.{Event}
 use Rattle.journal_text.specs.declared.events.Event.TheVariants.{Load, Sweep, Finish}

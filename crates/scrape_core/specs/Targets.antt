@@ -7,7 +7,7 @@ use Rattle.label_conflict.specs.Merging.{bears}
 use Rattle.scrape_config.specs.declared.conf.JobConf.{JobConf}
 use Rattle.scrape_config.specs.declared.conf.Job.{Job}
 use Rattle.scrape_config.specs.declared.conf.Conf.{Conf}
-use Rattle.scrape_config.specs.declared.fault.ConfFault.{ConfFault}
+use Rattle.config_fields.specs.declared.fault.ConfFault.{ConfFault}
 use Rattle.target_set.specs.Listed.{target_list}
 use Rattle.target_set.specs.declared.targets.Target.{Target}
 use Rattle.journal_text.specs.Lines.{number}

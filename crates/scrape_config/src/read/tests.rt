@@ -42,47 +42,85 @@ fn list(alloc: Global, count: usize, before: &str, behind: &str) -> Result<Strin
     Ok(text)
 }
 
+/// What stands before and behind a list, and before and behind the number of each of its items; how many items, and what is said.
+const LISTS: [(&str, &str, &str, &str, usize, &str); 6] = [
+    (
+        r#"{"scrape_configs":"#,
+        "}",
+        r#"{"job_name":""#,
+        r#""}"#,
+        1000,
+        "ok 1000",
+    ),
+    (
+        r#"{"scrape_configs":"#,
+        "}",
+        r#"{"job_name":""#,
+        r#""}"#,
+        1001,
+        "TooMany /scrape_configs 1000",
+    ),
+    (
+        r#"{"scrape_configs":[{"job_name":"j","file_sd_configs":[{"files":"#,
+        r#"},{"files":["f0"]}]}]}"#,
+        r#""f"#,
+        r#"""#,
+        100,
+        "ok 1",
+    ),
+    (
+        r#"{"scrape_configs":[{"job_name":"j","file_sd_configs":[{"files":"#,
+        r#"},{"files":["f0"]}]}]}"#,
+        r#""f"#,
+        r#"""#,
+        101,
+        "TooMany /scrape_configs/0/file_sd_configs 100",
+    ),
+    (
+        r#"{"scrape_configs":[{"job_name":"j","static_configs":[{"targets":"#,
+        r#"},{"targets":["t"]}]}]}"#,
+        r#""t"#,
+        r#"""#,
+        9999,
+        "ok 1",
+    ),
+    (
+        r#"{"scrape_configs":[{"job_name":"j","static_configs":[{"targets":"#,
+        r#"},{"targets":["t"]}]}]}"#,
+        r#""t"#,
+        r#"""#,
+        10000,
+        "TooMany /scrape_configs/0/static_configs 10000",
+    ),
+];
+
 #[test]
 fn lists_have_limits(rt: HostRuntime) -> Result<(), Fail> {
     let alloc = rt.alloc();
-    for (count, said) in [(1000, "ok 1000"), (1001, "TooMany /scrape_configs 1000")] {
-        let jobs = list(alloc, count, "{\"job_name\":\"", "\"}")?;
-        let text = format!(in alloc; "{{\"scrape_configs\":{jobs}}}")?;
-        assert!(rt; answer(alloc, text.as_bytes())?.as_str() == said);
-    }
-    for (count, said) in [
-        (100, "ok 1"),
-        (101, "TooMany /scrape_configs/0/file_sd_configs 100"),
-    ] {
-        let files = list(alloc, count, "\"f", "\"")?;
-        let text = format!(in alloc;
-            "{{\"scrape_configs\":[{{\"job_name\":\"j\",\"file_sd_configs\":[{{\"files\":{files}}},{{\"files\":[\"f0\"]}}]}}]}}"
-        )?;
-        assert!(rt; answer(alloc, text.as_bytes())?.as_str() == said);
-    }
-    for (count, said) in [
-        (9999, "ok 1"),
-        (10000, "TooMany /scrape_configs/0/static_configs 10000"),
-    ] {
-        let targets = list(alloc, count, "\"t", "\"")?;
-        let text = format!(in alloc;
-            "{{\"scrape_configs\":[{{\"job_name\":\"j\",\"static_configs\":[{{\"targets\":{targets}}},{{\"targets\":[\"t\"]}}]}}]}}"
-        )?;
-        assert!(rt; answer(alloc, text.as_bytes())?.as_str() == said);
+    for (before, behind, open, close, count, said) in LISTS {
+        let items = list(alloc, count, open, close)?;
+        let text = format!(in alloc; "{before}{items}{behind}")?;
+        assert_eq!(rt; answer(alloc, text.as_bytes())?.as_str(), said);
     }
     Ok(())
+}
+
+/// A name of so many bytes.
+fn name(alloc: Global, count: usize) -> Result<String, AllocError> {
+    let mut text = String::new(alloc);
+    for _ in 0..count {
+        text.push('n')?;
+    }
+    Ok(text)
 }
 
 #[test]
 fn names_have_limits(rt: HostRuntime) -> Result<(), Fail> {
     let alloc = rt.alloc();
     for (count, said) in [(4096, "ok 1"), (4097, "Value /scrape_configs/0/job_name")] {
-        let mut name = String::new(alloc);
-        for _ in 0..count {
-            name.push('n')?;
-        }
+        let name = name(alloc, count)?;
         let text = format!(in alloc; "{{\"scrape_configs\":[{{\"job_name\":\"{name}\"}}]}}")?;
-        assert!(rt; answer(alloc, text.as_bytes())?.as_str() == said);
+        assert_eq!(rt; answer(alloc, text.as_bytes())?.as_str(), said);
     }
     Ok(())
 }

@@ -11,92 +11,66 @@ fn job(alloc: Global, text: &str) -> Result<JobConf, Fail> {
     Ok(job_of(alloc, base, &Value::from_str(alloc, text)?)?)
 }
 
+/// The job that the ones below are compared with.
+const OLD: &str =
+    r#"{"job_name":"web","params":{"a":["1"]},"relabel_configs":[{"target_label":"t"}]}"#;
+
+/// Jobs that are compatible with it, and whether all their settings are the same.
+const COMPATIBLE: [(&str, bool); 5] = [
+    (
+        r#"{"job_name":"web","params":{"a":["1"]},"relabel_configs":[{"target_label":"t"}],"scheme":"http","scrape_interval":"60s"}"#,
+        true,
+    ),
+    (
+        r#"{"job_name":"web","params":{"a":["1"]},"relabel_configs":[{"target_label":"t","separator":";"}],"static_configs":[{"targets":["a:1"]}]}"#,
+        true,
+    ),
+    (
+        r#"{"job_name":"web","params":{"a":["1"]},"relabel_configs":[{"target_label":"t"}],"scrape_interval":"50s"}"#,
+        false,
+    ),
+    (
+        r#"{"job_name":"web","params":{"a":["1"]},"relabel_configs":[{"target_label":"t"}],"scrape_timeout":"9s"}"#,
+        false,
+    ),
+    (
+        r#"{"job_name":"web","params":{"a":["1"]},"relabel_configs":[{"target_label":"t"}],"target_limit":1}"#,
+        false,
+    ),
+];
+
+/// Jobs with a setting that names samples, or scrapes targets, otherwise.
+const INCOMPATIBLE: [&str; 10] = [
+    r#"{"job_name":"web2","params":{"a":["1"]},"relabel_configs":[{"target_label":"t"}]}"#,
+    r#"{"job_name":"web","params":{"a":["1"]},"relabel_configs":[{"target_label":"t"}],"scheme":"https"}"#,
+    r#"{"job_name":"web","params":{"a":["1"]},"relabel_configs":[{"target_label":"t"}],"metrics_path":"/m"}"#,
+    r#"{"job_name":"web","params":{"a":["1"]},"relabel_configs":[{"target_label":"t"}],"honor_labels":true}"#,
+    r#"{"job_name":"web","params":{"a":["1"]},"relabel_configs":[{"target_label":"t"}],"honor_timestamps":false}"#,
+    r#"{"job_name":"web","params":{"a":["2"]},"relabel_configs":[{"target_label":"t"}]}"#,
+    r#"{"job_name":"web","params":{"a":["1"],"b":[]},"relabel_configs":[{"target_label":"t"}]}"#,
+    r#"{"job_name":"web","params":{"a":["1"]},"relabel_configs":[{"target_label":"t","modulus":3}]}"#,
+    r#"{"job_name":"web","params":{"a":["1"]},"relabel_configs":[{"target_label":"t"},{"target_label":"t"}]}"#,
+    r#"{"job_name":"web","params":{"a":["1"]},"metric_relabel_configs":[{"target_label":"t"}]}"#,
+];
+
 #[test]
 fn settings_are_compared_after_defaults(rt: HostRuntime) -> Result<(), Fail> {
-    let text =
-        r#"{"job_name":"web","params":{"a":["1"]},"relabel_configs":[{"target_label":"t"}]}"#;
-    let old = job(rt.alloc(), text)?;
-    let rows = [
-        (
-            r#"{"job_name":"web","params":{"a":["1"]},"relabel_configs":[{"target_label":"t"}],"scheme":"http","scrape_interval":"60s"}"#,
-            true,
-            true,
-        ),
-        (
-            r#"{"job_name":"web","params":{"a":["1"]},"relabel_configs":[{"target_label":"t","separator":";"}],"static_configs":[{"targets":["a:1"]}]}"#,
-            true,
-            true,
-        ),
-        (
-            r#"{"job_name":"web","params":{"a":["1"]},"relabel_configs":[{"target_label":"t"}],"scrape_interval":"50s"}"#,
-            true,
-            false,
-        ),
-        (
-            r#"{"job_name":"web","params":{"a":["1"]},"relabel_configs":[{"target_label":"t"}],"scrape_timeout":"9s"}"#,
-            true,
-            false,
-        ),
-        (
-            r#"{"job_name":"web","params":{"a":["1"]},"relabel_configs":[{"target_label":"t"}],"target_limit":1}"#,
-            true,
-            false,
-        ),
-        (
-            r#"{"job_name":"web2","params":{"a":["1"]},"relabel_configs":[{"target_label":"t"}]}"#,
-            false,
-            false,
-        ),
-        (
-            r#"{"job_name":"web","params":{"a":["1"]},"relabel_configs":[{"target_label":"t"}],"scheme":"https"}"#,
-            false,
-            false,
-        ),
-        (
-            r#"{"job_name":"web","params":{"a":["1"]},"relabel_configs":[{"target_label":"t"}],"metrics_path":"/m"}"#,
-            false,
-            false,
-        ),
-        (
-            r#"{"job_name":"web","params":{"a":["1"]},"relabel_configs":[{"target_label":"t"}],"honor_labels":true}"#,
-            false,
-            false,
-        ),
-        (
-            r#"{"job_name":"web","params":{"a":["1"]},"relabel_configs":[{"target_label":"t"}],"honor_timestamps":false}"#,
-            false,
-            false,
-        ),
-        (
-            r#"{"job_name":"web","params":{"a":["2"]},"relabel_configs":[{"target_label":"t"}]}"#,
-            false,
-            false,
-        ),
-        (
-            r#"{"job_name":"web","params":{"a":["1"],"b":[]},"relabel_configs":[{"target_label":"t"}]}"#,
-            false,
-            false,
-        ),
-        (
-            r#"{"job_name":"web","params":{"a":["1"]},"relabel_configs":[{"target_label":"t","modulus":3}]}"#,
-            false,
-            false,
-        ),
-        (
-            r#"{"job_name":"web","params":{"a":["1"]},"relabel_configs":[{"target_label":"t"},{"target_label":"t"}]}"#,
-            false,
-            false,
-        ),
-        (
-            r#"{"job_name":"web","params":{"a":["1"]},"metric_relabel_configs":[{"target_label":"t"}]}"#,
-            false,
-            false,
-        ),
-    ];
-    for (text, compatible, same) in rows {
+    let old = job(rt.alloc(), OLD)?;
+    for (text, same) in COMPATIBLE {
         let new = job(rt.alloc(), text)?;
-        assert_eq!(rt; old.compatible(&new), compatible, "{text}");
+        assert!(rt; old.compatible(&new), "{text}");
         assert_eq!(rt; old.same(&new), same, "{text}");
+    }
+    Ok(())
+}
+
+#[test]
+fn names_flags_and_lists_are_to_be_the_same(rt: HostRuntime) -> Result<(), Fail> {
+    let old = job(rt.alloc(), OLD)?;
+    for text in INCOMPATIBLE {
+        let new = job(rt.alloc(), text)?;
+        assert!(rt; !old.compatible(&new), "{text}");
+        assert!(rt; !old.same(&new), "{text}");
     }
     Ok(())
 }

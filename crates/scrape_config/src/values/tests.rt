@@ -117,51 +117,53 @@ fn plain_fields_have_what_is_said_or_defaults(rt: HostRuntime) -> Result<(), Fai
     Ok(())
 }
 
+/// Configurations and jobs, and the interval and the timeout that they give.
+const DURATIONS: [(&str, &str, (i64, i64)); 8] = [
+    (
+        r#"{"global":{"scrape_interval":"15s"}}"#,
+        "{}",
+        (15_000, 10_000),
+    ),
+    (
+        r#"{"global":{"scrape_interval":"5s"}}"#,
+        "{}",
+        (5_000, 5_000),
+    ),
+    (
+        r#"{"global":{"scrape_timeout":"20s"}}"#,
+        "{}",
+        (60_000, 20_000),
+    ),
+    (
+        r#"{"global":{"scrape_interval":"15s","scrape_timeout":"15s"}}"#,
+        r#"{"scrape_interval":"7s"}"#,
+        (7_000, 7_000),
+    ),
+    (
+        r#"{"global":{"scrape_interval":"5s"}}"#,
+        r#"{"scrape_interval":"1m"}"#,
+        (60_000, 5_000),
+    ),
+    (
+        "{}",
+        r#"{"scrape_interval":"0s","scrape_timeout":"0"}"#,
+        (60_000, 10_000),
+    ),
+    (
+        "{}",
+        r#"{"scrape_interval":"3s","scrape_timeout":"2s"}"#,
+        (3_000, 2_000),
+    ),
+    (
+        r#"{"global":{"scrape_interval":"0"}}"#,
+        "{}",
+        (60_000, 10_000),
+    ),
+];
+
 #[test]
 fn durations_stand_in_the_order_job_global_default(rt: HostRuntime) -> Result<(), Fail> {
-    let rows: [(&str, &str, (i64, i64)); 8] = [
-        (
-            r#"{"global":{"scrape_interval":"15s"}}"#,
-            "{}",
-            (15_000, 10_000),
-        ),
-        (
-            r#"{"global":{"scrape_interval":"5s"}}"#,
-            "{}",
-            (5_000, 5_000),
-        ),
-        (
-            r#"{"global":{"scrape_timeout":"20s"}}"#,
-            "{}",
-            (60_000, 20_000),
-        ),
-        (
-            r#"{"global":{"scrape_interval":"15s","scrape_timeout":"15s"}}"#,
-            r#"{"scrape_interval":"7s"}"#,
-            (7_000, 7_000),
-        ),
-        (
-            r#"{"global":{"scrape_interval":"5s"}}"#,
-            r#"{"scrape_interval":"1m"}"#,
-            (60_000, 5_000),
-        ),
-        (
-            "{}",
-            r#"{"scrape_interval":"0s","scrape_timeout":"0"}"#,
-            (60_000, 10_000),
-        ),
-        (
-            "{}",
-            r#"{"scrape_interval":"3s","scrape_timeout":"2s"}"#,
-            (3_000, 2_000),
-        ),
-        (
-            r#"{"global":{"scrape_interval":"0"}}"#,
-            "{}",
-            (60_000, 10_000),
-        ),
-    ];
-    for (conf, text, want) in rows {
+    for (conf, text, want) in DURATIONS {
         let job = job_under(rt.alloc(), conf, text)?;
         assert!(rt;
             (job.scrape_interval, job.scrape_timeout) == want,

@@ -1,7 +1,7 @@
 use Rattle.std.proofs.Common.{rules, ◌≡◌, ◌+◌, drop, ap, ◌∙◌}
 use Rattle.serde_json.specs.View.{view, items_view}
-use Rattle.scrape_config.specs.Faults.{best}
-use Rattle.scrape_config.specs.Places.{item_place}
+use Rattle.config_fields.specs.Faults.{best}
+use Rattle.config_fields.specs.Places.{item_place}
 use Rattle.scrape_config.specs.Lists.{job_faults, jobs_walk}
 use Rattle.scrape_config.proofs.ListLemmas.{next_item, told_next}
 use Rattle.scrape_config.proofs.lists.each_job.Goals as goal

@@ -1,6 +1,6 @@
 use Rattle.std.proofs.Common.{◌≡◌}
 use Rattle.serde_json.specs.View.{members_view}
-use Rattle.scrape_config.specs.Faults.{best}
+use Rattle.config_fields.specs.Faults.{best}
 use Rattle.scrape_config.specs.Lists.{top_members_faults}
 use Rattle.scrape_config.proofs.lists.members_of_text.Given as goal
 

@@ -1,8 +1,8 @@
 use Rattle.std.proofs.Common.{rules, ◌≡◌, ◌+◌, drop, ap, ◌∙◌}
 use Rattle.serde_json.specs.View.{view, items_view}
-use Rattle.scrape_config.specs.Faults.{best}
-use Rattle.scrape_config.specs.Places.{item_place}
-use Rattle.scrape_config.specs.Walks.{object_faults}
+use Rattle.config_fields.specs.Faults.{best}
+use Rattle.config_fields.specs.Places.{item_place}
+use Rattle.config_fields.specs.Walks.{object_faults}
 use Rattle.scrape_config.specs.Lists.{object_in, objects_faults}
 use Rattle.scrape_config.proofs.ListLemmas.{next_item, told_next}
 use Rattle.scrape_config.proofs.lists.objects.Goals as goal

@@ -1,6 +1,6 @@
 use Rattle.std.proofs.Common.{◌≡◌, drop}
 use Rattle.serde_json.specs.View.{items_view}
-use Rattle.scrape_config.specs.Faults.{best}
+use Rattle.config_fields.specs.Faults.{best}
 use Rattle.scrape_config.specs.Lists.{objects_faults}
 use Rattle.scrape_config.proofs.lists.objects.Given as goal
 

@@ -1,6 +1,6 @@
 use Rattle.std.proofs.Common.{inl, inr, codes}
 use Rattle.serde_json.specs.View.{view}
-use Rattle.scrape_config.specs.Places.{item_place}
+use Rattle.config_fields.specs.Places.{item_place}
 use Rattle.scrape_config.specs.Values.{built, job_of}
 use Rattle.scrape_config.specs.Reading as spec
 use Rattle.scrape_config.proofs.JobLemmas.{metric_fine, target_fine}

@@ -1,7 +1,7 @@
 use Rattle.std.proofs.Common.{sym, ◌∙◌}
 use Rattle.serde_json.specs.View.{view}
 use Rattle.scrape_config.specs.Lists.{conf_faults}
-use Rattle.scrape_config.proofs.FaultLemmas.{told-none}
+use Rattle.config_fields.proofs.FaultLemmas.{told-none}
 use Rattle.scrape_config.proofs.read.read_conf.Goals as goal
 
 pub conf_in-requires : goal.conf_in-requires

@@ -1,0 +1,175 @@
+//! What the value of a field may be.
+ghost use Rattle.std.specs.Prelude.{◌≡◌, option_map, pos};
+ghost use Rattle.std.specs.Str.{str_eq_ignore_ascii_case};
+ghost use Rattle.serde_json.specs.View.{view, number_view};
+ghost use Rattle.config_fields.specs.Forms as spec;
+
+use crate::fault::Flaw;
+use label_set::is_label_name;
+use relabel::Action;
+use serde_json::{Number, Value};
+use value_text::read_duration;
+
+/// What a text may be.
+#[derive(Clone, Copy, Debug)]
+pub enum TextForm {
+    Any,
+    /// A text that isn't empty.
+    Filled,
+    /// A text of 1 to 4,096 bytes.
+    ShortName,
+    LabelName,
+    Scheme,
+    Action,
+    /// A duration of at most 2^40 milliseconds.
+    Duration,
+    /// A duration of at most so many milliseconds.
+    Timeout(i64),
+}
+
+/// What a value without fields and items may be.
+#[derive(Clone, Copy, Debug)]
+pub enum Kind {
+    /// Any value, accepted and not read.
+    Any,
+    Truth,
+    /// A whole number up to 2^52 - 1.
+    Limit,
+    /// A whole number from 1 to 2^64 - 1.
+    Modulus,
+    Text(TextForm),
+}
+
+/// The milliseconds of a duration of at most 2^40.
+#[tactic(auto, unfolding(crate::specs::Forms::millis_of))]
+pub fn millis_of(text: &str) -> Option<i64>
+    ensures { result ≡ option_map (λ n. pos n) (spec.millis_of text.now) }
+{
+    read_duration(text).ok()
+}
+
+/// Whether a text is `http` or `https`.
+#[tactic(auto, unfolding(crate::specs::Forms::is_scheme))]
+fn is_scheme(text: &str) -> bool
+    ensures { result ≡ spec.is_scheme text.now }
+{
+    text == "http" || text == "https"
+}
+
+/// Whether a text is this name, the letters of ASCII in any case.
+fn is_named(text: &str, name: &str) -> bool
+    ensures { result ≡ str_eq_ignore_ascii_case text.now name.now }
+{
+    text.eq_ignore_ascii_case(name)
+}
+
+/// The action of a name, the letters of ASCII in any case.
+#[tactic(auto, unfolding(crate::specs::Forms::action_of))]
+pub fn action_of(text: &str) -> Option<Action>
+    ensures { result ≡ spec.action_of text.now }
+{
+    if is_named(text, "replace") {
+        Some(Action::Replace)
+    } else if is_named(text, "keep") {
+        Some(Action::Keep)
+    } else if is_named(text, "drop") {
+        Some(Action::Drop)
+    } else if is_named(text, "keepequal") {
+        Some(Action::KeepEqual)
+    } else if is_named(text, "dropequal") {
+        Some(Action::DropEqual)
+    } else if is_named(text, "hashmod") {
+        Some(Action::HashMod)
+    } else if is_named(text, "labelmap") {
+        Some(Action::LabelMap)
+    } else if is_named(text, "labeldrop") {
+        Some(Action::LabelDrop)
+    } else if is_named(text, "labelkeep") {
+        Some(Action::LabelKeep)
+    } else if is_named(text, "lowercase") {
+        Some(Action::Lowercase)
+    } else if is_named(text, "uppercase") {
+        Some(Action::Uppercase)
+    } else {
+        None
+    }
+}
+
+#[tactic(auto, unfolding(crate::specs::Forms::is_short_name))]
+fn is_short_name(text: &str) -> bool
+    ensures { result ≡ spec.is_short_name text.now }
+{
+    1 <= text.len() && text.len() <= 4096
+}
+
+#[tactic(auto, unfolding(crate::specs::Forms::is_within))]
+fn is_within(most: i64, text: &str) -> bool
+    ensures { result ≡ spec.is_within most text.now }
+{
+    match millis_of(text) {
+        Some(millis) => millis <= most,
+        None => false,
+    }
+}
+
+#[tactic(auto, unfolding(crate::specs::Forms::is_limit))]
+fn is_limit(number: &Number) -> bool
+    ensures { result ≡ spec.is_limit (number_view number.now) }
+{
+    match number.as_u64() {
+        Some(number) => number < 1 << 52,
+        None => false,
+    }
+}
+
+#[tactic(auto, unfolding(crate::specs::Forms::is_modulus))]
+fn is_modulus(number: &Number) -> bool
+    ensures { result ≡ spec.is_modulus (number_view number.now) }
+{
+    match number.as_u64() {
+        Some(number) => 0 < number,
+        None => false,
+    }
+}
+
+/// Whether a text is of a form.
+#[tactic(auto, unfolding(crate::specs::Forms::is_text_of))]
+pub fn is_text_of(form: TextForm, text: &str) -> bool
+    ensures { result ≡ spec.is_text_of form text.now }
+{
+    match form {
+        TextForm::Any => true,
+        TextForm::Filled => !text.is_empty(),
+        TextForm::ShortName => is_short_name(text),
+        TextForm::LabelName => is_label_name(text),
+        TextForm::Scheme => is_scheme(text),
+        TextForm::Action => action_of(text).is_some(),
+        TextForm::Duration => millis_of(text).is_some(),
+        TextForm::Timeout(most) => is_within(most, text),
+    }
+}
+
+/// The flaw of a value, of the right kind or not, and then allowed or not.
+pub fn judged(is_allowed: Option<bool>) -> Option<Flaw>
+    ensures { result ≡ spec.judged is_allowed }
+{
+    match is_allowed {
+        None => Some(Flaw::Shape),
+        Some(true) => None,
+        Some(false) => Some(Flaw::Value),
+    }
+}
+
+/// What is wrong with a value of a kind.
+#[tactic(auto, unfolding(crate::specs::Forms::flaw_of))]
+pub fn flaw_of(kind: Kind, value: &Value) -> Option<Flaw>
+    ensures { result ≡ spec.flaw_of kind (view value.now) }
+{
+    match kind {
+        Kind::Any => None,
+        Kind::Truth => judged(value.as_bool().map(|_| true)),
+        Kind::Limit => judged(value.as_number().map(is_limit)),
+        Kind::Modulus => judged(value.as_number().map(is_modulus)),
+        Kind::Text(form) => judged(value.as_str().map(|text| is_text_of(form, text))),
+    }
+}
