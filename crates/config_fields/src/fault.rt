@@ -28,7 +28,7 @@ pub enum ConfFault {
     Rule { place: Name },
 }
 
-/// What is wrong with a value, without its place.
+/// What is wrong with a value, without its place: the fault of the same name.
 #[derive(Clone, Copy, PartialEq, Eq, Debug)]
 pub enum Flaw {
     Shape,
@@ -67,7 +67,7 @@ fn number_of(fault: &ConfFault) -> u8
     }
 }
 
-/// Whether a fault of this number would be told rather than the one found so far.
+/// Whether a fault of this number would be told rather than the one found so far: it is the first, or its number is less.
 pub fn is_told_over(number: u8, found: &Option<ConfFault>) -> bool
     ensures { result ≡ is_told_over number found.now }
 {
@@ -90,7 +90,8 @@ fn placed(flaw: Flaw, place: Name) -> ConfFault
     }
 }
 
-/// Notes a flaw of the value at a place. The fault is made only where it is told rather than the one found so far.
+/// Notes a flaw of the value at a place. The fault is made only where it is told rather than the one found so far;
+/// an error is want of memory for it.
 pub fn note(
     alloc: Global,
     found: &mut Option<ConfFault>,
@@ -105,7 +106,7 @@ pub fn note(
     Ok(())
 }
 
-/// Notes a flaw of a field of the object at a place.
+/// Notes a flaw of a field of the object at a place, as `note` does.
 pub fn note_field(
     alloc: Global,
     found: &mut Option<ConfFault>,
@@ -121,7 +122,7 @@ pub fn note_field(
     Ok(())
 }
 
-/// Notes a flaw of an item of the list at a place.
+/// Notes a flaw of an item of the list at a place, as `note` does. Items are counted from 0.
 pub fn note_item(
     alloc: Global,
     found: &mut Option<ConfFault>,

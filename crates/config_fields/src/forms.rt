@@ -1,4 +1,4 @@
-//! What the value of a field may be.
+//! What the value of a field may be ("Configuration" of the Prometheus documentation).
 ghost use Rattle.std.specs.Prelude.{◌≡◌, option_map, pos};
 ghost use Rattle.std.specs.Str.{str_eq_ignore_ascii_case};
 ghost use Rattle.serde_json.specs.View.{view, number_view};
@@ -10,7 +10,7 @@ use relabel::Action;
 use serde_json::{Number, Value};
 use value_text::read_duration;
 
-/// What a text may be.
+/// What a text of a field may be.
 #[derive(Clone, Copy, Debug)]
 pub enum TextForm {
     Any,
@@ -19,7 +19,9 @@ pub enum TextForm {
     /// A text of 1 to 4,096 bytes.
     ShortName,
     LabelName,
+    /// `http` or `https`.
     Scheme,
+    /// The name of an action of relabelling, the letters of ASCII in any case.
     Action,
     /// A duration of at most 2^40 milliseconds.
     Duration,
@@ -32,6 +34,7 @@ pub enum TextForm {
 pub enum Kind {
     /// Any value, accepted and not read.
     Any,
+    /// `true` or `false`.
     Truth,
     /// A whole number up to 2^52 - 1.
     Limit,
@@ -40,7 +43,7 @@ pub enum Kind {
     Text(TextForm),
 }
 
-/// The milliseconds of a duration of at most 2^40.
+/// The milliseconds of a duration of at most 2^40; none where the text is no such duration.
 #[tactic(auto, unfolding(crate::specs::Forms::millis_of))]
 pub fn millis_of(text: &str) -> Option<i64>
     ensures { result ≡ option_map (λ n. pos n) (spec.millis_of text.now) }
@@ -63,7 +66,7 @@ fn is_named(text: &str, name: &str) -> bool
     text.eq_ignore_ascii_case(name)
 }
 
-/// The action of a name, the letters of ASCII in any case.
+/// The action of a name, the letters of ASCII in any case; none where no action has the name.
 #[tactic(auto, unfolding(crate::specs::Forms::action_of))]
 pub fn action_of(text: &str) -> Option<Action>
     ensures { result ≡ spec.action_of text.now }
@@ -149,7 +152,7 @@ pub fn is_text_of(form: TextForm, text: &str) -> bool
     }
 }
 
-/// The flaw of a value, of the right kind or not, and then allowed or not.
+/// The flaw of a value that is of the right kind or not (`None`), and then allowed or not; none where it is allowed.
 pub fn judged(is_allowed: Option<bool>) -> Option<Flaw>
     ensures { result ≡ spec.judged is_allowed }
 {
@@ -160,7 +163,7 @@ pub fn judged(is_allowed: Option<bool>) -> Option<Flaw>
     }
 }
 
-/// What is wrong with a value of a kind.
+/// What is wrong with the value of a field of a kind; none where it is allowed.
 #[tactic(auto, unfolding(crate::specs::Forms::flaw_of))]
 pub fn flaw_of(kind: Kind, value: &Value) -> Option<Flaw>
     ensures { result ≡ spec.flaw_of kind (view value.now) }

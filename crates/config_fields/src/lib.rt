@@ -1,8 +1,8 @@
-//! What each field of a configuration may hold, and the faults of one object of it: the tables of the Prometheus documentation.
+//! What each field of a configuration may hold ("Configuration" of the Prometheus documentation), and the faults of one object of it.
 //! `tables` has the fields of each object, `forms` what a value may be, and `walks` goes through an object that holds no further ones;
-//! `place` names where a fault stands, and `fault` says which of several is told.
-//! Contracts see JSON as its data, a fault as itself with its place as a list of bytes, and what a walk notes as the list of all faults
-//! in its order, of which the first of the least number is kept.
+//! `place` says where a fault stands, and `fault` which of several is told.
+//! Contracts see JSON as its data, and a fault as itself with its place as a list of bytes. A walk is defined in `specs/` as the list of
+//! all faults in its order; its code keeps the first of the least number.
 #![tactic(auto)]
 
 pub mod fault;

@@ -1,4 +1,5 @@
-//! The fields of each object, as a table.
+//! The fields of each object, as a table ("Configuration" of the Prometheus documentation: configuration file, global, scrape_config,
+//! relabel_config, static_config, file_sd_config).
 ghost use Rattle.std.specs.Prelude.{◌≡◌};
 ghost use Rattle.config_fields.specs.Tables as spec;
 
@@ -23,28 +24,35 @@ pub enum Field {
 /// A list of objects.
 #[derive(Clone, Copy, PartialEq, Eq, Debug)]
 pub enum ListKind {
+    /// `relabel_configs` and `metric_relabel_configs`.
     Rules,
     /// The groups of `static_configs`.
     StaticGroups,
     /// The groups of a file.
     FileGroups,
+    /// `file_sd_configs`.
     FileLists,
 }
 
 /// What a field of a job holds.
 #[derive(Clone, Copy, Debug)]
 pub enum JobField {
+    /// A value that has no further objects.
     Plain(Field),
+    /// A list of objects.
     List(ListKind),
 }
 
 /// What a field of the whole text holds.
 #[derive(Clone, Copy, PartialEq, Eq, Debug)]
 pub enum TopField {
+    /// `global`.
     Global,
+    /// `scrape_configs`.
     Jobs,
     /// Accepted and not read.
     PassedOver,
+    /// No such field is known.
     Unknown,
 }
 
@@ -53,6 +61,7 @@ pub enum TopField {
 pub enum ObjectKind {
     /// `global`, with the interval that its timeout may not pass.
     Global(i64),
+    /// One of `static_configs`, or of the list of a file.
     Group,
     /// One of `file_sd_configs`.
     FileList,
@@ -201,7 +210,7 @@ fn rule_field(action: Option<Action>, key: &str) -> Field
     }
 }
 
-/// The fields of an object.
+/// What the field of a key holds, in an object of a kind.
 #[tactic(auto, unfolding(crate::specs::Tables::field_of))]
 pub fn field_of(kind: ObjectKind, key: &str) -> Field
     ensures { result ≡ spec.field_of kind key.now }
@@ -242,7 +251,7 @@ fn job_plain_field(most: i64, key: &str) -> Field
     }
 }
 
-/// `scrape_configs`.
+/// What the field of a key holds, in one of `scrape_configs` whose timeout may not pass `most` milliseconds.
 #[tactic(auto, unfolding(crate::specs::Tables::job_field))]
 pub fn job_field(most: i64, key: &str) -> JobField
     ensures { result ≡ spec.job_field most key.now }
@@ -273,7 +282,7 @@ fn is_passed_over(key: &str) -> bool
         || key == "tracing"
 }
 
-/// The whole text.
+/// What the field of a key holds, in the whole text.
 #[tactic(auto, unfolding(crate::specs::Tables::top_field))]
 pub fn top_field(key: &str) -> TopField
     ensures { result ≡ spec.top_field key.now }
@@ -326,7 +335,7 @@ fn needs_target(action: Option<Action>) -> bool
     }
 }
 
-/// The required fields of an object.
+/// The fields that an object of a kind must have, before a walk through it begins.
 #[tactic(auto, unfolding(crate::specs::Tables::owed_by))]
 pub fn owed_by(kind: ObjectKind) -> Owed
     ensures { result ≡ spec.owed_by kind }

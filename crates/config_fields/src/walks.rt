@@ -1,4 +1,5 @@
-//! The walk through the objects that hold no further objects.
+//! The walk through the objects that hold no further objects. Each step keeps in `found` the fault that is told so far;
+//! an error is want of memory.
 ghost use Rattle.std.specs.Prelude.{◌≡◌, OnOk, IfOk};
 ghost use Rattle.serde_json.specs.View.{view, members_view, items_view};
 ghost use Rattle.config_fields.specs.Faults.{best};
@@ -50,7 +51,7 @@ fn items(
 
 /// A list of texts.
 #[tactic(auto, unfolding(crate::specs::Walks::texts_faults))]
-pub fn texts(
+fn texts(
     alloc: Global,
     form: TextForm,
     place: &str,
@@ -149,7 +150,7 @@ fn params(
     }
 }
 
-/// The value of a field that has no further objects. Its place is put together where it may be needed.
+/// Notes the faults of the value of a field, under a key of the object at a place. Its place is put together where it may be needed.
 #[tactic(auto, unfolding(crate::specs::Walks::field_faults))]
 pub fn field(
     alloc: Global,
@@ -237,7 +238,7 @@ pub fn pass_by(
     })
 }
 
-/// Notes the required fields that never came.
+/// Notes the required fields that never came, where a walk has come to the end of the object at a place.
 #[tactic(auto, unfolding(crate::specs::Walks::missing_at_end))]
 pub fn end(
     alloc: Global,
@@ -277,7 +278,7 @@ fn members(
     end(alloc, place, owed, found)
 }
 
-/// An object.
+/// Notes the faults of an object of a kind, the value at a place.
 #[tactic(auto, unfolding(crate::specs::Walks::object_faults))]
 pub fn object(
     alloc: Global,
