@@ -1,5 +1,5 @@
 -- The limits of a scrape job (Prometheus documentation, "Configuration", `<scrape_config>`).
-use Rattle.std.specs.Prelude.{ℕ, Bool, not, List, length, Option, Some, None, ◌&&◌, ◌==◌, nat_lt, if◌then◌else◌}
+use Rattle.std.specs.Prelude.{ℕ, Bool, not, List, length, Option, Some, None, ◌&&◌, ◌==◌, nat_lt, nat_le, if◌then◌else◌}
 use Rattle.std.specs.List.{list_any}
 use Rattle.label_set.specs.declared.texts.Pair.{Pair}
 use Rattle.scrape_limits.specs.declared.limits.Limits.{Limits}
@@ -33,3 +33,11 @@ limit_fault limits labels =
 -- more samples left than `sample_limit`
 abbrev pub has_many_samples : Limits → ℕ → Bool
 has_many_samples limits left = is_past limits.sample left
+
+-- the most bytes of a body, 64 MiB, which is this project's own limit
+abbrev pub most_bytes : ℕ
+most_bytes = 67108864
+
+-- how many bytes a body may have: `body_size_limit` where that is from 1 byte to the most, else the most
+abbrev pub body_limit : Limits → ℕ
+body_limit limits = if nat_lt 0 limits.body_size && nat_le limits.body_size most_bytes then limits.body_size else most_bytes

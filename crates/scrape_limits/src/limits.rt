@@ -1,7 +1,8 @@
 //! Limits, and what is past them.
-ghost use Rattle.std.specs.Prelude.{◌≡◌, length};
+ghost use Rattle.std.specs.Prelude.{◌≡◌, ◌≤◌, length};
 ghost use Rattle.std.specs.List.{list_any};
 ghost use Rattle.label_set.specs.declared.texts.Pair.{Pair};
+ghost use Rattle.scrape_limits.specs.Limits as spec;
 ghost use Rattle.scrape_limits.specs.Limits.{is_past, limit_fault, has_many_samples};
 
 use label_set::{LabelSet, Pair};
@@ -60,8 +61,23 @@ pub fn too_many(limits: &Limits, left: u64) -> bool
     exceeds(limits.sample, left)
 }
 
-/// Whether there is a limit and a count is greater.
-fn exceeds(limit: u64, count: u64) -> bool
+/// The most bytes that any body may have: 64 MiB. (This project's own limit.)
+pub const MOST_BYTES: u64 = 67_108_864;
+
+/// How many bytes a body may have: `body_size_limit` where that is from 1 byte to 64 MiB, and 64 MiB in every other case.
+pub fn body_limit(limits: &Limits) -> u64
+    ensures value { result ≡ spec.body_limit limits.now }
+    ensures most { result ≤ spec.most_bytes }
+{
+    if limits.body_size > 0 && limits.body_size <= MOST_BYTES {
+        limits.body_size
+    } else {
+        MOST_BYTES
+    }
+}
+
+/// Whether a count is past a limit: there is a limit, and the count is greater. A limit of 0 is none.
+pub fn exceeds(limit: u64, count: u64) -> bool
     ensures { result ≡ is_past limit count }
 {
     limit != 0 && count > limit
@@ -124,6 +140,24 @@ mod tests {
             assert_eq!(rt; judge(&limits, &LabelSet::empty()), None);
         }
         Ok(())
+    }
+
+    #[test]
+    fn bodies_have_limits(rt: HostRuntime) {
+        let cases = [
+            (0, MOST_BYTES),
+            (1, 1),
+            (MOST_BYTES, MOST_BYTES),
+            (MOST_BYTES + 1, MOST_BYTES),
+            (u64::MAX, MOST_BYTES),
+        ];
+        for (body_size, limit) in cases {
+            let limits = Limits {
+                body_size,
+                ..NO_LIMITS
+            };
+            assert_eq!(rt; body_limit(&limits), limit);
+        }
     }
 
     #[test]

@@ -1,6 +1,6 @@
 -- The request of a scrape ("Configuration", scrape_config: params and metrics_path; relabel_config: the labels `__scheme__`, `__address__`,
 -- `__metrics_path__` and `__param_<name>`; what a URL shows is the URL Standard's, and the limit of 64 MiB is this project's).
-use Rattle.std.specs.Prelude.{ℕ, ◌&&◌, List, [], ◌∷◌, ◌++◌, find, map, flat_map, filter_map, fold, drop, length, slice_index, codes, decimal, ◌==◌, nat_lt, nat_le, Option, Some, None, is_some, option_map, unwrap_or, Ok, Err, if◌then◌else◌}
+use Rattle.std.specs.Prelude.{ℕ, List, [], ◌∷◌, ◌++◌, find, map, flat_map, filter_map, fold, drop, length, slice_index, codes, decimal, ◌==◌, Option, Some, None, is_some, option_map, unwrap_or, Ok, Err, if◌then◌else◌}
 use Rattle.std.specs.Borrow.{Bor}
 use Rattle.std.specs.Str.{bytes_eq}
 use Rattle.std.specs.BTreeSet.{insert_key}
@@ -14,6 +14,7 @@ use Rattle.label_set.specs.declared.texts.Pair.{Pair}
 use Rattle.outside.specs.declared.requests.Request.{Request}
 use Rattle.outside.specs.declared.requests.Scheme.{Scheme}
 use Rattle.outside.specs.declared.requests.Scheme.TheVariants.{Http, Https}
+use Rattle.scrape_limits.specs.Limits.{body_limit}
 use Rattle.scrape_config.specs.declared.conf.Param.{Param}
 use Rattle.scrape_config.specs.declared.conf.JobConf.{JobConf}
 use Rattle.target_set.specs.Prepared.{address_label, scheme_label, path_label, param_prefix}
@@ -114,14 +115,6 @@ authority_of url = host_of url ++ unwrap_or (option_map (λ n. codes ":" ++ deci
 unfoldable pub target_of : Parts → List ℕ
 target_of url = url.path ++ unwrap_or (option_map (λ q. codes "?" ++ q) url.query) []
 
--- the most bytes of a body: 64 MiB
-abbrev pub most_bytes : ℕ
-most_bytes = 67108864
-
--- how many bytes a body may have: the job's limit where it has one up to the most, else the most
-abbrev pub body_limit : ℕ → ℕ
-body_limit size = if nat_lt 0 size && nat_le size most_bytes then size else most_bytes
-
 -- the request for a page
 abbrev pub request_for : JobConf → Scheme → Parts → Request
 request_for conf scheme page =
@@ -132,7 +125,7 @@ request_for conf scheme page =
       port = unwrap_or page.port (scheme_port scheme);
       target = target_of page;
       timeout = conf.scrape_timeout;
-      limit = body_limit conf.limits.body_size;
+      limit = body_limit conf.limits;
     }
 
 -- the request of a target of a job at its URL

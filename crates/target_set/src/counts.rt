@@ -1,6 +1,5 @@
-//! What isn't kept of the listed targets, and whether too many are.
+//! What isn't kept of the listed targets.
 ghost use Rattle.std.specs.Prelude.{◌≡◌, ◌≤◌, length, IfOk};
-ghost use Rattle.scrape_limits.specs.Limits.{is_past};
 ghost use Rattle.target_set.specs.Listed as spec;
 
 use crate::targets::{Outcome, RefusedList, RefusedTarget};
@@ -36,11 +35,4 @@ pub fn dropped_of(outcomes: &[Outcome]) -> u32
         }
     }
     dropped
-}
-
-/// Whether there is a limit and a count is greater.
-pub fn exceeds(limit: u64, count: u64) -> bool
-    ensures { result ≡ is_past limit count }
-{
-    limit != 0 && count > limit
 }

@@ -11,12 +11,10 @@ use crate::prepare::param_label;
 use label_set::{LabelSet, Name, NoMemory, Pair};
 use outside::{Request, Scheme};
 use scrape_config::{JobConf, Param};
+use scrape_limits::body_limit;
 use std::alloc::Global;
 use std::collections::BTreeSet;
 use url::{ParseResult, Url};
-
-/// The most bytes that a body may have: 64 MiB.
-const MOST_BYTES: u64 = 67_108_864;
 
 /// The URL of a target; none where it has a cause.
 #[tactic(auto, unfolding(crate::specs::Requests::base_of, crate::specs::Outcomes::cause_of))]
@@ -258,16 +256,6 @@ fn scheme_port(scheme: Scheme) -> u16
     }
 }
 
-fn body_limit(size: u64) -> u64
-    ensures { result ≡ spec.body_limit size }
-{
-    if size > 0 && size <= MOST_BYTES {
-        size
-    } else {
-        MOST_BYTES
-    }
-}
-
 /// The request for a page.
 fn request_for(
     alloc: Global,
@@ -284,7 +272,7 @@ fn request_for(
         port: page.port().unwrap_or(scheme_port(scheme)),
         target: target_in(alloc, page)?,
         timeout: conf.scrape_timeout,
-        limit: body_limit(conf.limits.body_size),
+        limit: body_limit(&conf.limits),
     })
 }
 

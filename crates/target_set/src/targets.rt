@@ -2,12 +2,13 @@
 ghost use Rattle.std.specs.Prelude.{◌≡◌, ◌≤◌, ◌+◌, length, IfOk, OnErr};
 ghost use Rattle.target_set.specs.Listed as spec;
 
-use crate::counts::{dropped_of, exceeds, refused_of};
+use crate::counts::{dropped_of, refused_of};
 use crate::kept::kept_of;
 use crate::walk::outcomes_of;
 use label_set::{LabelSet, NoMemory, Steps};
 use relabel::Rules;
 use scrape_config::{Group, JobConf};
+use scrape_limits::exceeds;
 use std::alloc::Global;
 use std::marker::Model;
 use std::sync::ledger::Ledger;
