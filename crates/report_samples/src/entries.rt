@@ -1,0 +1,45 @@
+//! What a book is made of.
+use label_set::LabelSet;
+use std::marker::Model;
+use value_text::ValueText;
+
+/// What an entry is ("Staleness" of the Prometheus documentation, for the two markers).
+#[derive(Clone, Copy, Debug, PartialEq, Eq)]
+pub enum Kind {
+    /// A sample of a scraped body.
+    Scraped,
+    /// A stale marker: the series has ended.
+    Stale,
+    /// A report sample of a scrape, as `up`.
+    Report,
+    /// A stale marker of a report series.
+    ReportStale,
+}
+
+/// One entry of the book. The value is absent exactly for the two markers.
+#[derive(Debug, Drop)]
+pub struct Entry {
+    /// The number of the life that appended it.
+    pub life: u64,
+    pub kind: Kind,
+    /// The label set of its series, `__name__` among the labels.
+    pub series: LabelSet,
+    /// Milliseconds since the epoch.
+    pub moment: i64,
+    pub value: Option<ValueText>,
+}
+
+/// Entries, seen as their list.
+#[derive(Debug, Drop)]
+pub struct EntryList {
+    pub items: Vec<Entry>,
+}
+
+impl Model for EntryList {
+    ghost use Rattle.std.specs.Prelude.{List};
+    ghost use Rattle.report_samples.specs.declared.entries.Entry.{Entry};
+
+    ghost Value = { List Entry };
+
+    ghost view = { λ l. l.items.items };
+}
