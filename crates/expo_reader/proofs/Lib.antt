@@ -6,5 +6,6 @@ pub mod LineLemmas
 pub mod NameLemmas
 pub mod PartLemmas
 pub mod TextLemmas
+pub mod RowLemmas
 pub mod SoundLemmas
 pub mod WordLemmas

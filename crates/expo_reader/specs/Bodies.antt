@@ -1,6 +1,9 @@
 -- Bodies of the text exposition format, line by line (Prometheus documentation, "Exposition formats").
-use Rattle.std.specs.Prelude.{◌≡◌, ℕ, ◌+◌, Bool, not, ◌||◌, List, [], ◌∷◌, ◌++◌, slice_index, Option, Some, None, Result, Ok, Err, MatchResult, if◌then◌else◌, ◌==◌}
-use Rattle.std.specs.List.{prefix_len}
+use Rattle.std.specs.Prelude.{◌≡◌, ℕ, ◌+◌, Bool, false, not, ◌||◌, List, [], ◌∷◌, ◌++◌, map, slice_index, Option, Some, None, Result, Ok, Err, MatchResult, if◌then◌else◌, ◌==◌}
+use Rattle.std.specs.List.{prefix_len, IsDistinct, list_any}
+use Rattle.std.specs.Str.{bytes_eq}
+use Rattle.label_set.specs.SetText.{metric_label}
+use Rattle.label_set.specs.declared.texts.Pair.{Pair}
 use Rattle.expo_reader.specs.Forms.{sample_in}
 use Rattle.expo_reader.specs.Texts.{bare, is_end}
 use Rattle.expo_reader.specs.declared.rows.BodyRow.{BodyRow}
@@ -62,6 +65,17 @@ rows_from number (l ∷ ls) = line_then (line_reading number l) (rows_from (numb
 -- the rows of a body, its lines counted from 1, or the number of its first faulty line
 unfoldable pub reading : List ℕ → Result (List BodyRow) BodyCause
 reading bytes = rows_from 1 (lines_of bytes)
+
+-- the names of some labels, and whether one of them is `__name__`
+abbrev pub names_of : List Pair → List (List ℕ)
+names_of = map (λ (p : Pair). p.name)
+
+abbrev pub has_metric_label : List Pair → Bool
+has_metric_label = list_any (λ (p : Pair). bytes_eq p.name metric_label)
+
+-- the labels of a row differ in name, and none is `__name__`
+abbrev pub IsFit : BodyRow → Type 0
+IsFit r = IsDistinct bytes_eq (names_of r.labels) × (has_metric_label r.labels ≡ false)
 
 -- the cause is the one that was said, unless memory ran out
 abbrev pub CauseIs : {A : Type 0} → BodyCause → Result A BodyCause → Type 0

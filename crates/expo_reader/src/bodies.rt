@@ -1,7 +1,7 @@
 //! Whole bodies.
-ghost use Rattle.std.specs.Prelude.{◌≡◌, ◌++◌, IfErr, IfOk, OnOk};
+ghost use Rattle.std.specs.Prelude.{◌≡◌, ◌++◌, All, IfErr, IfOk, Ok, OnOk};
 ghost use Rattle.expo_reader.specs.Grammar.{AreLines, IsCauseOf, ReadsTheFormat};
-ghost use Rattle.expo_reader.specs.Bodies.{CauseIs, Gives, lines_of, reading, row_list, rows_from};
+ghost use Rattle.expo_reader.specs.Bodies.{CauseIs, Gives, IsFit, lines_of, reading, row_list, rows_from};
 
 use crate::lines::{line_end, read_line, rest_after};
 use crate::rows::BodyRow;
@@ -54,6 +54,19 @@ impl Model for ReadBody {
     ghost invariant = { λ b. reading b.bytes ≡ Ok b.rows.items };
 }
 
+/// Reads the rows of a body that stays where it is, in the order of its lines. The label names of a row differ, and none is `__name__`.
+/// `Line` comes exactly where that line is the first faulty one, counted from 1.
+pub fn read_rows(alloc: Global, body: &[u8]) -> Result<Vec<BodyRow>, BodyCause>
+    ensures read { IfOk result (λ v. reading body.now ≡ Ok v.items) }
+    ensures cause { IfErr result (λ c. CauseIs c (reading body.now)) }
+    ensures fit { IfOk result (λ v. All IsFit v.items) }
+{
+    match rows_of(alloc, body) {
+        Ok(rows) => Ok(rows),
+        Err(cause) => Err(cause),
+    }
+}
+
 /// Reads a body. What isn't read comes back with its bytes as they were.
 pub fn read_body(alloc: Global, bytes: Blob) -> Result<ReadBody, Unread>
     ensures read { IfOk result (λ b. reading bytes ≡ Ok b.rows) }
@@ -80,6 +93,7 @@ impl ReadBody {
     pub fn rows(&self) -> &[BodyRow]
         ensures rows { result.now ≡ self.now.rows }
         ensures reading { reading self.now.bytes ≡ Ok self.now.rows }
+        ensures fit { All IsFit self.now.rows }
     {
         &self.rows
     }

@@ -14,6 +14,6 @@ pub mod rows;
 mod texts;
 mod values;
 
-pub use bodies::{BodyCause, ReadBody, Unread, read_body};
+pub use bodies::{BodyCause, ReadBody, Unread, read_body, read_rows};
 pub use rows::BodyRow;
 pub use value_text::{BadValue, ValueError, ValueText};

@@ -1,0 +1,14 @@
+//! One reply to a scrape: the samples that are left of its rows, or the fault for which the scrape isn't good.
+//! The labels of a sample line are joined with those of its target and run through the job's rules for samples; what is left is held against the job's limits.
+//! Contracts see label sets as lists of pairs, rules as the list of their settings and an outcome as the enum `Scrape`;
+//! `specs/Rows.antt` says what becomes of a row, and `specs/Outcomes.antt` what becomes of a reply.
+#![tactic(auto)]
+
+pub mod fault;
+mod left;
+mod outcome;
+pub mod scrape;
+
+pub use fault::ScrapeFault;
+pub use outcome::rows;
+pub use scrape::{RowRules, Sample, SampleList, Scrape};

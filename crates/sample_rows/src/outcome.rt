@@ -1,0 +1,183 @@
+//! What a scrape comes to, by its reply.
+ghost use Rattle.std.specs.Prelude.{◌≡◌, ◌≤◌, ◌+◌, All, false, length, IfOk, OnOk};
+ghost use Rattle.expo_reader.specs.Bodies.{IsFit, reading};
+ghost use Rattle.label_conflict.specs.Merging.{bears};
+ghost use Rattle.label_set.specs.SetText.{metric_label};
+ghost use Rattle.sample_rows.specs.Outcomes as spec;
+ghost use Rattle.sample_rows.specs.Rows.{count_fault, first_of};
+
+use crate::fault::ScrapeFault;
+use crate::left::{Sifted, sift};
+use crate::scrape::{RowRules, Sample, SampleList, Scrape};
+use expo_reader::{BodyCause, BodyRow, read_rows};
+use label_set::{LabelSet, NoMemory, Steps};
+use outside::Reply;
+use relabel::Rules;
+use scrape_limits::{Limits, body_limit, too_many};
+use std::alloc::Global;
+use std::sync::ledger::Ledger;
+
+/// A scrape that failed before a row was looked at.
+fn failed(fault: ScrapeFault) -> Scrape
+    ensures { result ≡ spec.failed fault }
+{
+    Scrape::Bad {
+        fault,
+        scraped: 0,
+        left: 0,
+    }
+}
+
+/// The fault of what is left of rows: that of a row, or that too many are left.
+fn fault_of(limits: &Limits, sifted: &Sifted) -> Option<ScrapeFault>
+    ensures { result ≡ first_of sifted.now.fault (count_fault limits.now (length sifted.now.samples.items)) }
+{
+    if sifted.fault.is_some() {
+        return sifted.fault;
+    }
+    if too_many(limits, sifted.samples.len() as u64) {
+        Some(ScrapeFault::Samples)
+    } else {
+        None
+    }
+}
+
+/// The outcome of so many rows, by their fault and the samples that are left of them.
+fn judged(fault: Option<ScrapeFault>, samples: Vec<Sample>, scraped: u64) -> Scrape
+    ensures { result ≡ spec.judged fault samples.items scraped }
+{
+    match fault {
+        None => Scrape::Good {
+            rows: SampleList { items: samples },
+            scraped,
+        },
+        Some(fault) => Scrape::Bad {
+            fault,
+            scraped,
+            left: samples.len() as u64,
+        },
+    }
+}
+
+/// The outcome of a body with these rows. Each row takes one step.
+pub fn of_rows<L: Ledger>(
+    alloc: Global,
+    rules: &RowRules,
+    metric: &Rules,
+    target: &LabelSet,
+    rows: &[BodyRow],
+    steps: &mut Steps<L>,
+) -> Result<Scrape, NoMemory>
+    requires fit { All IsFit rows.now }
+    requires nameless { bears target.now metric_label ≡ false }
+    ensures outcome { IfOk result (λ s. s ≡ spec.of_rows rules.now metric.now target.now rows.now) }
+    ensures steps { OnOk result (steps.new ≡ steps.old + length rows.now) }
+    ensures at_least { steps.old ≤ steps.new }
+    ensures at_most { steps.new ≤ steps.old + length rows.now }
+{
+    let sifted = sift(alloc, rules, metric, target, rows, steps)?;
+    let fault = fault_of(&rules.limits, &sifted);
+    Ok(judged(fault, sifted.samples, rows.len() as u64))
+}
+
+/// The outcome of a body of status 200 that came in time and is no longer than its limit.
+fn of_bytes<L: Ledger>(
+    alloc: Global,
+    rules: &RowRules,
+    metric: &Rules,
+    target: &LabelSet,
+    bytes: &[u8],
+    steps: &mut Steps<L>,
+) -> Result<Scrape, NoMemory>
+    requires nameless { bears target.now metric_label ≡ false }
+    ensures outcome { IfOk result (λ s. s ≡ spec.of_reading rules.now metric.now target.now (reading bytes.now)) }
+    ensures steps { OnOk result (steps.new ≡ steps.old + spec.run_count (reading bytes.now)) }
+    ensures at_least { steps.old ≤ steps.new }
+{
+    match read_rows(alloc, bytes) {
+        Ok(rows) => of_rows(alloc, rules, metric, target, &rows, steps),
+        Err(BodyCause::Line(line)) => Ok(failed(ScrapeFault::Line(line))),
+        Err(BodyCause::NoMemory) => Err(NoMemory),
+    }
+}
+
+/// The outcome of a body that came in time.
+fn of_body<L: Ledger>(
+    alloc: Global,
+    rules: &RowRules,
+    metric: &Rules,
+    target: &LabelSet,
+    status: u16,
+    bytes: &[u8],
+    steps: &mut Steps<L>,
+) -> Result<Scrape, NoMemory>
+    requires nameless { bears target.now metric_label ≡ false }
+    ensures outcome { IfOk result (λ s. s ≡ spec.of_body rules.now metric.now target.now status bytes.now) }
+    ensures steps { OnOk result (steps.new ≡ steps.old + spec.body_runs rules.now status bytes.now) }
+    ensures at_least { steps.old ≤ steps.new }
+{
+    if status != 200 {
+        return Ok(failed(ScrapeFault::Status(status)));
+    }
+    if bytes.len() as u64 > body_limit(&rules.limits) {
+        return Ok(failed(ScrapeFault::Size));
+    }
+    of_bytes(alloc, rules, metric, target, bytes, steps)
+}
+
+/// What a scrape of a target comes to, by its reply and the milliseconds that the fetch took: the samples that are left of its rows, or
+/// the first fault in the order of `ScrapeFault`.
+///
+/// A row's labels are joined with the target's (`honor_labels`) and run through the job's rules for samples, which takes one step a row.
+/// A row that a rule drops, or of which no label is left, isn't left. A sample keeps its own timestamp under `honor_timestamps`.
+///
+/// The source is "Configuration" of the Prometheus documentation, scrape_config, and "Exposition formats".
+///
+/// # Errors
+///
+/// Only want of memory refuses.
+#[tactic(auto, unfolding(crate::specs::Outcomes::outcome, crate::specs::Outcomes::runs))]
+pub fn rows<L: Ledger>(
+    alloc: Global,
+    rules: &RowRules,
+    metric: &Rules,
+    target: &LabelSet,
+    reply: &Reply,
+    took: i64,
+    steps: &mut Steps<L>,
+) -> Result<Scrape, NoMemory>
+    requires nameless { bears target.now metric_label ≡ false }
+    ensures outcome { IfOk result (λ s. s ≡ spec.outcome rules.now metric.now target.now reply.now took) }
+    ensures steps { OnOk result (steps.new ≡ steps.old + spec.runs rules.now reply.now took) }
+    ensures at_least { steps.old ≤ steps.new }
+{
+    match reply {
+        Reply::Lost => Ok(failed(ScrapeFault::Lost)),
+        Reply::Garbled => Ok(failed(ScrapeFault::Garbled)),
+        Reply::Unsent => Ok(failed(ScrapeFault::Unsent)),
+        Reply::Oversize => {
+            if rules.timeout < took {
+                Ok(failed(ScrapeFault::Slow))
+            } else {
+                Ok(failed(ScrapeFault::Size))
+            }
+        }
+        Reply::Body { status, bytes } => {
+            if rules.timeout < took {
+                return Ok(failed(ScrapeFault::Slow));
+            }
+            of_body(
+                alloc,
+                rules,
+                metric,
+                target,
+                *status,
+                bytes.as_slice(),
+                steps,
+            )
+        }
+    }
+}
+
+#[cfg(test)]
+mod tests;

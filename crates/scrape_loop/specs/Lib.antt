@@ -1,0 +1,3 @@
+pub mod Sets
+pub mod Tracked
+pub mod Entries

@@ -1,0 +1,77 @@
+//! Sets of label sets, each once, in rising order.
+ghost use Rattle.std.specs.Prelude.{◌≡◌, [], ◌∷◌, OnOk, OnErr, IfOk, length};
+ghost use Rattle.std.specs.BTreeSet.{insert_key};
+ghost use Rattle.label_set.specs.Sets.{set_cmp};
+ghost use Rattle.scrape_loop.specs.Sets.{has, gone};
+
+use label_set::{LabelSet, NoMemory, SetList};
+use std::alloc::Global;
+use std::collections::BTreeSet;
+use std::marker::Model;
+
+/// Label sets, each once; seen as their rising list.
+#[derive(Debug, Drop)]
+pub struct RisingSets {
+    sets: BTreeSet<LabelSet>,
+}
+
+impl Model for RisingSets {
+    ghost use Rattle.std.specs.Prelude.{List};
+    ghost use Rattle.label_set.specs.declared.texts.Pair.{Pair};
+
+    ghost Value = { List (List Pair) };
+
+    ghost view = { λ s. s.sets.keys };
+}
+
+impl RisingSets {
+    /// No sets.
+    pub fn new(alloc: Global) -> RisingSets
+        ensures { result ≡ [] }
+    {
+        RisingSets {
+            sets: BTreeSet::new(alloc),
+        }
+    }
+
+    /// Puts a set at its place, unless it is there.
+    pub fn put(&mut self, set: LabelSet) -> Result<(), NoMemory>
+        ensures { OnOk result (self.new ≡ insert_key set_cmp self.old set) }
+    {
+        let _ = self.sets.insert(set)?;
+        Ok(())
+    }
+
+    /// Whether the set is there.
+    pub fn contains(&self, set: &LabelSet) -> bool
+        ensures { result ≡ has set.now self.now }
+    {
+        self.sets.contains(set)
+    }
+
+    /// How many sets there are.
+    pub fn len(&self) -> usize
+        ensures { result ≡ length self.now }
+    {
+        self.sets.len()
+    }
+
+    /// How many of them aren't among the others.
+    pub fn count_without(&self, others: &RisingSets) -> usize
+        ensures { result ≡ length (gone self.now others.now) }
+    {
+        self.sets.iter().filter(|set| !others.contains(set)).count()
+    }
+
+    /// Their list.
+    pub fn list(&self, alloc: Global) -> Result<SetList, NoMemory>
+        ensures { IfOk result (λ l. l ≡ self.now) }
+    {
+        let mut items = Vec::new(alloc);
+        for set in self.sets.iter() {
+            items.reserve(1)?;
+            items.push_reserved(set.copy()?);
+        }
+        Ok(SetList { items })
+    }
+}
