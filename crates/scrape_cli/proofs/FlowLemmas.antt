@@ -5,7 +5,7 @@ use Rattle.std.specs.List.{flat_map}
 use Rattle.std.proofs.lemmas.List.{take_more, take-append-drop, take_all}
 use Rattle.std.proofs.lemmas.Option.{slice_get-get_or, slice_get_within, get_or_from_slice_get}
 use Rattle.std.proofs.lemmas.Grind.{flat_map-append}
-use Rattle.scrape_core.specs.declared.appender_book.Entry.{Entry}
+use Rattle.report_samples.specs.declared.entries.Entry.{Entry}
 use Rattle.scrape_cli.specs.Texts.{entry_line}
 use Rattle.outside.specs.Objects.{Adds, AddsFront, Rose}
 use Rattle.scrape_cli.specs.Statuses.{IsSaid}

@@ -2,9 +2,9 @@
 use Rattle.std.specs.Prelude.{◌≡◌, ◌≤◌, List, [], ◌++◌, ℕ, length, flat_map, slice_get, codes, Option, Some, None}
 use Rattle.std.specs.Fmt.{decimal, signed_decimal}
 use Rattle.label_set.specs.SetText.{set_text}
-use Rattle.scrape_core.specs.declared.appender_book.Kind.{Kind}
-use Rattle.scrape_core.specs.declared.appender_book.Kind.TheVariants.{Scraped, Stale, Report, ReportStale}
-use Rattle.scrape_core.specs.declared.appender_book.Entry.{Entry}
+use Rattle.report_samples.specs.declared.entries.Kind.{Kind}
+use Rattle.report_samples.specs.declared.entries.Kind.TheVariants.{Scraped, Stale, Report, ReportStale}
+use Rattle.report_samples.specs.declared.entries.Entry.{Entry}
 
 -- the word of a kind
 abbrev pub kind_word : Kind → List ℕ

@@ -7,7 +7,8 @@ ghost use Rattle.scrape_cli.specs.Texts as spec;
 use crate::texts::push_line;
 use label_set::NoMemory;
 use outside::{Sink, SinkFault};
-use scrape_core::{Book, Entry};
+use report_samples::Entry;
+use scrape_loop::Book;
 use std::alloc::Global;
 
 /// A page is put when it has at least so many bytes.

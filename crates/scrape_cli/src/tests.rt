@@ -1,5 +1,6 @@
 mod checks;
 mod fields;
+mod limits;
 mod targets;
 
 use crate::tool::tool;
@@ -183,12 +184,10 @@ fn other_scripts_are_not_yet_built(rt: HostRuntime) -> Result<(), Fail> {
         &[&ONE_LOAD[..17], b"load 0 076\n", &ONE_LOAD[27..]],
         // a second load
         &[ONE_LOAD, &ONE_LOAD[17..104]],
-        // a sample with a timestamp of its own
-        &[ONE_LOAD, b"sweep 60000\nbody 15 1 200 6\nx 1 5\n\n"],
-        // a status that isn't 200
-        &[ONE_LOAD, b"sweep 60000\nbody 15 1 500 0\n\n"],
-        // a reply that came too late
-        &[ONE_LOAD, b"sweep 60000\nlost 10001 1\n"],
+        // a tick, an update of targets and a halt
+        &[ONE_LOAD, b"tick 60000 0\n"],
+        &[ONE_LOAD, b"targets 60000 1 1 2\njf[]\n"],
+        &[ONE_LOAD, b"halt 60000\n"],
     ];
     for pieces in cases {
         let script = joined(alloc, pieces)?;

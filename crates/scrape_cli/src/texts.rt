@@ -4,7 +4,7 @@ ghost use Rattle.scrape_cli.specs.Texts as spec;
 
 use itoa::Buffer;
 use label_set::NoMemory;
-use scrape_core::{Entry, Kind};
+use report_samples::{Entry, Kind};
 use value_text::ValueText;
 
 /// Appends a piece; it fails only where there is no room for it.

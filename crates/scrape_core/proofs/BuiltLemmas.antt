@@ -4,14 +4,8 @@ use Rattle.std.specs.Prelude.{Option, Some, None, nat_le, ◌&&◌, Result, Ok, 
 use Rattle.std.specs.List.{list_all, flat_map, sum_by}
 use Rattle.std.proofs.lemmas.List.{length-map}
 use Rattle.std.proofs.lemmas.Bool.{ne_eqb, false≢true}
-use Rattle.std.proofs.lemmas.Bool.Decides.{nat_tests}
 use Rattle.std.proofs.Math.Dec.{eqb-suc-zero}
-use Rattle.expo_reader.specs.declared.rows.BodyRow.{BodyRow}
-use Rattle.expo_reader.specs.declared.bodies.BodyCause.{BodyCause}
-use Rattle.expo_reader.specs.Bodies as body
-use Rattle.journal_text.specs.Lines.{number}
 use Rattle.outside.specs.declared.replies.Reply.{Reply}
-use Rattle.outside.specs.declared.replies.Reply.TheVariants.{Body, Lost}
 use Rattle.journal_text.specs.declared.events.Event.{Event}
 use Rattle.journal_text.specs.declared.events.Event.TheVariants.{Load, Targets, Tick, Sweep, Finish, Halt}
 use Rattle.scrape_config.specs.Reading as conf
@@ -20,7 +14,7 @@ use Rattle.config_fields.specs.declared.fault.ConfFault.{ConfFault}
 use Rattle.config_fields.specs.declared.fault.ConfFault.TheVariants as fault
 use Rattle.scrape_config.specs.declared.fault.ConfError.{ConfError}
 use Rattle.scrape_config.specs.declared.fault.ConfError.TheVariants as error
-use Rattle.scrape_core.specs.declared.appender_book.Entry.{Entry}
+use Rattle.report_samples.specs.declared.entries.Entry.{Entry}
 use Rattle.scrape_core.specs.declared.life_roll.Life.{Life}
 use Rattle.scrape_core.specs.declared.life_roll.Start.{Start}
 use Rattle.scrape_core.specs.declared.life_roll.Found.{Found}
@@ -28,11 +22,11 @@ use Rattle.scrape_core.specs.declared.life_roll.Found.TheVariants.{NotStarted, C
 use Rattle.scrape_core.specs.declared.answers.Answer.{Answer}
 use Rattle.scrape_core.specs.declared.answers.Answer.TheVariants.{NotYet}
 use Rattle.scrape_core.specs.Built as built
-use Rattle.scrape_core.specs.Built.{is_built, is_timely, is_built_reply, is_built_reading, is_unstamped, is_not_yet, is_first, IsBuilt, MayBeLeft, IsTaken, IsLeft, IsStep}
+use Rattle.scrape_core.specs.Built.{is_built, is_not_yet, is_first, IsBuilt, MayBeLeft, IsTaken, IsLeft, IsStep}
 use Rattle.scrape_core.specs.Kept.{IsKept}
-use Rattle.scrape_core.specs.Machine.{World, world, step, gives, answer, finish_answer, found, world_of, book_of, timeout_of}
+use Rattle.scrape_core.specs.Machine.{World, world, step, gives, answer, finish_answer, found, world_of, book_of}
 use Rattle.scrape_core.proofs.StepLemmas.{world_push, book_of_push}
-use Rattle.scrape_core.proofs.FinishLemmas.{load_nothing, sweep_nothing}
+use Rattle.scrape_core.proofs.FinishLemmas.{load_nothing}
 
 -- an event that is left
 module _ (es : List Event) (e : Event) where
@@ -82,9 +76,6 @@ module _ {E : Type 0} (r : Result Answer E) (w : World) (es fs : List Event) (d 
 
 pub load_silent : (es : List Event) (m : ℤ) (text : List ℕ) → gives (world_of es) (Load m text) ≡ []
 load_silent es m text = load_nothing (world_of es) m text
-
-pub sweep_silent : (es : List Event) (m : ℤ) → gives (world_of es) (Sweep m) ≡ []
-sweep_silent es m = sweep_nothing (world_of es) m
 
 -- which events are built
 pub sweep_built : (es : List Event) (m : ℤ) → IsBuilt es (Sweep m)
@@ -149,45 +140,9 @@ pub no_events : (es : List Event) → (length es == 0) ≡ true → es ≡ []
 no_events [] n = refl
 no_events (e ∷ es) n = absurd (false≢true (sym (eqb-suc-zero (length es)) ∙ n))
 
-module _ (w : World) (es : List Event) (s : w ≡ world_of es) (k : ℕ) (took : ℤ) where
-  pub finish_slow : (r : Reply) → is_timely (timeout_of w k) (number took) ≡ false → is_built es (Finish k took r) ≡ false
-  unfolding is_built
-  finish_slow r late = ap (λ z. is_timely (timeout_of z k) (number took) && is_built_reply r) (sym s) ∙ ap (λ b. b && is_built_reply r) late
-
-  finish_kind : (r : Reply) → is_timely (timeout_of w k) (number took) ≡ true → is_built_reply r ≡ true → is_built es (Finish k took r) ≡ true
-  unfolding is_built
-  finish_kind r early b = ap (λ z. is_timely (timeout_of z k) (number took) && is_built_reply r) (sym s) ∙ (ap (λ z. z && is_built_reply r) early ∙ b)
-
-  pub lost_built : is_timely (timeout_of w k) (number took) ≡ true → IsBuilt es (Finish k took Lost)
-  lost_built early = record { kind = finish_kind Lost early refl; patterns = tt }
-
-  pub body_built : (status : ℕ) (bytes : List ℕ) (rows : List BodyRow) → is_timely (timeout_of w k) (number took) ≡ true → status ≡ 200 →
-      body.reading bytes ≡ Ok rows → list_all is_unstamped rows ≡ true → IsBuilt es (Finish k took (Body status bytes))
-  body_built status bytes rows early ok e bare = record {
-    kind = finish_kind (Body status bytes) early (ap₂ (λ n (x : Result (List BodyRow) BodyCause). (n == 200) && is_built_reading x) ok e ∙ bare);
-    patterns = tt;
-  }
-
-  pub body_faulty : (status : ℕ) (bytes : List ℕ) (cause : BodyCause) → is_timely (timeout_of w k) (number took) ≡ true → status ≡ 200 →
-      body.reading bytes ≡ Err cause → IsBuilt es (Finish k took (Body status bytes))
-  body_faulty status bytes cause early ok e = record {
-    kind = finish_kind (Body status bytes) early (ap₂ (λ n (x : Result (List BodyRow) BodyCause). (n == 200) && is_built_reading x) ok e);
-    patterns = tt;
-  }
-
-pub reply_other : (es : List Event) (k : ℕ) (took : ℤ) (r : Reply) → is_built_reply r ≡ false → is_built es (Finish k took r) ≡ false
+pub finish_built : (es : List Event) (k : ℕ) (took : ℤ) (r : Reply) → IsBuilt es (Finish k took r)
 unfolding is_built
-reply_other es k took r h = ap (λ b. is_timely (timeout_of (world_of es) k) (number took) && b) h ∙ no_more (is_timely (timeout_of (world_of es) k) (number took))
-
-pub body_other : (es : List Event) (k : ℕ) (took : ℤ) (status : ℕ) (bytes : List ℕ) (rows : List BodyRow) → body.reading bytes ≡ Ok rows →
-    list_all is_unstamped rows ≡ false → is_built es (Finish k took (Body status bytes)) ≡ false
-body_other es k took status bytes rows e other =
-    reply_other es k took (Body status bytes)
-    (ap (λ (x : Result (List BodyRow) BodyCause). (status == 200) && is_built_reading x) e ∙ (ap (λ b. (status == 200) && b) other ∙ no_more (status == 200)))
-
-pub status_other : (es : List Event) (k : ℕ) (took : ℤ) (status : ℕ) (bytes : List ℕ) → status ≢ 200 → is_built es (Finish k took (Body status bytes)) ≡ false
-status_other es k took status bytes n =
-    reply_other es k took (Body status bytes) (ap (λ b. b && is_built_reading (body.reading bytes)) (ne_eqb status 200 n))
+finish_built es k took r = record { kind = refl; patterns = tt }
 
 pub targets_other : (es : List Event) (m : ℤ) (job file text : List ℕ) → is_built es (Targets m job file text) ≡ false
 unfolding is_built

@@ -4,7 +4,7 @@ use Rattle.std.specs.Prelude.{slice_get, Option, Some, None}
 use Rattle.std.proofs.lemmas.Bool.{eq-eqb, ne_eqb}
 use Rattle.outside.specs.declared.replies.Reply.{Reply}
 use Rattle.journal_text.specs.declared.events.Event.TheVariants.{Load, Sweep, Finish}
-use Rattle.scrape_core.specs.declared.appender_book.Entry.{Entry}
+use Rattle.report_samples.specs.declared.entries.Entry.{Entry}
 use Rattle.scrape_core.specs.declared.life_roll.Life.{Life}
 use Rattle.scrape_core.specs.declared.life_roll.Found.{Found}
 use Rattle.scrape_core.specs.declared.life_roll.Found.TheVariants.{NotStarted, Cancelled, Counts}
@@ -13,11 +13,14 @@ use Rattle.std.specs.Prelude.{IfSome}
 use Rattle.std.proofs.Common.{subst}
 use Rattle.std.proofs.lemmas.Option.{get_or_from_slice_get}
 use Rattle.scrape_core.specs.declared.life_roll.Flight.{Flight}
-use Rattle.scrape_core.specs.declared.sample_rows.Scrape.{Scrape}
-use Rattle.scrape_core.specs.Lives.{life_after, life_gives, outcome_for, counted, counting_entries, scrape_of_life}
+use Rattle.std.specs.List.{flat_map}
+use Rattle.scrape_loop.specs.Entries.{entries_of}
+use Rattle.scrape_core.specs.Lives.{life_after, life_gives, outcome_for, counted, counting_entries, forced_entries}
 use Rattle.scrape_core.specs.declared.life_roll.Start.{Start}
 use Rattle.scrape_core.specs.declared.answers.Answer.{Answer}
-use Rattle.scrape_core.specs.Machine.{World, world, lives_from, gives_from, finish_local, found, found_flight, found_life, found_start, finished, begun, step, gives, IsMissed}
+use Rattle.scrape_core.specs.declared.answers.Answer.TheVariants.{Counted}
+use Rattle.scrape_loop.specs.Tracked.{fault_of}
+use Rattle.scrape_core.specs.Machine.{World, world, answer, finish_answer, fault_at, lives_from, gives_from, finish_local, found, found_flight, found_life, found_start, finished, begun, step, gives, IsMissed}
 
 -- a load is nothing to the lives that are there
 pub load_lives : (w : World) (m : ℤ) (text : List ℕ) (n : ℕ) (ls : List Life) → lives_from w (Load m text) n ls ≡ ls
@@ -41,7 +44,7 @@ module _ (took : ℤ) (r : Reply) where
 
   gives_found : Found → ℕ → List Life → List Entry
   gives_found f n [] = []
-  gives_found f n (l ∷ ls) = life_gives n (finish_local n took r f) l ++ gives_found f (n + 1) ls
+  gives_found f n (l ∷ ls) = life_gives (finish_local n took r f) l ++ gives_found f (n + 1) ls
 
   same_lives : (w : World) (k : ℕ) (n : ℕ) (ls : List Life) → lives_from w (Finish k took r) n ls ≡ lives_found (found w k) n ls
   unfolding lives_found
@@ -51,7 +54,7 @@ module _ (took : ℤ) (r : Reply) where
   same_gives : (w : World) (k : ℕ) (n : ℕ) (ls : List Life) → gives_from w (Finish k took r) n ls ≡ gives_found (found w k) n ls
   unfolding gives_found
   same_gives w k n [] = refl
-  same_gives w k n (l ∷ ls) = ap (λ zs. life_gives n (finish_local n took r (found w k)) l ++ zs) (same_gives w k (n + 1) ls)
+  same_gives w k n (l ∷ ls) = ap (λ zs. life_gives (finish_local n took r (found w k)) l ++ zs) (same_gives w k (n + 1) ls)
 
   not_started_lives : (n : ℕ) (ls : List Life) → lives_found NotStarted n ls ≡ ls
   unfolding lives_found
@@ -90,7 +93,7 @@ module _ (took : ℤ) (r : Reply) where
   unfolding gives_found
   past_gives k m n [] h = refl
   past_gives k m n (l ∷ ls) h =
-      ap₂ (λ z zs. life_gives n z l ++ zs) (other k n m (λ e. absurd (omega arith))) (past_gives k m (n + 1) ls (omega arith))
+      ap₂ (λ z zs. life_gives z l ++ zs) (other k n m (λ e. absurd (omega arith))) (past_gives k m (n + 1) ls (omega arith))
 
   -- the life that was found takes the reply
   found_lives : (k : ℕ) (m : ℤ) (n j : ℕ) (ls : List Life) (x : Life) → k ≡ n + j → j < length ls →
@@ -103,14 +106,14 @@ module _ (took : ℤ) (r : Reply) where
       ap₂ (λ z zs. life_after z l ∷ zs) (other k n m (λ q. absurd (omega arith))) (found_lives k m (n + 1) j ls x (omega arith) (omega arith) at)
 
   found_gives : (k : ℕ) (m : ℤ) (n j : ℕ) (ls : List Life) (x : Life) → k ≡ n + j → j < length ls →
-      x ≡ get_or ls j x → gives_found (Counts k m) n ls ≡ life_gives k (Answered took r) x
+      x ≡ get_or ls j x → gives_found (Counts k m) n ls ≡ life_gives (Answered took r) x
   unfolding gives_found
   found_gives k m n j [] x e h at = absurd (omega arith)
   found_gives k m n zero (l ∷ ls) x e h at =
-      ap₂ (λ z zs. life_gives n z l ++ zs) (same k n m (omega arith)) (past_gives k m (n + 1) ls (omega arith))
-      ∙ (append-nil _ ∙ ap₂ (λ i z. life_gives i (Answered took r) z) (let q : n ≡ k = omega arith in q) (sym at))
+      ap₂ (λ z zs. life_gives z l ++ zs) (same k n m (omega arith)) (past_gives k m (n + 1) ls (omega arith))
+      ∙ (append-nil _ ∙ ap (λ z. life_gives (Answered took r) z) (sym at))
   found_gives k m n (suc j) (l ∷ ls) x e h at =
-      ap₂ (λ z zs. life_gives n z l ++ zs) (other k n m (λ q. absurd (omega arith))) (found_gives k m (n + 1) j ls x (omega arith) (omega arith) at)
+      ap₂ (λ z zs. life_gives z l ++ zs) (other k n m (λ q. absurd (omega arith))) (found_gives k m (n + 1) j ls x (omega arith) (omega arith) at)
 
 -- a finish that counts
 pub counts_lives : (w : World) (k : ℕ) (took : ℤ) (r : Reply) (j : ℕ) (m : ℤ) (x : Life) → found w k ≡ Counts j m → j < length w.lives →
@@ -119,7 +122,7 @@ counts_lives w k took r j m x e h at =
     same_lives took r w k 0 w.lives ∙ (ap (λ f. lives_found took r f 0 w.lives) e ∙ found_lives took r j m 0 j w.lives x (omega arith) h at)
 
 pub counts_gives : (w : World) (k : ℕ) (took : ℤ) (r : Reply) (j : ℕ) (m : ℤ) (x : Life) → found w k ≡ Counts j m → j < length w.lives →
-    x ≡ get_or w.lives j x → gives_from w (Finish k took r) 0 w.lives ≡ life_gives j (Answered took r) x
+    x ≡ get_or w.lives j x → gives_from w (Finish k took r) 0 w.lives ≡ life_gives (Answered took r) x
 counts_gives w k took r j m x e h at =
     same_gives took r w k 0 w.lives ∙ (ap (λ f. gives_found took r f 0 w.lives) e ∙ found_gives took r j m 0 j w.lives x (omega arith) h at)
 
@@ -146,21 +149,22 @@ pub missed_gives : (w : World) (k : ℕ) (took : ℤ) (r : Reply) → IsNoLife (
 missed_gives w k took r h = same_gives took r w k 0 w.lives ∙ none_gives took r (found w k) w.lives h
 
 -- the state after each kind of event
-pub load_step : (ls : List Life) (ss : List Start) (m : ℤ) (text : List ℕ) → step (world ls ss) (Load m text) ≡ world (ls ++ begun (Load m text)) ss
+pub load_step : (ls : List Life) (ss : List Start) (m : ℤ) (text : List ℕ) → step (world ls ss) (Load m text) ≡ world (ls ++ begun (length ls) (Load m text)) ss
 unfolding step
-load_step ls ss m text = ap (λ z. world (z ++ begun (Load m text)) ss) (load_lives (world ls ss) m text 0 ls)
+load_step ls ss m text = ap (λ z. world (z ++ begun (length ls) (Load m text)) ss) (load_lives (world ls ss) m text 0 ls)
 
 pub load_nothing : (w : World) (m : ℤ) (text : List ℕ) → gives w (Load m text) ≡ []
 unfolding gives
 load_nothing w m text = load_gives w m text 0 w.lives
 
-sweep_gives : (w : World) (m : ℤ) (n : ℕ) (ls : List Life) → gives_from w (Sweep m) n ls ≡ []
+-- what a sweep gives: the entries of the scrapes that it forces
+sweep_gives : (w : World) (m : ℤ) (n : ℕ) (ls : List Life) → gives_from w (Sweep m) n ls ≡ flat_map (forced_entries m) ls
 sweep_gives w m n [] = refl
-sweep_gives w m n (l ∷ ls) = sweep_gives w m (n + 1) ls
+sweep_gives w m n (l ∷ ls) = ap (λ zs. forced_entries m l ++ zs) (sweep_gives w m (n + 1) ls)
 
-pub sweep_nothing : (w : World) (m : ℤ) → gives w (Sweep m) ≡ []
+pub sweep_entries : (w : World) (m : ℤ) → gives w (Sweep m) ≡ flat_map (forced_entries m) w.lives
 unfolding gives
-sweep_nothing w m = sweep_gives w m 0 w.lives
+sweep_entries w m = sweep_gives w m 0 w.lives
 
 missed_none : (a : Answer) (f : Found) → IsMissed a f → IsNoLife f
 missed_none a NotStarted h = tt
@@ -186,7 +190,7 @@ counts_step ls ss k took r j m x e h at =
     ap (λ z. world z (finished (slice_get ss k) ss k)) (append-nil _ ∙ counts_lives (world ls ss) k took r j m x e h at)
 
 pub counts_entries : (ls : List Life) (ss : List Start) (k : ℕ) (took : ℤ) (r : Reply) (j : ℕ) (m : ℤ) (x : Life) → found (world ls ss) k ≡ Counts j m →
-    j < length ls → x ≡ get_or ls j x → gives (world ls ss) (Finish k took r) ≡ life_gives j (Answered took r) x
+    j < length ls → x ≡ get_or ls j x → gives (world ls ss) (Finish k took r) ≡ life_gives (Answered took r) x
 unfolding gives
 counts_entries ls ss k took r j m x e h at = counts_gives (world ls ss) k took r j m x e h at
 
@@ -223,23 +227,30 @@ start_found ls k j m (Some s) h = by_finish s.finished h
         let P : ℕ → Type 0 = λ n. FliesSince (slice_get ls n) m in
         subst P q.1 q.0
 
--- the state and the entries after a finish that counts, by the outcome of its scrape
-pub counted_world : (ls : List Life) (ss ts : List Start) (k : ℕ) (took : ℤ) (r : Reply) (j : ℕ) (m : ℤ) (d y : Life) (s : Scrape) →
-    found (world ls ss) k ≡ Counts j m → j < length ls → IfSome (slice_get ls j) (λ l. outcome_for l took r ≡ s) →
-    y ≡ counted (get_or ls j d) s → ts ≡ finished (slice_get ss k) ss k → world (set ls j y) ts ≡ step (world ls ss) (Finish k took r)
-counted_world ls ss ts k took r j m d y s e h o hy ht =
+-- the state and the entries after a finish that counts
+pub counted_world : (ls : List Life) (ss ts : List Start) (k : ℕ) (took : ℤ) (r : Reply) (j : ℕ) (m : ℤ) (d y : Life) →
+    found (world ls ss) k ≡ Counts j m → j < length ls → y ≡ counted (get_or ls j d) (outcome_for (get_or ls j d) took r) →
+    ts ≡ finished (slice_get ss k) ss k → world (set ls j y) ts ≡ step (world ls ss) (Finish k took r)
+counted_world ls ss ts k took r j m d y e h hy ht =
     let q = start_found ls k j m (slice_get ss k) e in
-    let out : outcome_for q.life took r ≡ s = if_some_at (slice_get ls j) q.life (λ l. outcome_for l took r ≡ s) q.is o in
-    let new : y ≡ life_after (Answered took r) q.life = hy ∙ ap₂ counted (get_or_from_slice_get ls j q.life d q.is) (sym out) in
+    let new : y ≡ life_after (Answered took r) q.life = hy ∙ ap (λ l. counted l (outcome_for l took r)) (get_or_from_slice_get ls j q.life d q.is) in
     ap₂ (λ z zs. world (set ls j z) zs) new ht ∙ sym (counts_step ls ss k took r j m q.life e h (sym (get_or_from_slice_get ls j q.life q.life q.is)))
 
-pub counted_book : (ls : List Life) (ss : List Start) (k : ℕ) (took : ℤ) (r : Reply) (j : ℕ) (m : ℤ) (d : Life) (s : Scrape) →
-    found (world ls ss) k ≡ Counts j m → j < length ls → IfSome (slice_get ls j) (λ l. outcome_for l took r ≡ s) →
-    gives (world ls ss) (Finish k took r) ≡ scrape_of_life j (get_or ls j d) s m took
-counted_book ls ss k took r j m d s e h o =
+pub counted_book : (ls : List Life) (ss : List Start) (k : ℕ) (took : ℤ) (r : Reply) (j : ℕ) (m : ℤ) (d : Life) →
+    found (world ls ss) k ≡ Counts j m → j < length ls →
+    gives (world ls ss) (Finish k took r) ≡ entries_of (get_or ls j d).state (outcome_for (get_or ls j d) took r) m took
+counted_book ls ss k took r j m d e h =
     let q = start_found ls k j m (slice_get ss k) e in
-    let out : outcome_for q.life took r ≡ s = if_some_at (slice_get ls j) q.life (λ l. outcome_for l took r ≡ s) q.is o in
     counts_entries ls ss k took r j m q.life e h (sym (get_or_from_slice_get ls j q.life q.life q.is))
-    ∙ (ap (counting_entries j q.life took (outcome_for q.life took r)) q.flies
-    ∙ (ap₂ (λ z i. scrape_of_life j q.life z i took) out q.since
-    ∙ ap (λ z. scrape_of_life j z s m took) (sym (get_or_from_slice_get ls j q.life d q.is))))
+    ∙ (ap (counting_entries q.life took (outcome_for q.life took r)) q.flies
+    ∙ (ap (λ i. entries_of q.life.state (outcome_for q.life took r) i took) q.since
+    ∙ ap (λ l. entries_of l.state (outcome_for l took r) m took) (sym (get_or_from_slice_get ls j q.life d q.is))))
+
+pub counted_answer : (ls : List Life) (ss : List Start) (k : ℕ) (took : ℤ) (r : Reply) (j : ℕ) (m : ℤ) (d : Life) →
+    found (world ls ss) k ≡ Counts j m → answer (world ls ss) (Finish k took r) ≡ Counted (fault_of (outcome_for (get_or ls j d) took r))
+unfolding answer
+counted_answer ls ss k took r j m d e =
+    let q = start_found ls k j m (slice_get ss k) e in
+    ap (finish_answer (world ls ss) took r) e
+    ∙ (ap (λ o. Counted (fault_at took r o)) q.is
+    ∙ ap (λ l. Counted (fault_of (outcome_for l took r))) (sym (get_or_from_slice_get ls j q.life d q.is)))

@@ -2,4 +2,3 @@ pub mod StepLemmas
 pub mod FinishLemmas
 pub mod BuiltLemmas
 pub mod TargetLemmas
-pub mod RowLemmas

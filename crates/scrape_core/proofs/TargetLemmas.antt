@@ -1,8 +1,9 @@
 -- The kept targets of a configuration: how many, and that their labels have no `__name__`.
-use Rattle.std.proofs.Common.{◌≡◌, ◌||◌, if◌then◌else◌, true≢false, codes, ℕ, zero, suc, ◌+◌, ◌≤◌, ◌<◌, get_or, List, [], ◌∷◌, ◌++◌, length, map, Bool, true, false, refl, sym, ap, ap₂, ◌∙◌, subst, arith, length-append}
+use Rattle.std.proofs.Common.{◌≡◌, ◌||◌, if◌then◌else◌, true≢false, codes, ℕ, zero, suc, ◌+◌, ◌≤◌, ◌<◌, get_or, List, [], ◌∷◌, ◌++◌, length, map, Bool, true, false, refl, sym, ap, ap₂, ◌∙◌, subst, arith, length-append, append_assoc, append-nil, take}
 use Rattle.std.specs.Prelude.{min, ◌^◌, ◌-◌, All, ◌&&◌, not, filter, nat_le, Ok}
 use Rattle.std.specs.List.{list_all, flat_map, sum_by}
-use Rattle.std.proofs.lemmas.List.{length-map}
+use Rattle.std.proofs.lemmas.List.{length-map, map-append, take_more}
+use Rattle.std.proofs.lemmas.Grind.{flat_map-append}
 use Rattle.std.proofs.lemmas.List.Elements.{All-nil, All-cons}
 use Rattle.std.proofs.lemmas.List.Filters.{length-filter_both}
 use Rattle.std.proofs.lemmas.List.Sums.{sum_by-cons}
@@ -23,8 +24,8 @@ use Rattle.target_set.specs.declared.targets.Outcome.{Outcome}
 use Rattle.target_set.specs.declared.targets.Outcome.TheVariants.{Dropped, Refused, Kept}
 use Rattle.target_set.specs.declared.targets.Target.{Target}
 use Rattle.scrape_core.specs.declared.life_roll.Life.{Life}
-use Rattle.scrape_core.specs.Built.{job_count, listed_targets, is_few, is_few_job, is_built_job, is_built_conf}
-use Rattle.scrape_core.specs.Targets.{HasNoName, born, wanted, targets_of_job, targets_of}
+use Rattle.scrape_core.specs.Built.{job_count, listed_targets, is_few, is_few_job}
+use Rattle.scrape_core.specs.Targets.{HasNoName, Wanted, born, births, wanted, targets_of_job, targets_of}
 
 -- a filter leaves no more than there were
 filter_few : {X : Type 0} (p : X → Bool) (xs : List X) → length (filter p xs) ≤ length xs
@@ -57,7 +58,7 @@ job_few : (j : Job) → length (targets_of_job j) ≤ job_count j
 unfolding target_list sorted_out
 job_few j =
     let os = outcomes_of j.conf j.target_rules j.conf.groups in
-    let a = length-map (kept_of os) (wanted j.conf) in
+    let a = length-map (kept_of os) (wanted j (target_list j.conf j.target_rules j.conf.groups).over) in
     let b = length-map (distinct (flat_map kept_in os)) target_of in
     let c = distinct_few (flat_map kept_in os) in
     let d = kept_few os in
@@ -101,13 +102,49 @@ few_at c js e h i j lt at =
     let q : nat_le (job_count j) 10000 ≡ true = ap is_few_job at ∙ all_at is_few_job js i j all lt in
     grind (arith, nat_tests)
 
-pub built_few : (c : Conf) → is_built_conf (Ok c) ≡ true → is_few c ≡ true
-built_few c h = both_right (list_all is_built_job c.jobs) (is_few c) h
+-- lives that begin one after another
+pub length-births : (m n : ℕ) (ws : List Wanted) → length (births m n ws) ≡ length ws
+length-births m n [] = refl
+length-births m n (w ∷ ws) = ap (λ k. suc k) (length-births m (n + 1) ws)
 
-pub few_lives : (vs : List Life) (m : ℕ) (c : Conf) → vs ≡ map (born m) (targets_of (Ok c)) → is_few c ≡ true → length vs ≤ 100000
+pub births-append : (m n : ℕ) (xs ys : List Wanted) → births m n (xs ++ ys) ≡ births m n xs ++ births m (n + length xs) ys
+births-append m n [] ys = let e : n ≡ n + 0 = omega arith in ap (λ k. births m k ys) e
+births-append m n (x ∷ xs) ys =
+    let e : (n + 1) + length xs ≡ n + length (x ∷ xs) = omega arith in
+    ap (λ more. born m n x ∷ more) (births-append m (n + 1) xs ys ∙ ap (λ k. births m (n + 1) xs ++ births m k ys) e)
+
+-- the lives of targets with one more
+pub one_birth : (m : ℕ) (f : Target → Wanted) (ts : List Target) (i : ℕ) (t : Target) (before now more : List Life) (l : Life) → i < length ts → t ≡ get_or ts i t →
+    now ≡ before ++ births m (length before) (map f (take i ts)) → l ≡ born m (length now) (f t) → more ≡ now ++ l ∷ [] →
+    more ≡ before ++ births m (length before) (map f (take (i + 1) ts))
+one_birth m f ts i t before now more l h is was new e =
+    let front = map f (take i ts) in
+    let longer : map f (take (i + 1) ts) ≡ front ++ f t ∷ [] =
+    ap (map f) (take_more ts i t h ∙ ap (λ x. take i ts ++ x ∷ []) (sym is)) ∙ map-append f (take i ts) (t ∷ []) in
+    let count : length now ≡ length before + length front =
+    ap length was ∙ (length-append before (births m (length before) front) ∙ ap (λ k. length before + k) (length-births m (length before) front)) in
+    e
+    ∙ (ap₂ (λ xs x. xs ++ x ∷ []) was (new ∙ ap (λ k. born m k (f t)) count)
+    ∙ (append_assoc before (births m (length before) front) (born m (length before + length front) (f t) ∷ [])
+    ∙ ap (λ xs. before ++ xs) (sym (ap (births m (length before)) longer ∙ births-append m (length before) front (f t ∷ [])))))
+
+-- the lives of jobs with one more
+pub job_births : (m : ℕ) (js : List Job) (j : Job) (now more : List Life) → now ≡ births m 0 (flat_map targets_of_job js) →
+    more ≡ now ++ births m (length now) (targets_of_job j) → more ≡ births m 0 (flat_map targets_of_job (js ++ j ∷ []))
+job_births m js j now more was e =
+    let all = flat_map targets_of_job js in
+    let last = targets_of_job j in
+    let none : length all ≡ 0 + length all = omega arith in
+    let count : length now ≡ 0 + length all = ap length was ∙ (length-births m 0 all ∙ none) in
+    e
+    ∙ (ap₂ (λ xs k. xs ++ births m k last) was count
+    ∙ (sym (births-append m 0 all last)
+    ∙ ap (births m 0) (sym (flat_map-append targets_of_job js (j ∷ []) ∙ ap (λ xs. all ++ xs) (append-nil last)))))
+
+pub few_lives : (vs : List Life) (m : ℕ) (c : Conf) → vs ≡ births m 0 (targets_of (Ok c)) → is_few c ≡ true → length vs ≤ 100000
 few_lives vs m c e few =
     let n = ap length e in
-    let k = length-map (targets_of (Ok c)) (born m) in
+    let k = length-births m 0 (targets_of (Ok c)) in
     let p = jobs_few c.jobs in
     let q = few_in_all c few in
     omega arith

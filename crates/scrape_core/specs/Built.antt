@@ -1,12 +1,6 @@
 -- The kinds of events that are built so far.
-use Rattle.std.specs.Prelude.{◌≡◌, ◌⊎◌, ℕ, ◌+◌, ⊤, Bool, true, false, ◌&&◌, List, [], ◌∷◌, ◌++◌, length, ◌==◌, nat_le, Option, Some, None, is_none, Result, Ok, Err, All, IsOkAnd}
+use Rattle.std.specs.Prelude.{◌≡◌, ◌⊎◌, ℕ, ⊤, Bool, true, false, ◌&&◌, List, [], ◌∷◌, ◌++◌, nat_le, Result, Ok, Err, All, IsOkAnd}
 use Rattle.std.specs.List.{list_all, sum_by}
-use Rattle.expo_reader.specs.declared.rows.BodyRow.{BodyRow}
-use Rattle.expo_reader.specs.declared.bodies.BodyCause.{BodyCause}
-use Rattle.expo_reader.specs.Bodies as body
-use Rattle.outside.specs.declared.replies.Reply.{Reply}
-use Rattle.outside.specs.declared.replies.Reply.TheVariants.{Body, Lost}
-use Rattle.scrape_limits.specs.declared.limits.Limits.{Limits}
 use Rattle.scrape_config.specs.Reading as conf
 use Rattle.scrape_config.specs.declared.conf.Job.{Job}
 use Rattle.scrape_config.specs.declared.conf.Conf.{Conf}
@@ -14,24 +8,14 @@ use Rattle.config_fields.specs.declared.fault.ConfFault.{ConfFault}
 use Rattle.target_set.specs.Listed.{listed_count}
 use Rattle.journal_text.specs.declared.events.Event.{Event}
 use Rattle.journal_text.specs.declared.events.Event.TheVariants.{Load, Sweep, Finish}
-use Rattle.journal_text.specs.Lines.{number}
 use Rattle.scrape_core.specs.declared.answers.Answer.{Answer}
 use Rattle.scrape_core.specs.declared.answers.Answer.TheVariants.{NotYet}
-use Rattle.scrape_core.specs.Machine.{World, answer, world_of, timeout_of}
+use Rattle.scrape_core.specs.Machine.{answer, world_of}
 
 -- nothing has happened yet
 abbrev pub is_first : List Event → Bool
 is_first [] = true
 is_first (e ∷ es) = false
-
--- no limit is set
-unfoldable pub is_unlimited : Limits → Bool
-is_unlimited l =
-    (l.sample == 0) && ((l.label == 0) && ((l.name_length == 0) && ((l.value_length == 0) && ((l.body_size == 0) && (l.target == 0)))))
-
--- the settings of a job that are built: timestamps are honoured, and there are no rules for samples and no limits
-unfoldable pub is_built_job : Job → Bool
-is_built_job j = j.conf.honor_timestamps && ((length j.conf.metric_relabel == 0) && is_unlimited j.conf.limits)
 
 -- how many targets a job lists
 abbrev pub job_count : Job → ℕ
@@ -49,37 +33,16 @@ is_few_job j = nat_le (job_count j) 10000
 unfoldable pub is_few : Conf → Bool
 is_few c = list_all is_few_job c.jobs && nat_le (listed_targets c.jobs) 100000
 
--- a configuration without a fault whose settings are built and that lists no more targets
+-- a configuration without a fault that lists no more targets
 abbrev pub is_built_conf : Result Conf ConfFault → Bool
-is_built_conf (Ok c) = list_all is_built_job c.jobs && is_few c
+is_built_conf (Ok c) = is_few c
 is_built_conf (Err fault) = false
 
--- a row without a timestamp
-abbrev pub is_unstamped : BodyRow → Bool
-is_unstamped r = is_none r.stamp
-
--- a body that is faulty, or whose rows have no timestamp
-abbrev pub is_built_reading : Result (List BodyRow) BodyCause → Bool
-is_built_reading (Ok rows) = list_all is_unstamped rows
-is_built_reading (Err e) = true
-
--- a lost reply, or such a body with status 200
-abbrev pub is_built_reply : Reply → Bool
-is_built_reply Lost = true
-is_built_reply (Body status bytes) = (status == 200) && is_built_reading (body.reading bytes)
-is_built_reply _ = false
-
--- a fetch took no longer than its timeout, where it has one
-abbrev pub is_timely : Option ℕ → ℕ → Bool
-is_timely None took = true
-is_timely (Some timeout) took = nat_le took timeout
-
 -- after this journal the event is of a built kind: a load of such a configuration as the first event, a sweep, or a finish
--- that came within the timeout of the ticket's job, with such a reply
 unfoldable pub is_built : List Event → Event → Bool
 is_built es (Load m text) = is_first es && is_built_conf (conf.reading text)
 is_built es (Sweep m) = true
-is_built es (Finish k took r) = is_timely (timeout_of (world_of es) k) (number took) && is_built_reply r
+is_built es (Finish k took r) = true
 is_built es _ = false
 
 -- each pattern of a load is read

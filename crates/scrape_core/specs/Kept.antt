@@ -1,7 +1,7 @@
 -- What a core keeps beside its journal.
 use Rattle.std.specs.Prelude.{◌≡◌, ◌≤◌, List, length}
 use Rattle.journal_text.specs.declared.events.Event.{Event}
-use Rattle.scrape_core.specs.declared.appender_book.Entry.{Entry}
+use Rattle.report_samples.specs.declared.entries.Entry.{Entry}
 use Rattle.scrape_core.specs.declared.life_roll.Life.{Life}
 use Rattle.scrape_core.specs.declared.life_roll.Start.{Start}
 use Rattle.scrape_core.specs.Machine.{world, world_of, book_of}

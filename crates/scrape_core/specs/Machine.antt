@@ -6,20 +6,20 @@ use Rattle.outside.specs.declared.replies.Reply.{Reply}
 use Rattle.journal_text.specs.declared.events.Event.{Event}
 use Rattle.journal_text.specs.declared.events.Event.TheVariants.{Load, Sweep, Finish}
 use Rattle.journal_text.specs.Lines.{number}
-use Rattle.scrape_core.specs.declared.appender_book.Entry.{Entry}
+use Rattle.sample_rows.specs.declared.fault.ScrapeFault.{ScrapeFault}
+use Rattle.report_samples.specs.declared.entries.Entry.{Entry}
+use Rattle.scrape_loop.specs.Tracked.{fault_of}
 use Rattle.scrape_core.specs.declared.life_roll.Life.{Life}
 use Rattle.scrape_core.specs.declared.life_roll.Start.{Start}
 use Rattle.scrape_core.specs.declared.life_roll.Flight.{Flight}
 use Rattle.scrape_core.specs.declared.life_roll.Found.{Found}
 use Rattle.scrape_core.specs.declared.life_roll.Found.TheVariants.{NotStarted, Cancelled, Counts}
-use Rattle.scrape_core.specs.declared.sample_rows.ScrapeFault.{ScrapeFault}
 use Rattle.scrape_core.specs.declared.life_roll.Local.{Local}
 use Rattle.scrape_core.specs.declared.life_roll.Local.TheVariants.{Nothing, Scan, Answered}
 use Rattle.scrape_core.specs.declared.answers.Answer.{Answer}
 use Rattle.scrape_core.specs.declared.answers.Answer.TheVariants.{Loaded, Swept, Counted, Late, NoTicket, NotYet}
-use Rattle.scrape_core.specs.Lives.{starts, life_after, life_gives, outcome_for}
-use Rattle.scrape_core.specs.Scrapes.{fault_of}
-use Rattle.scrape_core.specs.Targets.{targets_of, born}
+use Rattle.scrape_core.specs.Lives.{starts, forces, life_after, life_gives, outcome_for}
+use Rattle.scrape_core.specs.Targets.{targets_of, births}
 
 -- what the past comes to: the lives by number, and the started scrapes by ticket
 pub record World : Type 0 where
@@ -48,18 +48,6 @@ found_start ls k (Some s) = if s.finished then NotStarted else found_life k s.li
 
 abbrev pub found : World → ℕ → Found
 found w k = found_start w.lives k (slice_get w.started k)
-
--- the timeout of the job of a ticket's scrape, where one has started
-abbrev pub timeout_of_life : Option Life → Option ℕ
-timeout_of_life None = None
-timeout_of_life (Some l) = Some l.timeout
-
-abbrev pub timeout_of_start : List Life → Option Start → Option ℕ
-timeout_of_start ls None = None
-timeout_of_start ls (Some s) = timeout_of_life (slice_get ls s.life)
-
-abbrev pub timeout_of : World → ℕ → Option ℕ
-timeout_of w k = timeout_of_start w.lives (slice_get w.started k)
 
 -- what was found is among so many lives
 abbrev pub IsWithin : ℕ → Found → Type 0
@@ -91,12 +79,12 @@ lives_from w e n (l ∷ ls) = life_after (local w e n l) l ∷ lives_from w e (n
 -- the entries of these lives
 abbrev pub gives_from : World → Event → ℕ → List Life → List Entry
 gives_from w e n [] = []
-gives_from w e n (l ∷ ls) = life_gives n (local w e n l) l ++ gives_from w e (n + 1) ls
+gives_from w e n (l ∷ ls) = life_gives (local w e n l) l ++ gives_from w e (n + 1) ls
 
--- the lives that an event begins: a load begins one for each target of its configuration
-abbrev pub begun : Event → List Life
-begun (Load m text) = map (born (number m)) (targets_of (reading text))
-begun _ = []
+-- the lives that an event begins, the first of which has number n: a load begins one for each target of its configuration
+abbrev pub begun : ℕ → Event → List Life
+begun n (Load m text) = births (number m) n (targets_of (reading text))
+begun n _ = []
 
 -- the scrape of life n that a sweep at m starts, if any
 abbrev pub start_of : ℕ → ℕ → Life → List Start
@@ -119,7 +107,7 @@ started_after w _ = w.started
 
 -- the state after an event
 unfoldable pub step : World → Event → World
-step w e = record { lives = lives_from w e 0 w.lives ++ begun e; started = started_after w e }
+step w e = record { lives = lives_from w e 0 w.lives ++ begun (length w.lives) e; started = started_after w e }
 
 -- the entries that an event gives
 unfoldable pub gives : World → Event → List Entry
@@ -143,8 +131,8 @@ IsMissed a (Counts n m) = ⊥
 
 -- the answer to an event
 unfoldable pub answer : World → Event → Answer
-answer w (Load m text) = Loaded 0 (length (begun (Load m text)))
-answer w (Sweep m) = Swept (length w.started) (length (filter (starts (number m)) w.lives)) 0 0
+answer w (Load m text) = Loaded 0 (length (begun (length w.lives) (Load m text)))
+answer w (Sweep m) = Swept (length w.started) (length (filter (starts (number m)) w.lives)) (length (filter (forces (number m)) w.lives)) 0
 answer w (Finish k took r) = finish_answer w took r (found w k)
 answer w _ = NotYet
 

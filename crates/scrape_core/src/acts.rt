@@ -1,18 +1,22 @@
 //! What events do to the lives and to the started scrapes.
-ghost use Rattle.std.specs.Prelude.{◌≡◌, ◌≤◌, ◌<◌, ◌+◌, ◌^◌, [], ◌∷◌, length, slice_get, slice_set, option_copied, IfOk, OnOk, ◌++◌};
-ghost use Rattle.std.specs.List.{filter};
+ghost use Rattle.std.specs.Prelude.{◌≡◌, ◌≤◌, ◌<◌, ◌+◌, ◌^◌, length, slice_get, option_copied, IfOk, OnOk, OnErr, ◌++◌};
+ghost use Rattle.std.specs.List.{filter, flat_map};
 ghost use Rattle.journal_text.specs.declared.events.Event.TheVariants.{Sweep};
 ghost use Rattle.journal_text.specs.Lines.{number, IsMoment};
-ghost use Rattle.scrape_core.specs.Built as built;
 ghost use Rattle.scrape_core.specs.Lives as lives_of;
 ghost use Rattle.scrape_core.specs.Machine as spec;
-ghost use Rattle.scrape_core.specs.Scrapes as scrapes;
+ghost use Rattle.scrape_loop.specs.Entries.{entries_of};
+ghost use Rattle.scrape_loop.specs.Tracked.{fault_of};
 
 use crate::life_roll::{Flight, Found, Life, Start};
-use crate::rising::RisingSets;
-use crate::sample_rows::{Scrape, ScrapeFault};
-use label_set::{NoMemory, SetList};
+use label_set::{NoMemory, Steps};
+use outside::Reply;
+use report_samples::{Entry, EntryList};
+use sample_rows::{RowRules, ScrapeFault};
+use scrape_config::Job;
+use scrape_loop::Book;
 use std::alloc::Global;
+use std::sync::ledger::Ledger;
 
 /// A moment as a number.
 pub fn moment_number(moment: i64) -> u64
@@ -34,11 +38,25 @@ fn next_of(moment: u64, planned: u64, interval: u64) -> u64
     moment + interval - (moment - planned) % interval
 }
 
+/// Whether a scan at a moment makes a scrape of a life.
+fn is_due(moment: u64, life: &Life) -> bool
+    ensures { result ≡ lives_of.due moment life.now }
+{
+    life.flight.is_none() && moment >= life.planned
+}
+
 /// Whether a scan at a moment starts a scrape of a life.
 fn starts(moment: u64, life: &Life) -> bool
     ensures { result ≡ lives_of.starts moment life.now }
 {
-    life.flight.is_none() && moment >= life.planned
+    is_due(moment, life) && !life.over
+}
+
+/// Whether a scan at a moment forces a scrape of a life.
+fn forces(moment: u64, life: &Life) -> bool
+    ensures { result ≡ lives_of.forces moment life.now }
+{
+    is_due(moment, life) && life.over
 }
 
 /// How many lives a scan starts a scrape of.
@@ -47,6 +65,42 @@ pub fn count_starts(moment: u64, lives: &[Life]) -> usize
     ensures few { result ≤ length lives.now }
 {
     lives.iter().filter(|life| starts(moment, life)).count()
+}
+
+/// How many lives a scan forces a scrape of.
+pub fn count_forced(moment: u64, lives: &[Life]) -> usize
+    ensures value { result ≡ length (filter (lives_of.forces moment) lives.now) }
+    ensures few { result ≤ length lives.now }
+{
+    lives.iter().filter(|life| forces(moment, life)).count()
+}
+
+fn push_forced(
+    alloc: Global,
+    entries: &mut Vec<Entry>,
+    moment: i64,
+    life: &Life,
+) -> Result<(), NoMemory>
+    requires { IsMoment moment }
+    ensures { OnOk result (entries.new.items ≡ entries.old.items ++ lives_of.forced_entries moment life.now) }
+{
+    if forces(moment_number(moment), life) {
+        let mut more = life.state.force_entries(alloc, moment)?;
+        entries.append(&mut more.items)?;
+    }
+    Ok(())
+}
+
+/// The entries of the scrapes that a sweep forces.
+pub fn forced_of(alloc: Global, moment: i64, lives: &[Life]) -> Result<EntryList, NoMemory>
+    requires { IsMoment moment }
+    ensures { IfOk result (λ l. l ≡ flat_map (lives_of.forced_entries moment) lives.now) }
+{
+    let mut items = Vec::new(alloc);
+    for life in lives {
+        push_forced(alloc, &mut items, moment, life)?;
+    }
+    Ok(EntryList { items })
 }
 
 fn push_start(begun: &mut Vec<Start>, moment: u64, number: u64, life: &Life) -> Result<(), NoMemory>
@@ -82,10 +136,14 @@ fn scan(life: &mut Life, moment: i64, ticket: u64) -> bool
     ensures starts { result ≡ lives_of.starts (number moment) life.old }
 {
     let now = moment_number(moment);
-    if !starts(now, life) {
+    if !is_due(now, life) {
         return false;
     }
     life.planned = next_of(now, life.planned, life.interval.ms());
+    if life.over {
+        life.state.force();
+        return false;
+    }
     life.flight = Some(Flight { ticket, moment });
     true
 }
@@ -153,35 +211,6 @@ pub fn found(lives: &[Life], started: &[Start], ticket: u64) -> Found
     found_start(lives, ticket, started.get(ticket as usize).copied())
 }
 
-/// The timeout of the job of a ticket's scrape, where one has started.
-fn timeout_of(lives: &[Life], started: &[Start], ticket: u64) -> Option<u64>
-    ensures { result ≡ spec.timeout_of (spec.world lives.now started.now) ticket }
-{
-    match started.get(ticket as usize).copied() {
-        None => None,
-        Some(start) => timeout_of_life(lives.get(start.life as usize)),
-    }
-}
-
-fn timeout_of_life(life: Option<&Life>) -> Option<u64>
-    ensures { result ≡ spec.timeout_of_life (option_copied life.entry) }
-{
-    match life {
-        None => None,
-        Some(life) => Some(life.timeout),
-    }
-}
-
-/// Whether a fetch for a ticket took no longer than its timeout, where it has one.
-pub fn is_timely(lives: &[Life], started: &[Start], ticket: u64, took: u64) -> bool
-    ensures { result ≡ built.is_timely (spec.timeout_of (spec.world lives.now started.now) ticket) took }
-{
-    match timeout_of(lives, started, ticket) {
-        None => true,
-        Some(timeout) => took <= timeout,
-    }
-}
-
 /// The scrape with a ticket has had its finish.
 pub fn finish(started: &mut [Start], ticket: u64)
     ensures { started.new ≡ spec.finished (slice_get started.old ticket) started.old ticket }
@@ -196,44 +225,41 @@ pub fn finish(started: &mut [Start], ticket: u64)
     }
 }
 
-/// The fault of a scrape, where it isn't good.
-pub fn fault_in(scrape: &Scrape) -> Option<ScrapeFault>
-    ensures { result ≡ scrapes.fault_of scrape.now }
+/// The settings of a job that rows are judged by.
+fn rules_of(job: &Job) -> RowRules
+    ensures { result ≡ lives_of.rules_of job.now }
 {
-    match scrape {
-        Scrape::Good {
-            rows: _,
-            scraped: _,
-        } => None,
-        Scrape::Bad {
-            fault,
-            scraped: _,
-            left: _,
-        } => Some(*fault),
+    RowRules {
+        honor_labels: job.conf.honor_labels,
+        honor_timestamps: job.conf.honor_timestamps,
+        timeout: job.conf.scrape_timeout,
+        limits: job.conf.limits,
     }
 }
 
-/// All sets of the last good scrape, after one more.
-fn know(known: &mut RisingSets, scrape: &Scrape, all: RisingSets)
-    requires { all ≡ scrapes.all_sets scrape.now }
-    ensures { known.new ≡ scrapes.known_after known.old scrape.now }
+/// Counts a scrape of a life that started at a moment, and ended with a reply after so many milliseconds: its fault, if it isn't good.
+#[tactic(auto, unfolding(crate::specs::Lives::outcome_for))]
+pub fn count<L: Ledger>(
+    alloc: Global,
+    life: &mut Life,
+    moment: i64,
+    reply: &Reply,
+    took: i64,
+    book: &mut Book,
+    steps: &mut Steps<L>,
+) -> Result<Option<ScrapeFault>, NoMemory>
+    requires { IsMoment took }
+    ensures fault { IfOk result (λ f. f ≡ fault_of (lives_of.outcome_for life.old took reply.now)) }
+    ensures life { OnOk result (life.new ≡ lives_of.counted life.old (lives_of.outcome_for life.old took reply.now)) }
+    ensures book { OnOk result (book.new.entries ≡ book.old.entries ++ entries_of life.old.state (lives_of.outcome_for life.old took reply.now) moment took) }
+    ensures err_life { OnErr result (life.new ≡ life.old) }
+    ensures err_book { OnErr result (book.new.entries ≡ book.old.entries) }
 {
-    if let Scrape::Good {
-        rows: _,
-        scraped: _,
-    } = scrape
-    {
-        *known = all;
-    }
-}
-
-/// What a scrape that counts makes of its life.
-pub fn settle(life: &mut Life, scrape: &Scrape, tracked: SetList, all: RisingSets)
-    requires tracked { tracked ≡ scrapes.tracked_sets scrape.now }
-    requires all { all ≡ scrapes.all_sets scrape.now }
-    ensures { life.new ≡ lives_of.counted life.old scrape.now }
-{
+    let rules = rules_of(life.job.job());
+    let metric = &life.job.job().metric_rules;
+    let fault = life
+        .state
+        .count(alloc, &rules, metric, moment, reply, took, book, steps)?;
     life.flight = None;
-    life.tracked = tracked;
-    know(&mut life.known, scrape, all);
+    Ok(fault)
 }

@@ -2,7 +2,7 @@
 ghost use Rattle.std.specs.Prelude.{◌≡◌};
 ghost use Rattle.scrape_core.specs.Built as built;
 
-use crate::sample_rows::ScrapeFault;
+use sample_rows::ScrapeFault;
 
 /// What an event is answered.
 #[derive(Clone, Copy, Debug, PartialEq, Eq)]

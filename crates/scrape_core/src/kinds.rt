@@ -1,33 +1,10 @@
-//! Whether a configuration and the rows of a body are of a kind that is built.
-ghost use Rattle.std.specs.Prelude.{◌≡◌, ◌^◌, ◌-◌, min, nat_le, Ok};
+//! How many targets a configuration lists, and whether it is taken.
+ghost use Rattle.std.specs.Prelude.{◌≡◌, ◌^◌, ◌-◌, min, nat_le};
 ghost use Rattle.std.specs.List.{list_all};
 ghost use Rattle.target_set.specs.Listed.{listed_count};
 ghost use Rattle.scrape_core.specs.Built as built;
 
-use expo_reader::BodyRow;
 use scrape_config::{Conf, Group, Job};
-use scrape_limits::Limits;
-
-#[tactic(auto, unfolding(crate::specs::Built::is_unlimited))]
-fn is_unlimited(limits: &Limits) -> bool
-    ensures { result ≡ built.is_unlimited limits.now }
-{
-    limits.sample == 0
-        && limits.label == 0
-        && limits.name_length == 0
-        && limits.value_length == 0
-        && limits.body_size == 0
-        && limits.target == 0
-}
-
-#[tactic(auto, unfolding(crate::specs::Built::is_built_job))]
-fn is_built_job(job: &Job) -> bool
-    ensures { result ≡ built.is_built_job job.now }
-{
-    job.conf.honor_timestamps
-        && job.conf.metric_relabel.as_slice().is_empty()
-        && is_unlimited(&job.conf.limits)
-}
 
 /// How many targets groups list; the count stands still at the last value of its type.
 fn listed_in(groups: &[Group]) -> u64
@@ -69,29 +46,10 @@ fn is_small(total: u64) -> bool
     total <= 100_000
 }
 
+/// Whether each job lists at most 10,000 targets, and all jobs at most 100,000.
 #[tactic(auto, unfolding(crate::specs::Built::is_few), using(crate::proofs::TargetLemmas::capped))]
-fn is_few(conf: &Conf) -> bool
+pub fn is_few(conf: &Conf) -> bool
     ensures { result ≡ built.is_few conf.now }
 {
     are_few(conf.jobs.as_slice()) && is_small(listed_targets(conf.jobs.as_slice()))
-}
-
-fn are_built(jobs: &[Job]) -> bool
-    ensures { result ≡ list_all built.is_built_job jobs.now }
-{
-    jobs.iter().all(|job| is_built_job(job))
-}
-
-/// Whether the settings of a configuration are built, and it lists no more targets than are taken.
-pub fn is_built_conf(conf: &Conf) -> bool
-    ensures { result ≡ built.is_built_conf (Ok conf.now) }
-{
-    are_built(conf.jobs.as_slice()) && is_few(conf)
-}
-
-/// Whether no row has a timestamp.
-pub fn are_unstamped(rows: &[BodyRow]) -> bool
-    ensures { result ≡ list_all built.is_unstamped rows.now }
-{
-    rows.iter().all(|row| row.stamp.is_none())
 }

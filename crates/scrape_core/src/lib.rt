@@ -5,23 +5,15 @@
 
 mod acts;
 pub mod answers;
-pub mod appender_book;
-pub mod births;
+mod births;
+mod events;
 mod kinds;
 pub mod life_roll;
 pub mod machine;
-mod outcomes;
-pub mod report_samples;
-pub mod rising;
-pub mod sample_rows;
-mod scrapes;
 
 pub use answers::{Answer, is_not_yet};
-pub use appender_book::{Book, Entry, EntryList, Kind};
 pub use kinds::listed_targets;
 pub use machine::Core;
-pub use report_samples::{Report, ReportCounts};
-pub use sample_rows::{Sample, SampleList, Scrape, ScrapeFault};
 
 #[cfg(test)]
 mod tests;

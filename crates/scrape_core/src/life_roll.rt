@@ -1,13 +1,14 @@
 //! Lives of targets, and the scrapes that were started.
-ghost use Rattle.std.specs.Prelude.{◌≡◌, ◌≤◌, ◌^◌, false};
-ghost use Rattle.label_conflict.specs.Merging.{bears};
-ghost use Rattle.label_set.specs.SetText.{metric_label};
+ghost use Rattle.std.specs.Prelude.{◌≡◌, ◌≤◌, ◌^◌, IfOk};
 ghost use Rattle.scrape_core.specs.Targets.{interval_of};
 
-use crate::rising::RisingSets;
-use label_set::{LabelSet, SetList};
+use label_set::NoMemory;
 use outside::Reply;
+use scrape_config::Job;
+use scrape_loop::LifeState;
+use std::alloc::Global;
 use std::marker::Model;
+use std::sync::Arc;
 
 /// A scrape interval, from 1 to 2^40 milliseconds; seen as that number.
 #[derive(Debug, Drop)]
@@ -45,40 +46,45 @@ impl Interval {
     }
 }
 
-/// The labels of a target, which have no `__name__`; seen as their list.
-#[derive(Debug, Drop)]
-pub struct TargetLabels {
-    set: LabelSet,
+/// A job that the lives of its targets share; seen as the job.
+#[derive(Drop)]
+pub struct SharedJob {
+    job: Arc<Job>,
 }
 
-impl Model for TargetLabels {
-    ghost use Rattle.std.specs.Prelude.{◌≡◌, List, false};
-    ghost use Rattle.label_set.specs.declared.texts.Pair.{Pair};
-    ghost use Rattle.label_set.specs.SetText.{metric_label};
-    ghost use Rattle.label_conflict.specs.Merging.{bears};
+impl Model for SharedJob {
+    ghost use Rattle.std.specs.Arc.{arc_value};
+    ghost use Rattle.scrape_config.specs.declared.conf.Job.{Job};
 
-    ghost Value = { List Pair };
+    ghost Value = { Job };
 
-    ghost view = { λ t. t.set };
-
-    ghost invariant = { λ t. bears t.set metric_label ≡ false };
+    ghost view = { λ s. arc_value s.job };
 }
 
-impl TargetLabels {
-    /// The labels of a set without `__name__`.
-    pub fn new(set: LabelSet) -> TargetLabels
-        requires { bears set metric_label ≡ false }
-        ensures { result ≡ set }
+impl SharedJob {
+    /// A job, to be shared.
+    pub fn new(alloc: Global, job: Job) -> Result<SharedJob, NoMemory>
+        ensures { IfOk result (λ s. s ≡ job) }
     {
-        TargetLabels { set }
+        Ok(SharedJob {
+            job: Arc::new(alloc, job)?,
+        })
     }
 
-    /// The set of the labels.
-    pub fn set(&self) -> &LabelSet
-        ensures value { result.now ≡ self.now }
-        ensures nameless { bears self.now metric_label ≡ false }
+    /// The same job once more, which costs a count.
+    pub fn share(&self) -> Result<SharedJob, NoMemory>
+        ensures { IfOk result (λ s. s ≡ self.now) }
     {
-        &self.set
+        Ok(SharedJob {
+            job: Arc::try_clone(&self.job)?,
+        })
+    }
+
+    /// The job.
+    pub fn job(&self) -> &Job
+        ensures { result.now ≡ self.now }
+    {
+        &self.job
     }
 }
 
@@ -90,23 +96,18 @@ pub struct Flight {
 }
 
 /// A life: a stretch of time in which a target of a job is scraped, as what its past comes to.
-#[derive(Debug, Drop)]
+#[derive(Drop)]
 pub struct Life {
-    /// The target's labels.
-    pub target: TargetLabels,
-    /// Whether an exposed label stands before the target's label of the same name.
-    pub honor: bool,
+    /// Its number, its target's labels, and what its scrapes leave for the next.
+    pub state: LifeState,
+    pub job: SharedJob,
+    /// Whether the job has more targets than its limit, so that scrapes are forced.
+    pub over: bool,
     pub interval: Interval,
-    /// The scrape timeout in milliseconds.
-    pub timeout: u64,
     /// The moment of the next planned scrape.
     pub planned: u64,
     /// The scrape in flight.
     pub flight: Option<Flight>,
-    /// The sets that the last counted scrape tracked, rising.
-    pub tracked: SetList,
-    /// All sets of the last good scrape, rising.
-    pub known: RisingSets,
 }
 
 /// A started scrape, by its ticket: the number of its life, and whether it had its finish.

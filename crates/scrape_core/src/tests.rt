@@ -3,11 +3,12 @@ ghost use Rattle.journal_text.specs.Lines.{IsMoment, IsStatus};
 
 use super::*;
 use crate::life_roll::Interval;
-use crate::report_samples::{report_set, reports, with_name};
-use crate::rising::RisingSets;
 use journal_text::Event;
-use label_set::{Blob, LabelSet, NoMemory, Steps};
+use label_set::{Blob, NoMemory, Steps};
 use outside::Reply;
+use report_samples::Entry;
+use sample_rows::ScrapeFault;
+use scrape_loop::Book;
 use std::alloc::Global;
 use std::marker::Brand;
 use std::process::Abort;
@@ -17,6 +18,10 @@ use std::test::Fail;
 /// A configuration of one job with one target.
 const CONF: &[u8] =
     br#"{"scrape_configs":[{"job_name":"j","static_configs":[{"targets":["a:1"]}]}]}"#;
+
+/// A job with more targets than its limit.
+const CROWDED: &[u8] =
+    br#"{"scrape_configs":[{"job_name":"j","target_limit":1,"static_configs":[{"targets":["a:1","b:1"]}]}]}"#;
 
 /// The book after a scrape with two samples at 0, and a lost reply at 60000.
 const BOOK: &str = r#"0 0 Scraped x{instance="a:1",job="j"} 1
@@ -63,13 +68,14 @@ fn load<L: Ledger>(
     core: &mut Core,
     steps: &mut Steps<L>,
     moment: i64,
+    conf: &[u8],
 ) -> Result<Answer, NoMemory>
     requires { IsMoment moment }
 {
-    if moment < core.now() {
+    let text = Blob::from_slice(alloc, conf)?;
+    if moment < core.now() || text.as_slice().len() > 1_000 {
         return Err(NoMemory);
     }
-    let text = Blob::from_slice(alloc, CONF)?;
     core.step(alloc, Event::Load { moment, text }, steps)
 }
 
@@ -141,23 +147,7 @@ fn nothing_unbuilt_is_taken<L: Ledger>(
     steps: &mut Steps<L>,
 ) -> Result<(), NoMemory> {
     let kept = core.events();
-    assert_eq!(rt; load(alloc, core, steps, 0)?, Answer::NotYet);
-    assert_eq!(rt;
-        body(alloc, core, steps, 15, 200, "x 1 5\n")?,
-        Answer::NotYet
-    );
-    assert_eq!(rt; body(alloc, core, steps, 15, 404, "")?, Answer::NotYet);
-    assert_eq!(rt;
-        body(alloc, core, steps, 10_001, 200, "x 1\n")?,
-        Answer::NotYet
-    );
-    assert_eq!(rt; lost(alloc, core, steps, 0, 10_001)?, Answer::NotYet);
-    let garbled = Event::Finish {
-        ticket: 0,
-        took: 15,
-        reply: Reply::Garbled,
-    };
-    assert_eq!(rt; core.step(alloc, garbled, steps)?, Answer::NotYet);
+    assert_eq!(rt; load(alloc, core, steps, 0, CONF)?, Answer::NotYet);
     if core.now() == 0 {
         let tick = Event::Tick { moment: 0, life: 0 };
         assert_eq!(rt; core.step(alloc, tick, steps)?, Answer::NotYet);
@@ -179,7 +169,7 @@ fn one_load<L: Ledger>(rt: &impl Abort, alloc: Global, blank: Blank) -> Result<(
 {
     let mut steps = Steps::<L>::open(blank);
     let mut core = Core::new(alloc)?;
-    let loaded = load(alloc, &mut core, &mut steps, 0)?;
+    let loaded = load(alloc, &mut core, &mut steps, 0, CONF)?;
     assert_eq!(rt;
         loaded,
         Answer::Loaded {
@@ -210,6 +200,40 @@ fn one_load<L: Ledger>(rt: &impl Abort, alloc: Global, blank: Blank) -> Result<(
     Ok(())
 }
 
+/// A load of a job over its limit, whose scrapes a sweep forces.
+fn crowded_load<L: Ledger>(rt: &impl Abort, alloc: Global, blank: Blank) -> Result<(), NoMemory>
+    requires name { blank.name ≡ L.name }
+    requires parts { blank.parts ≡ L.parts }
+    requires some { 0 < blank.parts }
+{
+    let mut steps = Steps::<L>::open(blank);
+    let mut core = Core::new(alloc)?;
+    let loaded = load(alloc, &mut core, &mut steps, 0, CROWDED)?;
+    assert_eq!(rt;
+        loaded,
+        Answer::Loaded {
+            closed: 0,
+            begun: 2
+        }
+    );
+    let forced = Answer::Swept {
+        first: 0,
+        started: 0,
+        forced: 2,
+        ended: 0,
+    };
+    assert_eq!(rt; sweep(alloc, &mut core, &mut steps, 0)?, forced);
+    assert_eq!(rt; core.book().len(), 10);
+    assert_eq!(rt; lost(alloc, &mut core, &mut steps, 0, 5)?, Answer::NoTicket);
+    Ok(())
+}
+
+#[test]
+fn target_limit_forces(rt: HostRuntime) -> Result<(), Fail> {
+    crowded_load::<Brand>(&rt, rt.alloc(), Blank::new(1))?;
+    Ok(())
+}
+
 fn swept(first: u64) -> Answer {
     Answer::Swept {
         first,
@@ -222,69 +246,6 @@ fn swept(first: u64) -> Answer {
 #[test]
 fn one_load_then_a_lost_reply(rt: HostRuntime) -> Result<(), Fail> {
     one_load::<Brand>(&rt, rt.alloc(), Blank::new(1))?;
-    Ok(())
-}
-
-/// The labels of the target `a:1` of a job `j`.
-fn target(alloc: Global) -> Result<LabelSet, NoMemory> {
-    let mut set = LabelSet::empty();
-    for (name, value) in [("instance", "a:1"), ("job", "j")] {
-        match set.with(alloc, name, value) {
-            Ok(next) => set = next,
-            Err(_) => return Err(NoMemory),
-        }
-    }
-    Ok(set)
-}
-
-fn series(alloc: Global, name: &str) -> Result<LabelSet, NoMemory> {
-    with_name(alloc, &target(alloc)?, name)
-}
-
-#[test]
-fn sets_rise(rt: HostRuntime) -> Result<(), Fail> {
-    let alloc = rt.alloc();
-    let mut sets = RisingSets::new(alloc);
-    for name in ["y", "x", "y"] {
-        sets.put(series(alloc, name)?)?;
-    }
-    let mut others = RisingSets::new(alloc);
-    others.put(series(alloc, "x")?)?;
-    assert_eq!(rt; sets.len(), 2);
-    assert_eq!(rt; sets.count_without(&others), 1);
-    assert!(rt; sets.contains(&series(alloc, "y")?) && !others.contains(&series(alloc, "y")?));
-    let list = sets.list(alloc)?;
-    assert_eq!(rt; list.as_slice().len(), 2);
-    assert!(rt; list.as_slice()[0] == series(alloc, "x")?);
-    Ok(())
-}
-
-#[test]
-fn book_keeps_what_is_appended(rt: HostRuntime) -> Result<(), Fail> {
-    let alloc = rt.alloc();
-    let target = target(alloc)?;
-    let mut book = Book::new(alloc)?;
-    book.reserve(1)?;
-    book.append(Entry {
-        life: 3,
-        kind: Kind::ReportStale,
-        series: report_set(alloc, &target, Report::Duration)?,
-        moment: -5,
-        value: None,
-    });
-    let counts = ReportCounts {
-        up: true,
-        took: 1_500,
-        scraped: 3,
-        left: 2,
-        added: 1,
-    };
-    book.append_all(reports(alloc, 3, &target, 9, &counts)?)?;
-    assert_eq!(rt; book.len(), 6);
-    assert!(rt; book.entry(6).is_none());
-    let want =
-        "-5 3 ReportStale scrape_duration_seconds{instance=\"a:1\",job=\"j\"}\n9 3 Report up{instance=\"a:1\",job=\"j\"} 1\n9 3 Report scrape_duration_seconds{instance=\"a:1\",job=\"j\"} 1.500\n9 3 Report scrape_samples_scraped{instance=\"a:1\",job=\"j\"} 3\n9 3 Report scrape_samples_post_metric_relabeling{instance=\"a:1\",job=\"j\"} 2\n9 3 Report scrape_series_added{instance=\"a:1\",job=\"j\"} 1\n";
-    assert!(rt; printed(alloc, &book)?.as_slice() == want.as_bytes());
     Ok(())
 }
 

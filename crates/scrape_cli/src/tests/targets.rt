@@ -46,20 +46,11 @@ fn targets_of_several_jobs_are_scraped(rt: HostRuntime) -> Result<(), Fail> {
 #[test]
 fn other_configurations_are_not_yet_loaded(rt: HostRuntime) -> Result<(), Fail> {
     let alloc = rt.alloc();
-    let cases: [&[u8]; 7] = [
-        // timestamps that are not honoured
-        b"load 0 62\n{\"scrape_configs\":[{\"job_name\":\"j\",\"honor_timestamps\":false}]}\n",
-        // rules for samples
-        b"load 0 94\n{\"scrape_configs\":[{\"job_name\":\"j\",\"metric_relabel_configs\":[{\"regex\":\"x\",\"action\":\"drop\"}]}]}\n",
-        // a limit
-        b"load 0 54\n{\"scrape_configs\":[{\"job_name\":\"j\",\"target_limit\":1}]}\n",
+    let cases: [&[u8]; 2] = [
         // a fault
         b"load 0 48\n{\"scrape_configs\":[{\"job_name\":\"j\",\"colour\":1}]}\n",
         // a pattern that is none
         b"load 0 90\n{\"scrape_configs\":[{\"job_name\":\"j\",\"relabel_configs\":[{\"regex\":\"(\",\"target_label\":\"t\"}]}]}\n",
-        // a fetch that took longer than its own job allows
-        b"load 0 361\n{\"scrape_configs\":[{\"job_name\":\"j\",\"static_configs\":[{\"targets\":[\"b:1\",\"a/b\",\"\",\"a:1\",\"b:1\",\"drop:1\"],\"labels\":{\"env\":\"p\"}}],\"relabel_configs\":[{\"source_labels\":[\"__address__\"],\"regex\":\"drop:.*\",\"action\":\"drop\"}]},{\"job_name\":\"k\",\"scrape_timeout\":\"20s\",\"file_sd_configs\":[{\"files\":[\"f.json\"]}],\"static_configs\":[{\"targets\":[\"a:1\"],\"labels\":{\"instance\":\"i\"}}]}]}\nsweep 0\nlost 10001 1\n",
-        b"load 0 361\n{\"scrape_configs\":[{\"job_name\":\"j\",\"static_configs\":[{\"targets\":[\"b:1\",\"a/b\",\"\",\"a:1\",\"b:1\",\"drop:1\"],\"labels\":{\"env\":\"p\"}}],\"relabel_configs\":[{\"source_labels\":[\"__address__\"],\"regex\":\"drop:.*\",\"action\":\"drop\"}]},{\"job_name\":\"k\",\"scrape_timeout\":\"20s\",\"file_sd_configs\":[{\"files\":[\"f.json\"]}],\"static_configs\":[{\"targets\":[\"a:1\"],\"labels\":{\"instance\":\"i\"}}]}]}\nsweep 0\nlost 20001 2\n",
     ];
     for rest in cases {
         let script = joined(alloc, &[b"scrape-journal 1\n", rest])?;

@@ -1,6 +1,6 @@
 use Rattle.std.proofs.Common.{◌≡◌, ◌<◌, ◌≤◌, ◌^◌, ℕ, length}
 use Rattle.std.specs.Prelude.{slice_get, Some}
-use Rattle.scrape_core.specs.declared.appender_book.Entry.{Entry}
+use Rattle.report_samples.specs.declared.entries.Entry.{Entry}
 use Rattle.scrape_cli.specs.Texts.{entry_line}
 use Rattle.scrape_cli.proofs.printing.longest.Given as goal
 

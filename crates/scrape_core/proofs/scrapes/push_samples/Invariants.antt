@@ -1,6 +1,0 @@
-use Rattle.std.proofs.Common.{◌≡◌, ◌++◌, map, take}
-use Rattle.scrape_core.specs.Entries.{sample_entry}
-use Rattle.scrape_core.proofs.scrapes.push_samples.Given as goal
-
-abbrev pub invariant-loop-sample : goal.invariant-loop-sample
-invariant-loop-sample l = l.entries.items ≡ l.fn.entries.items ++ map (sample_entry l.life l.moment) (take l.sample-index l.samples)

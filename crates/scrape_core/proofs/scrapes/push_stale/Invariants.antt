@@ -1,7 +1,0 @@
-use Rattle.std.proofs.Common.{◌≡◌, ◌++◌, map, take}
-use Rattle.scrape_core.specs.Entries.{stale_entry}
-use Rattle.scrape_core.specs.Sets.{gone}
-use Rattle.scrape_core.proofs.scrapes.push_stale.Given as goal
-
-abbrev pub invariant-loop-set : goal.invariant-loop-set
-invariant-loop-set l = l.entries.items ≡ l.fn.entries.items ++ map (stale_entry l.life l.moment) (gone (take l.set-index l.before) l.now)
