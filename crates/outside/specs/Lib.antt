@@ -1,2 +1,3 @@
-pub mod Memory
 pub mod Objects
+pub mod Memory
+pub mod Adapters

@@ -1,7 +1,7 @@
 -- Shelves and sinks in memory.
-use Rattle.std.specs.Prelude.{ℕ, ◌+◌, Bool, List, ◌++◌, length, nat_lt, nat_eq, ◌||◌, if◌then◌else◌}
+use Rattle.std.specs.Prelude.{ℕ, ◌+◌, Bool, List, ◌++◌, Some, length, nat_lt, nat_eq, ◌||◌, if◌then◌else◌}
 use Rattle.std.specs.List.{list_any}
-use Rattle.outside.specs.Objects.{raised}
+use Rattle.outside.specs.Objects.{raised, ShelfSeen, SinkSeen}
 use Rattle.outside.specs.declared.objects.StoredFile.{StoredFile}
 
 -- a shelf of files: how often it was asked for one that it lacks, and for one over the limit
@@ -40,3 +40,10 @@ abbrev pub after_put : SinkView → List ℕ → SinkView
 after_put sink bytes =
     if put_fails sink bytes then record sink { calls = raised sink.calls; faults = raised sink.faults }
     else record sink { calls = raised sink.calls; bytes = sink.bytes ++ bytes }
+
+-- what contracts see of each: all that they hold, and their counts
+abbrev pub failing_seen : FailingShelfView → ShelfSeen
+failing_seen s = record { files = Some s.files; misses = s.misses; overs = s.overs; faults = s.faults }
+
+abbrev pub sink_seen : SinkView → SinkSeen
+sink_seen s = record { bytes = Some s.bytes; faults = s.faults }

@@ -1,57 +1,95 @@
--- What calls of outside objects say: files that are read, and bytes that are put.
-use Rattle.std.specs.Prelude.{◌≡◌, ◌<◌, ◌≤◌, ℕ, ◌+◌, ◌-◌, ◌^◌, min, List, ◌++◌, length, Option, Some, None, IfSome, IsSomeAnd, find, option_map, Result, Err}
+-- What contracts see of outside objects, and what their calls say: files that are read, and bytes that are put.
+use Rattle.std.specs.Prelude.{◌≡◌, ◌<◌, ◌≤◌, ℕ, ◌+◌, ◌-◌, ◌^◌, min, List, ◌++◌, length, Option, Some, None, IfSome, IsSomeAnd, find, option_map, Result, Ok, Err}
 use Rattle.std.specs.Str.{bytes_eq}
 use Rattle.outside.specs.declared.objects.StoredFile.{StoredFile}
 use Rattle.outside.specs.declared.objects.ShelfError.{ShelfError}
-use Rattle.outside.specs.declared.objects.ShelfError.TheVariants.{Absent, TooLong, Failed}
+use Rattle.outside.specs.declared.objects.ShelfError.TheVariants.{Absent, TooLong, Failed, NoMemory}
+
+-- a shelf: its files, where it tells them, and how often it was asked for a file that isn't there, for one over the limit, and failed to read
+pub record ShelfSeen : Type 0 where
+  pub files : Option (List StoredFile)
+  pub misses : ℕ
+  pub overs : ℕ
+  pub faults : ℕ
+
+-- a sink: what it holds, where it tells that, and how often a put has failed
+pub record SinkSeen : Type 0 where
+  pub bytes : Option (List ℕ)
+  pub faults : ℕ
+
+-- an outside object before and after a call
+pub record Use (X : Type 0) : Type 0 where
+  pub before : X
+  pub after : X
+
+abbrev pub used : {X : Type 0} → X → X → Use X
+used b a = record { before = b; after = a }
+
+-- nothing of it changed
+abbrev pub IsUntouched : {X : Type 0} → Use X → Type 0
+IsUntouched u = u.after ≡ u.before
 
 -- a count after one more, which stands still at the last value of its type
 abbrev pub raised : ℕ → ℕ
 raised count = min (count + 1) (2 ^ 64 - 1)
 
--- the count has risen, or stands at the last value of its type
+-- the count has risen, or stands at the last value of its type; it never falls
 abbrev pub Rose : ℕ → ℕ → Type 0
-Rose before now = raised before ≤ now
+Rose before now = (before ≤ now) × (raised before ≤ now)
 
 -- the bytes of the first file of a name
 abbrev pub file_of : List ℕ → List StoredFile → Option (List ℕ)
 file_of name files = option_map (λ (f : StoredFile). f.bytes) (find (λ (f : StoredFile). bytes_eq f.name name) files)
 
 -- where the files are told, the file of this name has these bytes
-abbrev pub HasFile : Option (List StoredFile) → List ℕ → List ℕ → Type 0
-HasFile told name bytes = IfSome told (λ files. file_of name files ≡ Some bytes)
+abbrev pub HasFile : ShelfSeen → List ℕ → List ℕ → Type 0
+HasFile shelf name bytes = IfSome shelf.files (λ files. file_of name files ≡ Some bytes)
 
 -- where the files are told, none has this name
-abbrev pub LacksFile : Option (List StoredFile) → List ℕ → Type 0
-LacksFile told name = IfSome told (λ files. file_of name files ≡ None)
+abbrev pub LacksFile : ShelfSeen → List ℕ → Type 0
+LacksFile shelf name = IfSome shelf.files (λ files. file_of name files ≡ None)
 
 -- where the files are told, the file of this name has more bytes than so many
-abbrev pub HasLongerFile : Option (List StoredFile) → List ℕ → ℕ → Type 0
-HasLongerFile told name limit = IfSome told (λ files. IsSomeAnd (file_of name files) (λ bytes. limit < length bytes))
+abbrev pub HasLongerFile : ShelfSeen → List ℕ → ℕ → Type 0
+HasLongerFile shelf name limit = IfSome shelf.files (λ files. IsSomeAnd (file_of name files) (λ bytes. limit < length bytes))
 
--- a count that rises where the error came to which it is tied, and else stands as it was
-abbrev pub Misses : Result (List ℕ) ShelfError → ℕ → ℕ → Type 0
-Misses (Err Absent) before now = (before ≤ now) × Rose before now
-Misses _ before now = now ≡ before
+-- the shelf missed a file: it counted that, and nothing else of it changed
+pub record Missed (u : Use ShelfSeen) : Type 0 where
+  pub counted : Rose u.before.misses u.after.misses
+  pub rest : u.after ≡ record u.before { misses = u.after.misses }
 
-abbrev pub Overs : Result (List ℕ) ShelfError → ℕ → ℕ → Type 0
-Overs (Err TooLong) before now = (before ≤ now) × Rose before now
-Overs _ before now = now ≡ before
+-- it met a file over the limit: the same
+pub record MetLonger (u : Use ShelfSeen) : Type 0 where
+  pub counted : Rose u.before.overs u.after.overs
+  pub rest : u.after ≡ record u.before { overs = u.after.overs }
 
-abbrev pub Faults : Result (List ℕ) ShelfError → ℕ → ℕ → Type 0
-Faults (Err Failed) before now = (before ≤ now) × Rose before now
-Faults _ before now = now ≡ before
+-- it failed to read: the same
+pub record FailedToRead (u : Use ShelfSeen) : Type 0 where
+  pub counted : Rose u.before.faults u.after.faults
+  pub rest : u.after ≡ record u.before { faults = u.after.faults }
 
--- what an adapter keeps of its calls
-pub record Counts : Type 0 where
-  pub misses : ℕ
-  pub overs : ℕ
-  pub faults : ℕ
+-- what a read leaves: a shelf as before, but for the count of its answer
+abbrev pub ReadLeaves : Result (List ℕ) ShelfError → Use ShelfSeen → Type 0
+ReadLeaves (Ok bytes) u = IsUntouched u
+ReadLeaves (Err Absent) u = Missed u
+ReadLeaves (Err TooLong) u = MetLonger u
+ReadLeaves (Err Failed) u = FailedToRead u
+ReadLeaves (Err NoMemory) u = IsUntouched u
 
 -- where a sink tells what it holds, it tells that afterwards too, with these bytes at the end
-abbrev pub Adds : List ℕ → Option (List ℕ) → Option (List ℕ) → Type 0
-Adds bytes old new = IfSome old (λ had. new ≡ Some (had ++ bytes))
+abbrev pub Adds : List ℕ → Use SinkSeen → Type 0
+Adds bytes u = IfSome u.before.bytes (λ had. u.after.bytes ≡ Some (had ++ bytes))
 
 -- the same with a front of the bytes
-abbrev pub AddsFront : List ℕ → Option (List ℕ) → Option (List ℕ) → Type 0
-AddsFront bytes old new = (front : List ℕ) × (rest : List ℕ) × (bytes ≡ front ++ rest) × Adds front old new
+abbrev pub AddsFront : List ℕ → Use SinkSeen → Type 0
+AddsFront bytes u = (front : List ℕ) × (rest : List ℕ) × (bytes ≡ front ++ rest) × Adds front u
+
+-- the sink took the bytes, and counted no fault
+pub record Took (bytes : List ℕ) (u : Use SinkSeen) : Type 0 where
+  pub whole : Adds bytes u
+  pub sound : u.after.faults ≡ u.before.faults
+
+-- it took a front of them, and counted a fault
+pub record Cut (bytes : List ℕ) (u : Use SinkSeen) : Type 0 where
+  pub front : AddsFront bytes u
+  pub counted : Rose u.before.faults u.after.faults

@@ -1,5 +1,7 @@
 //! Adapters over the real things. They tell nothing of content, and count what they refuse.
 ghost use Rattle.std.specs.Prelude.{◌≡◌, ◌≤◌, None, length, IfOk};
+ghost use Rattle.std.specs.IoError.{error_kind};
+ghost use Rattle.outside.specs.Adapters as spec;
 
 use crate::objects::{Shelf, ShelfError, Sink, SinkFault};
 use label_set::{Blob, NoMemory};
@@ -19,17 +21,18 @@ pub struct FileShelf<R: Files> {
 }
 
 impl<R: Files> Model for FileShelf<R> {
-    ghost use Rattle.outside.specs.Objects.{Counts};
+    ghost use Rattle.std.specs.Prelude.{None};
+    ghost use Rattle.outside.specs.Objects.{ShelfSeen};
 
-    ghost Value = { Counts };
+    ghost Value = { ShelfSeen };
 
-    ghost view = { λ s. record { misses = s.misses; overs = s.overs; faults = s.faults } };
+    ghost view = { λ s. record { files = None; misses = s.misses; overs = s.overs; faults = s.faults } };
 }
 
 impl<R: Files> FileShelf<R> {
     /// The files that the runtime reaches.
     pub fn new(files: R) -> FileShelf<R>
-        ensures { result ≡ record { misses = 0; overs = 0; faults = 0 } }
+        ensures { result ≡ record { files = None; misses = 0; overs = 0; faults = 0 } }
     {
         FileShelf {
             files,
@@ -41,13 +44,7 @@ impl<R: Files> FileShelf<R> {
 }
 
 impl<R: Files> Shelf for FileShelf<R> {
-    ghost told = { λ s. None };
-
-    ghost misses = { λ s. s.misses };
-
-    ghost overs = { λ s. s.overs };
-
-    ghost faults = { λ s. s.faults };
+    ghost seen = { λ s. s };
 
     fn read_file(&mut self, alloc: Global, name: &str, limit: usize) -> Result<Blob, ShelfError> {
         match read_within(&self.files, alloc, name, limit) {
@@ -89,7 +86,10 @@ fn read_within<R: Files>(
     Ok(bytes)
 }
 
-fn cause_of(error: &io::Error) -> ShelfError {
+/// What an error of the operating system comes to, by its kind.
+fn cause_of(error: &io::Error) -> ShelfError
+    ensures { result ≡ spec.cause_of (error_kind error.now) }
+{
     match error.kind() {
         ErrorKind::NotFound => ShelfError::Absent,
         ErrorKind::OutOfMemory => ShelfError::NoMemory,
@@ -105,26 +105,25 @@ pub struct StdSink<W: Write + Drop> {
 }
 
 impl<W: Write + Drop> Model for StdSink<W> {
-    ghost use Rattle.std.specs.Prelude.{ℕ};
+    ghost use Rattle.std.specs.Prelude.{None};
+    ghost use Rattle.outside.specs.Objects.{SinkSeen};
 
-    ghost Value = { ℕ };
+    ghost Value = { SinkSeen };
 
-    ghost view = { λ s. s.faults };
+    ghost view = { λ s. record { bytes = None; faults = s.faults } };
 }
 
 impl<W: Write + Drop> StdSink<W> {
     /// A sink over the writer, which is flushed after each put.
     pub fn new(writer: W) -> StdSink<W>
-        ensures { result ≡ 0 }
+        ensures { result ≡ record { bytes = None; faults = 0 } }
     {
         StdSink { writer, faults: 0 }
     }
 }
 
 impl<W: Write + Drop> Sink for StdSink<W> {
-    ghost told = { λ s. None };
-
-    ghost faults = { λ s. s };
+    ghost seen = { λ s. s };
 
     fn put(&mut self, bytes: &[u8]) -> Result<(), SinkFault> {
         if self.writer.write_all(bytes).is_err() || self.writer.flush().is_err() {

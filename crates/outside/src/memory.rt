@@ -1,7 +1,7 @@
 //! Shelves and sinks in memory, which tell what they hold.
 ghost use Rattle.std.specs.Prelude.{◌≡◌, ◌≤◌, ◌∷◌, [], ◌++◌, ℕ, List, Option, Some, None, length, option_map, OnOk, OnErr, IfOk, IsErrOf, Ok, Err, IsOk, IsErr, ◌↔◌, IsTrue, ◌+◌, false};
-ghost use Rattle.outside.specs.Objects.{raised, file_of, HasFile, LacksFile, HasLongerFile, Misses, Overs, Faults, Adds, AddsFront, Rose};
-ghost use Rattle.outside.specs.Memory.{fails_now, put_fails, after_put};
+ghost use Rattle.outside.specs.Objects.{raised, file_of, used, HasFile, LacksFile, HasLongerFile, ReadLeaves, Took, Cut};
+ghost use Rattle.outside.specs.Memory.{fails_now, put_fails, after_put, failing_seen, sink_seen};
 
 use crate::objects::{CallList, FileList, Shelf, ShelfError, Sink, SinkFault, StoredFile};
 use label_set::{Blob, NoMemory};
@@ -48,13 +48,7 @@ impl SureShelf {
 }
 
 impl Shelf for SureShelf {
-    ghost told = { λ s. Some s.files };
-
-    ghost misses = { λ s. s.misses };
-
-    ghost overs = { λ s. s.overs };
-
-    ghost faults = { λ s. 0 };
+    ghost seen = { λ s. record { files = Some s.files; misses = s.misses; overs = s.overs; faults = 0 } };
 
     fn read_file(&mut self, alloc: Global, name: &str, limit: usize) -> Result<Blob, ShelfError> {
         let Some(bytes) = file_in(self.files.items.as_slice(), name) else {
@@ -108,23 +102,14 @@ fn fails_at(fails: &[u64], number: u64) -> bool
 }
 
 impl Shelf for MemShelf {
-    ghost told = { λ s. Some s.files };
-
-    ghost misses = { λ s. s.misses };
-
-    ghost overs = { λ s. s.overs };
-
-    ghost faults = { λ s. s.faults };
+    ghost seen = { failing_seen };
 
     fn read_file(&mut self, alloc: Global, name: &str, limit: usize) -> Result<Blob, ShelfError>
         ensures bound { IfOk result (λ bytes. length bytes ≤ limit) }
-        ensures content { IfOk result (λ bytes. HasFile (Some self.old.files) name.now bytes) }
-        ensures absent { IsErrOf result ShelfError.Absent → LacksFile (Some self.old.files) name.now }
-        ensures too_long { IsErrOf result ShelfError.TooLong → HasLongerFile (Some self.old.files) name.now limit }
-        ensures files { Some self.new.files ≡ Some self.old.files }
-        ensures misses { Misses result self.old.misses self.new.misses }
-        ensures overs { Overs result self.old.overs self.new.overs }
-        ensures faults { Faults result self.old.faults self.new.faults }
+        ensures content { IfOk result (λ bytes. HasFile (failing_seen self.old) name.now bytes) }
+        ensures absent { IsErrOf result ShelfError.Absent → LacksFile (failing_seen self.old) name.now }
+        ensures too_long { IsErrOf result ShelfError.TooLong → HasLongerFile (failing_seen self.old) name.now limit }
+        ensures leaves { ReadLeaves result (used (failing_seen self.old) (failing_seen self.new)) }
         ensures failing { IsErrOf result ShelfError.Failed ↔ IsTrue (fails_now self.old.fails self.old.calls) }
         ensures next { self.new.calls ≡ raised self.old.calls }
         ensures fails { self.new.fails ≡ self.old.fails }
@@ -153,9 +138,7 @@ impl SureSink {
 }
 
 impl Sink for SureSink {
-    ghost told = { λ s. None };
-
-    ghost faults = { λ s. 0 };
+    ghost seen = { λ s. record { bytes = None; faults = 0 } };
 
     fn put(&mut self, _bytes: &[u8]) -> Result<(), SinkFault> {
         Ok(())
@@ -216,16 +199,11 @@ fn put_fails_at(sink: &MemSink, bytes: &[u8]) -> bool
 }
 
 impl Sink for MemSink {
-    ghost told = { λ s. Some s.bytes };
-
-    ghost faults = { λ s. s.faults };
+    ghost seen = { sink_seen };
 
     fn put(&mut self, bytes: &[u8]) -> Result<(), SinkFault>
-        ensures whole { OnOk result (Adds bytes.now (Some self.old.bytes) (Some self.new.bytes)) }
-        ensures front { OnErr result (AddsFront bytes.now (Some self.old.bytes) (Some self.new.bytes)) }
-        ensures sound { OnOk result (self.new.faults ≡ self.old.faults) }
-        ensures fault { OnErr result (Rose self.old.faults self.new.faults) }
-        ensures later { self.old.faults ≤ self.new.faults }
+        ensures whole { OnOk result (Took bytes.now (used (sink_seen self.old) (sink_seen self.new))) }
+        ensures cut { OnErr result (Cut bytes.now (used (sink_seen self.old) (sink_seen self.new))) }
         ensures failing { IsErr result ↔ IsTrue (put_fails self.old bytes.now) }
         ensures next { self.new ≡ after_put self.old bytes.now }
     {

@@ -1,5 +1,5 @@
 //! Shelves of files and sinks of bytes: what their calls say, whatever stands behind them.
-ghost use Rattle.std.specs.Prelude.{◌≡◌, ◌≤◌, ℕ, List, Option, length, OnOk, OnErr, IfOk, IsErrOf};
+ghost use Rattle.std.specs.Prelude.{◌≤◌, length, OnOk, OnErr, IfOk, IsErrOf};
 
 use label_set::{Blob, Name, NoMemory};
 use std::alloc::Global;
@@ -71,48 +71,29 @@ pub struct SinkFault;
 
 /// What has files that can be read by their names.
 pub trait Shelf {
-    ghost use Rattle.outside.specs.declared.objects.StoredFile.{StoredFile};
-    ghost use Rattle.outside.specs.Objects.{HasFile, LacksFile, HasLongerFile, Misses, Overs, Faults};
+    ghost use Rattle.outside.specs.Objects.{ShelfSeen, HasFile, LacksFile, HasLongerFile, ReadLeaves, used};
 
-    /// The files, where the shelf tells them.
-    ghost told: { Self → Option (List StoredFile) };
-
-    /// How often it was asked for a file that isn't there.
-    ghost misses: { Self → ℕ };
-
-    /// How often it was asked for a file over the limit.
-    ghost overs: { Self → ℕ };
-
-    /// How often reading has failed.
-    ghost faults: { Self → ℕ };
+    /// What contracts see of it: its files, where it tells them, and its counts.
+    ghost seen: { Self → ShelfSeen };
 
     /// The bytes of the file of a name, which are to be at most `limit`.
     fn read_file(&mut self, alloc: Global, name: &str, limit: usize) -> Result<Blob, ShelfError>
         ensures bound { IfOk result (λ bytes. length bytes ≤ limit) }
-        ensures content { IfOk result (λ bytes. HasFile (told self.old) name.now bytes) }
-        ensures absent { IsErrOf result ShelfError.Absent → LacksFile (told self.old) name.now }
-        ensures too_long { IsErrOf result ShelfError.TooLong → HasLongerFile (told self.old) name.now limit }
-        ensures files { told self.new ≡ told self.old }
-        ensures misses { Misses result (misses self.old) (misses self.new) }
-        ensures overs { Overs result (overs self.old) (overs self.new) }
-        ensures faults { Faults result (faults self.old) (faults self.new) };
+        ensures content { IfOk result (λ bytes. HasFile (seen self.old) name.now bytes) }
+        ensures absent { IsErrOf result ShelfError.Absent → LacksFile (seen self.old) name.now }
+        ensures too_long { IsErrOf result ShelfError.TooLong → HasLongerFile (seen self.old) name.now limit }
+        ensures leaves { ReadLeaves result (used (seen self.old) (seen self.new)) };
 }
 
 /// What takes bytes.
 pub trait Sink {
-    ghost use Rattle.outside.specs.Objects.{Adds, AddsFront, Rose};
+    ghost use Rattle.outside.specs.Objects.{SinkSeen, Took, Cut, used};
 
-    /// What the sink holds, where it tells that.
-    ghost told: { Self → Option (List ℕ) };
+    /// What contracts see of it: what it holds, where it tells that, and its count.
+    ghost seen: { Self → SinkSeen };
 
-    /// How often a put has failed.
-    ghost faults: { Self → ℕ };
-
-    /// Adds the bytes at the end.
+    /// Adds the bytes at the end, or where it fails a front of them.
     fn put(&mut self, bytes: &[u8]) -> Result<(), SinkFault>
-        ensures whole { OnOk result (Adds bytes.now (told self.old) (told self.new)) }
-        ensures front { OnErr result (AddsFront bytes.now (told self.old) (told self.new)) }
-        ensures sound { OnOk result (faults self.new ≡ faults self.old) }
-        ensures fault { OnErr result (Rose (faults self.old) (faults self.new)) }
-        ensures later { faults self.old ≤ faults self.new };
+        ensures whole { OnOk result (Took bytes.now (used (seen self.old) (seen self.new))) }
+        ensures cut { OnErr result (Cut bytes.now (used (seen self.old) (seen self.new))) };
 }
