@@ -1,3 +1,4 @@
 pub mod FlowLemmas
 pub mod ScriptLemmas
-pub mod CheckLemmas
+pub mod EndLemmas
+pub mod DueLemmas

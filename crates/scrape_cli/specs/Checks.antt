@@ -1,8 +1,10 @@
 -- What is said of a configuration.
-use Rattle.std.specs.Prelude.{◌≡◌, ◌⊎◌, ℕ, ◌<◌, ◌≤◌, List, [], ◌++◌, codes, length, All, Ok, IsOkAnd}
+use Rattle.std.specs.Prelude.{◌≡◌, ◌⊎◌, ℕ, ⊤, ◌<◌, ◌≤◌, List, [], ◌++◌, codes, All, Ok, IsOkAnd}
 use Rattle.std.specs.Fmt.{decimal}
 use Rattle.scrape_config.specs.Reading.{reading, HasPatterns, IsRefusal}
 use Rattle.scrape_config.specs.declared.conf.Conf.{Conf}
+use Rattle.scrape_config.specs.declared.fault.ConfError.{ConfError}
+use Rattle.scrape_config.specs.declared.fault.ConfError.TheVariants.{Bad, NoMemory}
 use Rattle.scrape_core.specs.Built.{listed_targets}
 use Rattle.config_fields.specs.declared.fault.ConfFault.{ConfFault}
 use Rattle.config_fields.specs.declared.fault.ConfFault.TheVariants.{NotJson, Shape, Unknown, Missing, Value, TwiceNamed, TooMany, Rule}
@@ -21,13 +23,18 @@ pub record IsTaken (bytes : List ℕ) (conf : Conf) : Type 0 where
 abbrev pub crowd : ConfFault
 crowd = TooMany [] target_limit
 
--- the fault is that of too many listed targets, in a configuration whose reading has no fault
+-- the fault is that of too many listed targets, in a configuration whose reading has no fault and whose patterns are read
 abbrev pub IsCrowd : List ℕ → ConfFault → Type 0
-IsCrowd bytes fault = (fault ≡ crowd) × IsOkAnd (reading bytes) (λ conf. target_limit < listed_targets conf.jobs)
+IsCrowd bytes fault = (fault ≡ crowd) × IsOkAnd (reading bytes) (λ conf. All HasPatterns conf.jobs × (target_limit < listed_targets conf.jobs))
 
 -- the bytes are refused for this fault
 abbrev pub IsFault : List ℕ → ConfFault → Type 0
 IsFault bytes fault = IsRefusal (reading bytes) fault ⊎ IsCrowd bytes fault
+
+-- an error of a configuration: its fault, or want of memory
+abbrev pub IsConfError : List ℕ → ConfError → Type 0
+IsConfError bytes (Bad fault) = IsFault bytes fault
+IsConfError bytes NoMemory = ⊤
 
 -- the line for a configuration without a fault: how many jobs it has
 abbrev pub ok_line : ℕ → List ℕ

@@ -3,4 +3,5 @@ pub mod Texts
 pub mod Flows
 pub mod Scripts
 pub mod Checks
-pub mod Statuses
+pub mod Ends
+pub mod Laws

@@ -1,10 +1,9 @@
 //! Checking a configuration.
-ghost use Rattle.std.specs.Prelude.{◌≡◌, length, IfOk, IfErr, OnOk};
-ghost use Rattle.outside.specs.Objects.{Adds};
+ghost use Rattle.std.specs.Prelude.{◌≡◌, length, IfOk, IfErr, OnOk, IsErrOf};
+ghost use Rattle.outside.specs.Objects.{used, Took, Cut, IsUntouched};
 ghost use Rattle.scrape_cli.specs.Checks as spec;
-ghost use Rattle.scrape_cli.specs.Statuses.{IsConfCause, IsPrintCause};
 
-use crate::refusals::Refusal;
+use crate::printing::PrintError;
 use itoa::Buffer;
 use label_set::{Name, NoMemory};
 use outside::Sink;
@@ -28,20 +27,19 @@ fn crowd(alloc: Global) -> ConfFault
 }
 
 /// Reads a configuration, which is to have no fault.
-pub fn conf_of(alloc: Global, bytes: &[u8]) -> Result<Conf, Refusal>
+pub fn conf_of(alloc: Global, bytes: &[u8]) -> Result<Conf, ConfError>
     ensures taken { IfOk result (λ conf. spec.IsTaken bytes.now conf) }
-    ensures cause { IfErr result (λ r. IsConfCause r bytes.now) }
+    ensures fault { IfErr result (λ e. spec.IsConfError bytes.now e) }
 {
     match read_conf(alloc, bytes) {
         Ok(conf) => {
             if listed_targets(conf.jobs.as_slice()) > TARGET_LIMIT {
-                Err(Refusal::Config(crowd(alloc)))
+                Err(ConfError::Bad(crowd(alloc)))
             } else {
                 Ok(conf)
             }
         }
-        Err(ConfError::Bad(fault)) => Err(Refusal::Config(fault)),
-        Err(ConfError::NoMemory) => Err(Refusal::NoMemory),
+        Err(error) => Err(error),
     }
 }
 
@@ -58,16 +56,14 @@ fn ok_line(alloc: Global, jobs: usize) -> Result<Vec<u8>, NoMemory>
 }
 
 /// Prints the line for a configuration.
-pub fn print_ok<O: Sink>(alloc: Global, conf: &Conf, out: &mut O) -> Result<(), Refusal>
-    ensures whole { OnOk result (Adds (spec.ok_line (length conf.now.jobs)) (O.told out.old) (O.told out.new)) }
-    ensures cause { IfErr result (λ r. IsPrintCause r (spec.ok_line (length conf.now.jobs)) (O.told out.old) (O.told out.new) (O.faults out.old) (O.faults out.new)) }
+pub fn print_ok<O: Sink>(alloc: Global, conf: &Conf, out: &mut O) -> Result<(), PrintError>
+    ensures whole { OnOk result (Took (spec.ok_line (length conf.now.jobs)) (used (O.seen out.old) (O.seen out.new))) }
+    ensures cut { IsErrOf result PrintError.WriteFault → Cut (spec.ok_line (length conf.now.jobs)) (used (O.seen out.old) (O.seen out.new)) }
+    ensures kept { IsErrOf result PrintError.NoMemory → IsUntouched (used (O.seen out.old) (O.seen out.new)) }
 {
-    let line = match ok_line(alloc, conf.jobs.as_slice().len()) {
-        Ok(line) => line,
-        Err(_) => return Err(Refusal::NoMemory),
-    };
+    let line = ok_line(alloc, conf.jobs.as_slice().len())?;
     match out.put(line.as_slice()) {
         Ok(()) => Ok(()),
-        Err(_) => Err(Refusal::WriteFault),
+        Err(_) => Err(PrintError::WriteFault),
     }
 }

@@ -1,42 +1,32 @@
 //! The commands of the program.
-ghost use Rattle.std.specs.Prelude.{◌≡◌, ◌≤◌, ℕ, List, length, map, string_bytes, None, IfOk, IfErr, OnOk, OnErr, IsErrOf};
-ghost use Rattle.outside.specs.Objects.{HasFile, LacksFile, HasLongerFile, Adds, AddsFront, Rose};
-ghost use Rattle.journal_text.specs.declared.events.Event.{Event};
-ghost use Rattle.scrape_core.specs.Machine.{book_of};
-ghost use Rattle.scrape_cli.specs.Scripts.{SpellsBuilt, SpellsNoBuilt};
-ghost use Rattle.scrape_cli.specs.Statuses as spec;
+ghost use Rattle.std.specs.Prelude.{◌≡◌, ◌≤◌, length, Some, IfOk, IfErr, OnOk};
+ghost use Rattle.outside.specs.Objects.{SinkSeen, used, HasFile, IsUntouched};
+ghost use Rattle.scrape_cli.specs.Ends.{work, WorkEnds, IsRefused};
 ghost use Rattle.scrape_cli.specs.Words as words;
-ghost use Rattle.scrape_cli.specs.Texts.{book_text};
+ghost use Rattle.scrape_cli.specs.declared.words.Command.TheVariants.{Replay, Check};
 
+use crate::checks::{conf_of, print_ok};
 use crate::printing::{PrintError, print_book};
 use crate::refusals::Refusal;
 use crate::replays::{ReplayError, replayed};
-use crate::words::Command;
+use crate::words::{Asked, Command, limit_of};
 use label_set::Blob;
 use outside::{Shelf, ShelfError, Sink};
-use scrape_core::Core;
+use scrape_config::ConfError;
 use std::alloc::Global;
 
-/// How many bytes the file of a command may have: 256 MiB for a script, and 4 MiB for a configuration.
-fn limit_of(command: Command) -> usize
-    ensures { result ≡ words.limit_of command }
-{
-    match command {
-        Command::Replay => 268_435_456,
-        Command::Check => 4_194_304,
-    }
-}
-
 /// Reads the file of a command.
-pub fn read_file<S: Shelf>(
+fn read_file<S: Shelf>(
     alloc: Global,
     command: Command,
     file: &str,
     shelf: &mut S,
 ) -> Result<Blob, Refusal>
-    ensures file { IfOk result (λ bytes. HasFile (S.told shelf.old) file.now bytes) }
-    ensures bound { IfOk result (λ bytes. length bytes ≤ words.limit_of command) }
-    ensures cause { IfErr result (λ r. spec.IsReadCause r file.now (words.limit_of command) (S.told shelf.old) (S.misses shelf.old) (S.misses shelf.new) (S.overs shelf.old) (S.overs shelf.new) (S.faults shelf.old) (S.faults shelf.new)) }
+    ensures has { IfOk result (λ bytes. HasFile (S.seen shelf.old) file.now bytes) }
+    ensures short { IfOk result (λ bytes. length bytes ≤ words.limit_of command) }
+    ensures untouched { OnOk result (IsUntouched (used (S.seen shelf.old) (S.seen shelf.new))) }
+    ensures refused { (out : SinkSeen) → IfErr result (λ r. IsRefused r
+        (work (Some (words.asking file.now command)) (used (S.seen shelf.old) (S.seen shelf.new)) (used out out))) }
 {
     match shelf.read_file(alloc, file, limit_of(command)) {
         Ok(bytes) => Ok(bytes),
@@ -47,26 +37,70 @@ pub fn read_file<S: Shelf>(
     }
 }
 
-/// Replays the bytes of a script.
-pub fn core_of(alloc: Global, bytes: &[u8]) -> Result<Core, Refusal>
-    ensures built { IfOk result (λ core. SpellsBuilt bytes.now core) }
-    ensures cause { IfErr result (λ r. spec.IsReplayCause r bytes.now) }
+/// Replays a script and prints the book of its journal.
+fn replay<S: Shelf, O: Sink>(
+    alloc: Global,
+    script: &str,
+    shelf: &mut S,
+    out: &mut O,
+) -> Result<(), Refusal>
+    ensures { WorkEnds result
+        (work (Some (words.asking script.now Replay)) (used (S.seen shelf.old) (S.seen shelf.new)) (used (O.seen out.old) (O.seen out.new))) }
 {
-    match replayed(alloc, bytes) {
-        Ok(core) => Ok(core),
-        Err(ReplayError::NotYet) => Err(Refusal::NotYet),
-        Err(ReplayError::NoMemory) => Err(Refusal::NoMemory),
-    }
-}
-
-/// Prints the book of a core.
-pub fn print_core<O: Sink>(alloc: Global, core: &Core, out: &mut O) -> Result<(), Refusal>
-    ensures whole { OnOk result (Adds (book_text (book_of core.now)) (O.told out.old) (O.told out.new)) }
-    ensures cause { IfErr result (λ r. spec.IsPrintCause r (book_text (book_of core.now)) (O.told out.old) (O.told out.new) (O.faults out.old) (O.faults out.new)) }
-{
+    let bytes = match read_file(alloc, Command::Replay, script, shelf) {
+        Ok(bytes) => bytes,
+        Err(refusal) => return Err(refusal),
+    };
+    let core = match replayed(alloc, bytes.as_slice()) {
+        Ok(core) => core,
+        Err(ReplayError::NotYet) => return Err(Refusal::NotYet),
+        Err(ReplayError::NoMemory) => return Err(Refusal::NoMemory),
+    };
     match print_book(alloc, core.book(), out) {
         Ok(()) => Ok(()),
         Err(PrintError::WriteFault) => Err(Refusal::WriteFault),
         Err(PrintError::NoMemory) => Err(Refusal::NoMemory),
+    }
+}
+
+/// Checks the configuration in a file and prints the number of its jobs.
+fn check<S: Shelf, O: Sink>(
+    alloc: Global,
+    file: &str,
+    shelf: &mut S,
+    out: &mut O,
+) -> Result<(), Refusal>
+    ensures { WorkEnds result
+        (work (Some (words.asking file.now Check)) (used (S.seen shelf.old) (S.seen shelf.new)) (used (O.seen out.old) (O.seen out.new))) }
+{
+    let bytes = match read_file(alloc, Command::Check, file, shelf) {
+        Ok(bytes) => bytes,
+        Err(refusal) => return Err(refusal),
+    };
+    let conf = match conf_of(alloc, bytes.as_slice()) {
+        Ok(conf) => conf,
+        Err(ConfError::Bad(fault)) => return Err(Refusal::Config(fault)),
+        Err(ConfError::NoMemory) => return Err(Refusal::NoMemory),
+    };
+    match print_ok(alloc, &conf, out) {
+        Ok(()) => Ok(()),
+        Err(PrintError::WriteFault) => Err(Refusal::WriteFault),
+        Err(PrintError::NoMemory) => Err(Refusal::NoMemory),
+    }
+}
+
+/// Does what was asked for.
+pub fn perform<S: Shelf, O: Sink>(
+    alloc: Global,
+    asked: &Asked<'_>,
+    shelf: &mut S,
+    out: &mut O,
+) -> Result<(), Refusal>
+    ensures { WorkEnds result
+        (work (Some asked.now) (used (S.seen shelf.old) (S.seen shelf.new)) (used (O.seen out.old) (O.seen out.new))) }
+{
+    match asked.command {
+        Command::Replay => replay(alloc, asked.file, shelf, out),
+        Command::Check => check(alloc, asked.file, shelf, out),
     }
 }

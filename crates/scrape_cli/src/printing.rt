@@ -1,7 +1,7 @@
 //! Printing a book to a sink, page by page.
 ghost use Rattle.std.specs.Prelude.{◌≡◌, ◌++◌, ◌+◌, ◌≤◌, ◌<◌, ◌^◌, [], ℕ, length, vec_len, vec_capacity, slice_get, IfOk, IfSome, OnOk, OnErr, IsErrOf};
-ghost use Rattle.outside.specs.Objects.{Adds, AddsFront, Rose};
-ghost use Rattle.scrape_cli.specs.Flows.{Flows, Cut};
+ghost use Rattle.outside.specs.Objects.{used, Took, Cut, IsUntouched};
+ghost use Rattle.scrape_cli.specs.Flows.{Flows, Stops};
 ghost use Rattle.scrape_cli.specs.Texts as spec;
 
 use crate::texts::push_line;
@@ -53,12 +53,10 @@ fn longest(alloc: Global, book: &Book) -> Result<usize, NoMemory>
 
 /// Puts the page and clears it.
 fn put_page<O: Sink>(page: &mut Vec<u8>, out: &mut O) -> Result<(), SinkFault>
-    ensures flows { OnOk result (Flows [] page.old.items (O.told out.old) page.new.items (O.told out.new)) }
-    ensures cut { OnErr result (Cut [] page.old.items (O.told out.old) (O.told out.new)) }
+    ensures flows { OnOk result (Flows [] page.old.items page.new.items (used (O.seen out.old) (O.seen out.new))) }
+    ensures stops { OnErr result (Stops [] page.old.items (used (O.seen out.old) (O.seen out.new))) }
     ensures clear { OnOk result (page.new.items ≡ []) }
     ensures capacity { vec_capacity page.old ≤ vec_capacity page.new }
-    ensures sound { OnOk result (O.faults out.new ≡ O.faults out.old) }
-    ensures fault { OnErr result (Rose (O.faults out.old) (O.faults out.new)) }
 {
     out.put(page)?;
     page.clear();
@@ -67,12 +65,10 @@ fn put_page<O: Sink>(page: &mut Vec<u8>, out: &mut O) -> Result<(), SinkFault>
 
 /// Puts the page where it is full.
 fn make_room<O: Sink>(page: &mut Vec<u8>, out: &mut O) -> Result<(), SinkFault>
-    ensures flows { OnOk result (Flows [] page.old.items (O.told out.old) page.new.items (O.told out.new)) }
-    ensures cut { OnErr result (Cut [] page.old.items (O.told out.old) (O.told out.new)) }
+    ensures flows { OnOk result (Flows [] page.old.items page.new.items (used (O.seen out.old) (O.seen out.new))) }
+    ensures stops { OnErr result (Stops [] page.old.items (used (O.seen out.old) (O.seen out.new))) }
     ensures room { OnOk result (vec_len page.new ≤ PAGE) }
     ensures capacity { vec_capacity page.old ≤ vec_capacity page.new }
-    ensures sound { OnOk result (O.faults out.new ≡ O.faults out.old) }
-    ensures fault { OnErr result (Rose (O.faults out.old) (O.faults out.new)) }
 {
     if page.len() >= PAGE {
         put_page(page, out)
@@ -96,11 +92,9 @@ fn write_line(page: &mut Vec<u8>, entry: &Entry)
 /// Prints the line of an entry: it goes on the page, which is put before where it is full.
 fn print_line<O: Sink>(page: &mut Vec<u8>, entry: &Entry, out: &mut O) -> Result<(), SinkFault>
     requires { PAGE + length (spec.entry_line entry.now) ≤ vec_capacity page.old }
-    ensures flows { OnOk result (Flows (spec.entry_line entry.now) page.old.items (O.told out.old) page.new.items (O.told out.new)) }
-    ensures cut { OnErr result (Cut (spec.entry_line entry.now) page.old.items (O.told out.old) (O.told out.new)) }
+    ensures flows { OnOk result (Flows (spec.entry_line entry.now) page.old.items page.new.items (used (O.seen out.old) (O.seen out.new))) }
+    ensures stops { OnErr result (Stops (spec.entry_line entry.now) page.old.items (used (O.seen out.old) (O.seen out.new))) }
     ensures capacity { vec_capacity page.old ≤ vec_capacity page.new }
-    ensures sound { OnOk result (O.faults out.new ≡ O.faults out.old) }
-    ensures fault { OnErr result (Rose (O.faults out.old) (O.faults out.new)) }
 {
     match make_room(page, out) {
         Ok(()) => {
@@ -121,10 +115,8 @@ fn print_pages<O: Sink>(
     requires blank { page.old.items ≡ [] }
     requires within { spec.AreWithin most book.now.entries }
     requires room { PAGE + most ≤ vec_capacity page.old }
-    ensures whole { OnOk result (Adds (spec.book_text book.now.entries) (O.told out.old) (O.told out.new)) }
-    ensures front { OnErr result (AddsFront (spec.book_text book.now.entries) (O.told out.old) (O.told out.new)) }
-    ensures sound { OnOk result (O.faults out.new ≡ O.faults out.old) }
-    ensures fault { OnErr result (Rose (O.faults out.old) (O.faults out.new)) }
+    ensures whole { OnOk result (Took (spec.book_text book.now.entries) (used (O.seen out.old) (O.seen out.new))) }
+    ensures cut { OnErr result (Cut (spec.book_text book.now.entries) (used (O.seen out.old) (O.seen out.new))) }
 {
     let _most = most;
     for place in 0..book.len() {
@@ -140,12 +132,9 @@ fn print_pages<O: Sink>(
 
 /// Prints a book. All memory is taken before the first put.
 pub fn print_book<O: Sink>(alloc: Global, book: &Book, out: &mut O) -> Result<(), PrintError>
-    ensures whole { OnOk result (Adds (spec.book_text book.now.entries) (O.told out.old) (O.told out.new)) }
-    ensures front { IsErrOf result PrintError.WriteFault → AddsFront (spec.book_text book.now.entries) (O.told out.old) (O.told out.new) }
-    ensures fault { IsErrOf result PrintError.WriteFault → Rose (O.faults out.old) (O.faults out.new) }
-    ensures sound { OnOk result (O.faults out.new ≡ O.faults out.old) }
-    ensures kept { IsErrOf result PrintError.NoMemory → O.told out.new ≡ O.told out.old }
-    ensures quiet { IsErrOf result PrintError.NoMemory → O.faults out.new ≡ O.faults out.old }
+    ensures whole { OnOk result (Took (spec.book_text book.now.entries) (used (O.seen out.old) (O.seen out.new))) }
+    ensures cut { IsErrOf result PrintError.WriteFault → Cut (spec.book_text book.now.entries) (used (O.seen out.old) (O.seen out.new)) }
+    ensures kept { IsErrOf result PrintError.NoMemory → IsUntouched (used (O.seen out.old) (O.seen out.new)) }
 {
     let most = longest(alloc, book)?;
     let mut page = Vec::new(alloc);

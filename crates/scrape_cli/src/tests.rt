@@ -1,7 +1,5 @@
-mod checks;
-mod fields;
-mod limits;
-mod targets;
+//! What text can't show: outside objects that fail at a call, and texts at their limits. All else is a case in `tests/cases/`.
+mod cases;
 
 use crate::tool::tool;
 use label_set::{Blob, Name, NoMemory};
@@ -12,41 +10,19 @@ use std::alloc::Global;
 use std::process::Abort;
 use std::test::Fail;
 
-/// A configuration of one job with one target, a sweep, and the answer to its request.
-const ONE_LOAD: &[u8] =
-    b"scrape-journal 1\nload 0 76\n{\"scrape_configs\":[{\"job_name\":\"j\",\"static_configs\":[{\"targets\":[\"a:1\"]}]}]}\nsweep 0\nbody 15 0 200 8\nx 1\ny 2\n\n";
+/// A configuration of one job with one target.
+const ONE_JOB: &str =
+    r#"{"scrape_configs":[{"job_name":"j","static_configs":[{"targets":["a:1"]}]}]}"#;
 
-/// The entries of that scrape.
-const ONE_LOAD_BOOK: &[u8] =
-    b"0 0 sample x{instance=\"a:1\",job=\"j\"} 1\n0 0 sample y{instance=\"a:1\",job=\"j\"} 2\n0 0 report up{instance=\"a:1\",job=\"j\"} 1\n0 0 report scrape_duration_seconds{instance=\"a:1\",job=\"j\"} 0.015\n0 0 report scrape_samples_scraped{instance=\"a:1\",job=\"j\"} 2\n0 0 report scrape_samples_post_metric_relabeling{instance=\"a:1\",job=\"j\"} 2\n0 0 report scrape_series_added{instance=\"a:1\",job=\"j\"} 2\n";
-
-/// A second scrape, of which `y` is no more.
-const WITHOUT_Y: &[u8] = b"sweep 60000\nbody 15 1 200 4\nx 1\n\n";
-
-const WITHOUT_Y_BOOK: &[u8] =
-    b"60000 0 sample x{instance=\"a:1\",job=\"j\"} 1\n60000 0 stale y{instance=\"a:1\",job=\"j\"}\n60000 0 report up{instance=\"a:1\",job=\"j\"} 1\n60000 0 report scrape_duration_seconds{instance=\"a:1\",job=\"j\"} 0.015\n60000 0 report scrape_samples_scraped{instance=\"a:1\",job=\"j\"} 1\n60000 0 report scrape_samples_post_metric_relabeling{instance=\"a:1\",job=\"j\"} 1\n60000 0 report scrape_series_added{instance=\"a:1\",job=\"j\"} 0\n";
-
-/// Two scrapes after it that fail.
-const LOST_TWICE: &[u8] = b"sweep 120000\nlost 20 2\nsweep 180000\nlost 20 3\n";
-
-const LOST_TWICE_BOOK: &[u8] =
-    b"120000 0 stale x{instance=\"a:1\",job=\"j\"}\n120000 0 report up{instance=\"a:1\",job=\"j\"} 0\n120000 0 report scrape_duration_seconds{instance=\"a:1\",job=\"j\"} 0.020\n120000 0 report scrape_samples_scraped{instance=\"a:1\",job=\"j\"} 0\n120000 0 report scrape_samples_post_metric_relabeling{instance=\"a:1\",job=\"j\"} 0\n120000 0 report scrape_series_added{instance=\"a:1\",job=\"j\"} 0\n180000 0 report up{instance=\"a:1\",job=\"j\"} 0\n180000 0 report scrape_duration_seconds{instance=\"a:1\",job=\"j\"} 0.020\n180000 0 report scrape_samples_scraped{instance=\"a:1\",job=\"j\"} 0\n180000 0 report scrape_samples_post_metric_relabeling{instance=\"a:1\",job=\"j\"} 0\n180000 0 report scrape_series_added{instance=\"a:1\",job=\"j\"} 0\n";
-
-/// A second scrape whose body is empty.
-const EMPTY: &[u8] = b"sweep 60000\nbody 15 1 200 0\n\n";
-
-const EMPTY_BOOK: &[u8] =
-    b"60000 0 stale x{instance=\"a:1\",job=\"j\"}\n60000 0 stale y{instance=\"a:1\",job=\"j\"}\n60000 0 report up{instance=\"a:1\",job=\"j\"} 1\n60000 0 report scrape_duration_seconds{instance=\"a:1\",job=\"j\"} 0.015\n60000 0 report scrape_samples_scraped{instance=\"a:1\",job=\"j\"} 0\n60000 0 report scrape_samples_post_metric_relabeling{instance=\"a:1\",job=\"j\"} 0\n60000 0 report scrape_series_added{instance=\"a:1\",job=\"j\"} 0\n";
-
-/// The same target, whose values are no finite numbers, and then a body with a faulty line.
-const NAN_AND_FAULTY_LINE: &[u8] =
-    b"scrape-journal 1\nload 0 76\n{\"scrape_configs\":[{\"job_name\":\"j\",\"static_configs\":[{\"targets\":[\"a:1\"]}]}]}\nsweep 0\nbody 15 0 200 21\na nan\nb -Inf\nc 1e999\n\nsweep 60000\nbody 15 1 200 12\na 1\nd 0x1p3\n\n";
-
-const NAN_AND_FAULTY_LINE_BOOK: &[u8] =
-    b"0 0 sample a{instance=\"a:1\",job=\"j\"} nan\n0 0 sample b{instance=\"a:1\",job=\"j\"} -Inf\n0 0 sample c{instance=\"a:1\",job=\"j\"} 1e999\n0 0 report up{instance=\"a:1\",job=\"j\"} 1\n0 0 report scrape_duration_seconds{instance=\"a:1\",job=\"j\"} 0.015\n0 0 report scrape_samples_scraped{instance=\"a:1\",job=\"j\"} 3\n0 0 report scrape_samples_post_metric_relabeling{instance=\"a:1\",job=\"j\"} 3\n0 0 report scrape_series_added{instance=\"a:1\",job=\"j\"} 3\n60000 0 stale a{instance=\"a:1\",job=\"j\"}\n60000 0 stale b{instance=\"a:1\",job=\"j\"}\n60000 0 stale c{instance=\"a:1\",job=\"j\"}\n60000 0 report up{instance=\"a:1\",job=\"j\"} 0\n60000 0 report scrape_duration_seconds{instance=\"a:1\",job=\"j\"} 0.015\n60000 0 report scrape_samples_scraped{instance=\"a:1\",job=\"j\"} 0\n60000 0 report scrape_samples_post_metric_relabeling{instance=\"a:1\",job=\"j\"} 0\n60000 0 report scrape_series_added{instance=\"a:1\",job=\"j\"} 0\n";
+/// What stands in a script before the length of its one body.
+const ONE_LOAD: &str = r#"scrape-journal 1
+load 0 76
+{"scrape_configs":[{"job_name":"j","static_configs":[{"targets":["a:1"]}]}]}
+sweep 0
+body 15 0 200 "#;
 
 /// More room than any text here needs.
-const ROOM: usize = 4096;
+const ROOM: usize = 1 << 20;
 
 /// What a run of the program left.
 #[derive(Drop)]
@@ -64,20 +40,11 @@ fn words_of(alloc: Global, words: &[&str]) -> Result<Vec<String>, Fail> {
     Ok(list)
 }
 
-/// The pieces of a text, one after the other.
-fn joined(alloc: Global, pieces: &[&[u8]]) -> Result<Vec<u8>, Fail> {
-    let mut text = Vec::new(alloc);
-    for piece in pieces {
-        text.extend_from_slice(piece)?;
-    }
-    Ok(text)
-}
-
 /// The file `s`.
-fn files(alloc: Global, script: &[u8]) -> Result<FileList, NoMemory> {
+fn files(alloc: Global, text: &[u8]) -> Result<FileList, NoMemory> {
     let file = StoredFile {
         name: Name::from_str(alloc, "s")?,
-        bytes: Blob::from_slice(alloc, script)?,
+        bytes: Blob::from_slice(alloc, text)?,
     };
     Ok(FileList {
         items: vec![in alloc; file]?,
@@ -94,15 +61,14 @@ fn fails(alloc: Global, calls: &[u64]) -> Result<CallList, NoMemory> {
 /// Runs the program over a shelf, and an output of a room of which some puts fail.
 fn run_over<S: Shelf>(
     alloc: Global,
-    words: &[&str],
+    words: &[String],
     shelf: &mut S,
     room: usize,
     put_fails: &[u64],
-) -> Result<Ran, Fail> {
-    let words = words_of(alloc, words)?;
+) -> Result<Ran, NoMemory> {
     let mut out = MemSink::new(alloc, room, fails(alloc, put_fails)?)?;
     let mut err = MemSink::new(alloc, ROOM, fails(alloc, &[])?)?;
-    let finished = tool(alloc, words.as_slice(), shelf, &mut out, &mut err);
+    let finished = tool(alloc, words, shelf, &mut out, &mut err);
     Ok(Ran {
         status: finished.status,
         out,
@@ -110,91 +76,18 @@ fn run_over<S: Shelf>(
     })
 }
 
-/// Runs it where nothing outside fails, for a script in the file `s`.
-fn run_script(alloc: Global, words: &[&str], script: &[u8]) -> Result<Ran, Fail> {
-    let mut shelf = SureShelf::new(files(alloc, script)?)?;
-    run_over(alloc, words, &mut shelf, ROOM, &[])
+/// Runs a command on the file `s` where nothing outside fails.
+fn run_on(alloc: Global, command: &str, text: &[u8]) -> Result<Ran, Fail> {
+    let words = words_of(alloc, &[command, "s"])?;
+    let mut shelf = SureShelf::new(files(alloc, text)?)?;
+    Ok(run_over(alloc, words.as_slice(), &mut shelf, ROOM, &[])?)
 }
 
-/// It printed this, and said nothing.
-fn assert_prints(rt: &impl Abort, ran: &Ran, text: &[u8]) {
-    assert_eq!(rt; ran.status, 0);
-    assert!(rt; ran.out.bytes() == text);
-    assert!(rt; ran.err.bytes().is_empty());
-}
-
-/// It ended with this status and message, and printed nothing.
-fn assert_refuses(rt: &impl Abort, ran: &Ran, status: u8, message: &[u8]) {
+/// It ended with this status, output and message.
+fn assert_left(rt: &impl Abort, ran: &Ran, status: u8, out: &[u8], err: &[u8]) {
     assert_eq!(rt; ran.status, status);
-    assert!(rt; ran.out.bytes().is_empty());
-    assert!(rt; ran.err.bytes() == message);
-}
-
-#[test]
-fn scripts_are_printed(rt: HostRuntime) -> Result<(), Fail> {
-    let alloc = rt.alloc();
-    let cases: [(&[&[u8]], &[&[u8]]); 6] = [
-        (&[b"scrape-journal 1\n"], &[]),
-        (&[ONE_LOAD], &[ONE_LOAD_BOOK]),
-        (&[ONE_LOAD, WITHOUT_Y], &[ONE_LOAD_BOOK, WITHOUT_Y_BOOK]),
-        (
-            &[ONE_LOAD, WITHOUT_Y, LOST_TWICE],
-            &[ONE_LOAD_BOOK, WITHOUT_Y_BOOK, LOST_TWICE_BOOK],
-        ),
-        (&[ONE_LOAD, EMPTY], &[ONE_LOAD_BOOK, EMPTY_BOOK]),
-        (&[NAN_AND_FAULTY_LINE], &[NAN_AND_FAULTY_LINE_BOOK]),
-    ];
-    for (script, book) in cases {
-        let script = joined(alloc, script)?;
-        let book = joined(alloc, book)?;
-        let ran = run_script(alloc, &["replay", "s"], script.as_slice())?;
-        assert_prints(&rt, &ran, book.as_slice());
-    }
-    Ok(())
-}
-
-#[test]
-fn other_words_are_bad(rt: HostRuntime) -> Result<(), Fail> {
-    let alloc = rt.alloc();
-    let cases: [&[&str]; 6] = [
-        &[],
-        &["replay"],
-        &["check"],
-        &["check", "s", "t"],
-        &["replay", "s", "t"],
-        &["synth", "1", "0", "1"],
-    ];
-    for words in cases {
-        let ran = run_script(alloc, words, ONE_LOAD)?;
-        assert_refuses(&rt, &ran, 2, b"scrape: bad words\n");
-    }
-    Ok(())
-}
-
-#[test]
-fn other_scripts_are_not_yet_built(rt: HostRuntime) -> Result<(), Fail> {
-    let alloc = rt.alloc();
-    let cases: [&[&[u8]]; 11] = [
-        &[],
-        &[b"x 1\n"],
-        &[&ONE_LOAD[..16]],
-        &[&ONE_LOAD[..27]],
-        &[&ONE_LOAD[..111]],
-        &[&ONE_LOAD[..136]],
-        &[&ONE_LOAD[..17], b"load 0 076\n", &ONE_LOAD[27..]],
-        // a second load
-        &[ONE_LOAD, &ONE_LOAD[17..104]],
-        // a tick, an update of targets and a halt
-        &[ONE_LOAD, b"tick 60000 0\n"],
-        &[ONE_LOAD, b"targets 60000 1 1 2\njf[]\n"],
-        &[ONE_LOAD, b"halt 60000\n"],
-    ];
-    for pieces in cases {
-        let script = joined(alloc, pieces)?;
-        let ran = run_script(alloc, &["replay", "s"], script.as_slice())?;
-        assert_refuses(&rt, &ran, 11, b"scrape: not yet\n");
-    }
-    Ok(())
+    assert!(rt; ran.out.bytes() == out);
+    assert!(rt; ran.err.bytes() == err);
 }
 
 /// A shelf whose files are all too long.
@@ -206,13 +99,7 @@ struct LongShelf {
 impl Shelf for LongShelf {
     ghost use Rattle.std.specs.Prelude.{None};
 
-    ghost told = { λ s. None };
-
-    ghost misses = { λ s. 0 };
-
-    ghost overs = { λ s. s.overs };
-
-    ghost faults = { λ s. 0 };
+    ghost seen = { λ s. record { files = None; misses = 0; overs = s.overs; faults = 0 } };
 
     fn read_file(&mut self, _: Global, _: &str, _: usize) -> Result<Blob, ShelfError> {
         self.overs = self.overs.saturating_add(1);
@@ -227,13 +114,7 @@ struct FullShelf;
 impl Shelf for FullShelf {
     ghost use Rattle.std.specs.Prelude.{None};
 
-    ghost told = { λ s. None };
-
-    ghost misses = { λ s. 0 };
-
-    ghost overs = { λ s. 0 };
-
-    ghost faults = { λ s. 0 };
+    ghost seen = { λ s. record { files = None; misses = 0; overs = 0; faults = 0 } };
 
     fn read_file(&mut self, _: Global, _: &str, _: usize) -> Result<Blob, ShelfError> {
         Err(ShelfError::NoMemory)
@@ -241,49 +122,27 @@ impl Shelf for FullShelf {
 }
 
 #[test]
-fn scripts_that_are_not_read(rt: HostRuntime) -> Result<(), Fail> {
+fn files_that_are_not_read(rt: HostRuntime) -> Result<(), Fail> {
     let alloc = rt.alloc();
-    let ran = run_script(alloc, &["replay", "none"], ONE_LOAD)?;
-    assert_refuses(&rt, &ran, 3, b"scrape: absent none\n");
-    let mut failing = MemShelf::new(files(alloc, ONE_LOAD)?, fails(alloc, &[0])?)?;
-    let ran = run_over(alloc, &["replay", "s"], &mut failing, ROOM, &[])?;
-    assert_refuses(&rt, &ran, 6, b"scrape: read fault\n");
-    let mut long = LongShelf { overs: 0 };
-    let ran = run_over(alloc, &["replay", "s"], &mut long, ROOM, &[])?;
-    assert_refuses(&rt, &ran, 9, b"scrape: too long s\n");
-    let ran = run_over(alloc, &["replay", "s"], &mut FullShelf, ROOM, &[])?;
-    assert_refuses(&rt, &ran, 8, b"scrape: no memory\n");
-    Ok(())
-}
-
-#[test]
-fn output_that_is_not_taken(rt: HostRuntime) -> Result<(), Fail> {
-    let alloc = rt.alloc();
-    let mut shelf = SureShelf::new(files(alloc, ONE_LOAD)?)?;
-    let short = ONE_LOAD_BOOK.len() - 1;
-    for (room, calls) in [
-        (ROOM, &[0].as_slice()),
-        (short, &[].as_slice()),
-        (0, &[].as_slice()),
-    ] {
-        let ran = run_over(alloc, &["replay", "s"], &mut shelf, room, calls)?;
-        assert_eq!(rt; ran.status, 7);
-        assert!(rt; ONE_LOAD_BOOK.starts_with(ran.out.bytes()));
-        assert!(rt; ran.err.bytes() == b"scrape: write fault\n".as_slice());
+    for command in ["replay", "check"] {
+        let words = words_of(alloc, &[command, "s"])?;
+        let mut failing = MemShelf::new(files(alloc, b"{}")?, fails(alloc, &[0])?)?;
+        let ran = run_over(alloc, words.as_slice(), &mut failing, ROOM, &[])?;
+        assert_left(&rt, &ran, 6, b"", b"scrape: read fault\n");
+        let mut long = LongShelf { overs: 0 };
+        let ran = run_over(alloc, words.as_slice(), &mut long, ROOM, &[])?;
+        assert_left(&rt, &ran, 9, b"", b"scrape: too long s\n");
+        let ran = run_over(alloc, words.as_slice(), &mut FullShelf, ROOM, &[])?;
+        assert_left(&rt, &ran, 8, b"", b"scrape: no memory\n");
     }
     Ok(())
 }
 
 /// A script whose only body has so many lines `x 1`.
-fn long_script(alloc: Global, lines: usize, length: &[u8]) -> Result<Vec<u8>, Fail> {
-    let mut script = joined(
-        alloc,
-        &[
-            b"scrape-journal 1\nload 0 76\n{\"scrape_configs\":[{\"job_name\":\"j\",\"static_configs\":[{\"targets\":[\"a:1\"]}]}]}\nsweep 0\nbody 15 0 200 ",
-            length,
-            b"\n",
-        ],
-    )?;
+fn long_script(alloc: Global, lines: usize) -> Result<Vec<u8>, Fail> {
+    let mut script = Vec::from_slice(alloc, ONE_LOAD.as_bytes())?;
+    let length = format!(in alloc; "{}\n", lines.saturating_mul(4))?;
+    script.extend_from_slice(length.as_bytes())?;
     for _ in 0..lines {
         script.extend_from_slice(b"x 1\n")?;
     }
@@ -294,22 +153,37 @@ fn long_script(alloc: Global, lines: usize, length: &[u8]) -> Result<Vec<u8>, Fa
 #[test]
 fn each_put_of_a_long_output_may_fail(rt: HostRuntime) -> Result<(), Fail> {
     let alloc = rt.alloc();
-    let script = long_script(alloc, 4000, b"16000")?;
+    let script = long_script(alloc, 4000)?;
+    let words = words_of(alloc, &["replay", "s"])?;
     let mut shelf = SureShelf::new(files(alloc, script.as_slice())?)?;
-    let room = 1 << 20;
-    let whole = run_over(alloc, &["replay", "s"], &mut shelf, room, &[])?;
+    let whole = run_over(alloc, words.as_slice(), &mut shelf, ROOM, &[])?;
     assert_eq!(rt; whole.status, 0);
     let mut put = 0;
     for call in 0..3 {
-        let ran = run_over(alloc, &["replay", "s"], &mut shelf, room, &[call])?;
+        let ran = run_over(alloc, words.as_slice(), &mut shelf, ROOM, &[call])?;
         assert_eq!(rt; ran.status, 7);
         assert!(rt; whole.out.bytes().starts_with(ran.out.bytes()));
         assert!(rt; ran.err.bytes() == b"scrape: write fault\n".as_slice());
         assert!(rt; call == 0 || put < ran.out.bytes().len());
         put = ran.out.bytes().len();
     }
-    let ran = run_over(alloc, &["replay", "s"], &mut shelf, room, &[3])?;
-    assert_prints(&rt, &ran, whole.out.bytes());
+    let short = whole.out.bytes().len() - 1;
+    let ran = run_over(alloc, words.as_slice(), &mut shelf, short, &[])?;
+    assert_eq!(rt; ran.status, 7);
+    let ran = run_over(alloc, words.as_slice(), &mut shelf, ROOM, &[3])?;
+    assert_left(&rt, &ran, 0, whole.out.bytes(), b"");
+    Ok(())
+}
+
+#[test]
+fn lines_that_are_not_taken(rt: HostRuntime) -> Result<(), Fail> {
+    let alloc = rt.alloc();
+    let words = words_of(alloc, &["check", "s"])?;
+    let mut shelf = SureShelf::new(files(alloc, ONE_JOB.as_bytes())?)?;
+    for (room, calls) in [(ROOM, &[0].as_slice()), (4, &[].as_slice())] {
+        let ran = run_over(alloc, words.as_slice(), &mut shelf, room, calls)?;
+        assert_left(&rt, &ran, 7, b"", b"scrape: write fault\n");
+    }
     Ok(())
 }
 
@@ -317,7 +191,7 @@ fn each_put_of_a_long_output_may_fail(rt: HostRuntime) -> Result<(), Fail> {
 fn status_stands_where_the_message_is_not_taken(rt: HostRuntime) -> Result<(), Fail> {
     let alloc = rt.alloc();
     let words = words_of(alloc, &["replay", "none"])?;
-    let mut shelf = SureShelf::new(files(alloc, ONE_LOAD)?)?;
+    let mut shelf = SureShelf::new(files(alloc, b"")?)?;
     let mut out = SureSink::new()?;
     for call in 0..4 {
         let mut err = MemSink::new(alloc, ROOM, fails(alloc, &[call])?)?;
@@ -325,5 +199,54 @@ fn status_stands_where_the_message_is_not_taken(rt: HostRuntime) -> Result<(), F
         assert_eq!(rt; finished.status, 3);
         assert!(rt; b"scrape: absent none\n".starts_with(err.bytes()));
     }
+    Ok(())
+}
+
+/// A configuration of so many jobs of 10,000 targets each, with some fields in front of its last job.
+fn wide(alloc: Global, jobs: u8, fields: &str) -> Result<Vec<u8>, Fail> {
+    let mut text = Vec::from_slice(alloc, b"{\"scrape_configs\":[")?;
+    for job in 0..jobs {
+        let head = format!(in alloc; "{{\"job_name\":\"{job}\",")?;
+        text.extend_from_slice(head.as_bytes())?;
+        text.extend_from_slice(fields.as_bytes())?;
+        text.extend_from_slice(b"\"static_configs\":[{\"targets\":[\"a:1\"")?;
+        for _ in 1..10_000 {
+            text.extend_from_slice(b",\"a:1\"")?;
+        }
+        text.extend_from_slice(if job.saturating_add(1) < jobs {
+            b"]}]},"
+        } else {
+            b"]}]} "
+        })?;
+    }
+    text.extend_from_slice(b"]}")?;
+    Ok(text)
+}
+
+#[test]
+fn all_jobs_list_at_most_100000_targets(rt: HostRuntime) -> Result<(), Fail> {
+    let alloc = rt.alloc();
+    let full = run_on(alloc, "check", wide(alloc, 10, "")?.as_slice())?;
+    assert_left(&rt, &full, 0, b"ok 10\n", b"");
+    let more = run_on(alloc, "check", wide(alloc, 11, "")?.as_slice())?;
+    assert_left(&rt, &more, 4, b"", b"scrape: config TooMany  100000\n");
+    // a pattern is told before the crowd
+    let pattern = r#""relabel_configs":[{"action":"drop","regex":"("}],"#;
+    let ran = run_on(alloc, "check", wide(alloc, 11, pattern)?.as_slice())?;
+    let told = b"scrape: config Rule /scrape_configs/0/relabel_configs/0/regex\n";
+    assert_left(&rt, &ran, 4, b"", told);
+    Ok(())
+}
+
+#[test]
+fn configurations_of_4_mib_are_read(rt: HostRuntime) -> Result<(), Fail> {
+    let alloc = rt.alloc();
+    let mut text = Vec::from_slice(alloc, b"{}")?;
+    text.resize(4_194_304, b' ')?;
+    let full = run_on(alloc, "check", text.as_slice())?;
+    assert_left(&rt, &full, 0, b"ok 0\n", b"");
+    text.push(b' ')?;
+    let longer = run_on(alloc, "check", text.as_slice())?;
+    assert_left(&rt, &longer, 9, b"", b"scrape: too long s\n");
     Ok(())
 }

@@ -1,24 +1,14 @@
 //! The whole program, over whatever has files and takes bytes.
-ghost use Rattle.std.specs.Prelude.{◌≡◌, ◌≢◌, ◌≤◌, ◌<◌, ◌⊎◌, ℕ, List, length, map, string_bytes, Ok, Err, None, Some, OnOk, IfErr};
-ghost use Rattle.outside.specs.Objects.{Rose, LacksFile, HasLongerFile};
-ghost use Rattle.journal_text.specs.declared.events.Event.{Event};
-ghost use Rattle.scrape_config.specs.Reading.{reading, IsRefusedPattern};
-ghost use Rattle.scrape_config.specs.declared.conf.Conf.{Conf};
-ghost use Rattle.config_fields.specs.declared.fault.ConfFault.{ConfFault};
-ghost use Rattle.scrape_core.specs.Built.{listed_targets};
-ghost use Rattle.scrape_cli.specs.Checks.{target_limit, fault_message};
-ghost use Rattle.scrape_cli.specs.Scripts.{SpellsTaken};
-ghost use Rattle.scrape_cli.specs.Statuses as spec;
-ghost use Rattle.scrape_cli.specs.Words.{command_of, file_in, limit_of, OfWords, OfCommand};
-ghost use Rattle.scrape_cli.specs.declared.refusals.Refusal.{Refusal};
-ghost use Rattle.scrape_cli.specs.declared.words.Command.{Command};
-ghost use Rattle.scrape_cli.specs.declared.words.Command.TheVariants.{Replay, Check};
+ghost use Rattle.std.specs.Prelude.{◌≡◌, ◌≢◌, ℕ, map, string_bytes};
+ghost use Rattle.outside.specs.Objects.{used, IsUntouched};
+ghost use Rattle.scrape_cli.specs.Ends as spec;
+ghost use Rattle.scrape_cli.specs.Laws.{Causes, Complete, NoCountFell, IsStatus};
+ghost use Rattle.scrape_cli.specs.Words.{asked_in, file_in};
 
-use crate::checks::{conf_of, print_ok};
-use crate::commands::{core_of, print_core, read_file};
+use crate::commands::perform;
 use crate::messages::say;
 use crate::refusals::Refusal;
-use crate::words::{Command, asked_in};
+use crate::words::asked_in;
 use outside::{Shelf, Sink};
 use std::alloc::Global;
 
@@ -29,88 +19,39 @@ pub struct Finished {
     pub status: u8,
 }
 
-/// Replays a script and prints the book of its journal.
-fn replay<S: Shelf, O: Sink>(
-    alloc: Global,
-    script: &str,
-    shelf: &mut S,
-    out: &mut O,
-) -> Result<(), Refusal>
-    ensures done { OnOk result (spec.PrintsScript script.now (S.told shelf.old) (O.told out.old) (O.told out.new)) }
-    ensures cause { IfErr result (λ r. spec.IsCause r Replay script.now (S.told shelf.old) (S.misses shelf.old) (S.misses shelf.new) (S.overs shelf.old) (S.overs shelf.new) (S.faults shelf.old) (S.faults shelf.new) (O.told out.old) (O.told out.new) (O.faults out.old) (O.faults out.new)) }
-{
-    let bytes = match read_file(alloc, Command::Replay, script, shelf) {
-        Ok(bytes) => bytes,
-        Err(refusal) => return Err(refusal),
-    };
-    let core = match core_of(alloc, bytes.as_slice()) {
-        Ok(core) => core,
-        Err(refusal) => return Err(refusal),
-    };
-    print_core(alloc, &core, out)
-}
-
-/// Checks the configuration in a file and prints the number of its jobs.
-fn check<S: Shelf, O: Sink>(
-    alloc: Global,
-    file: &str,
-    shelf: &mut S,
-    out: &mut O,
-) -> Result<(), Refusal>
-    ensures done { OnOk result (spec.ChecksConf file.now (S.told shelf.old) (O.told out.old) (O.told out.new)) }
-    ensures cause { IfErr result (λ r. spec.IsCause r Check file.now (S.told shelf.old) (S.misses shelf.old) (S.misses shelf.new) (S.overs shelf.old) (S.overs shelf.new) (S.faults shelf.old) (S.faults shelf.new) (O.told out.old) (O.told out.new) (O.faults out.old) (O.faults out.new)) }
-{
-    let bytes = match read_file(alloc, Command::Check, file, shelf) {
-        Ok(bytes) => bytes,
-        Err(refusal) => return Err(refusal),
-    };
-    let conf = match conf_of(alloc, bytes.as_slice()) {
-        Ok(conf) => conf,
-        Err(refusal) => return Err(refusal),
-    };
-    print_ok(alloc, &conf, out)
-}
-
-/// Does a command.
-fn perform<S: Shelf, O: Sink>(
-    alloc: Global,
-    command: Command,
-    file: &str,
-    shelf: &mut S,
-    out: &mut O,
-) -> Result<(), Refusal>
-    ensures done { OnOk result (spec.Does command file.now (S.told shelf.old) (O.told out.old) (O.told out.new)) }
-    ensures cause { IfErr result (λ r. spec.IsCause r command file.now (S.told shelf.old) (S.misses shelf.old) (S.misses shelf.new) (S.overs shelf.old) (S.overs shelf.new) (S.faults shelf.old) (S.faults shelf.new) (O.told out.old) (O.told out.new) (O.faults out.old) (O.faults out.new)) }
-{
-    match command {
-        Command::Replay => replay(alloc, file, shelf, out),
-        Command::Check => check(alloc, file, shelf, out),
-    }
-}
-
-/// Does what the words say, and tells of a refusal.
-fn run<S: Shelf, O: Sink, E: Sink>(
+/// Does what the words say.
+fn run<S: Shelf, O: Sink>(
     alloc: Global,
     words: &[String],
     shelf: &mut S,
     out: &mut O,
-    err: &mut E,
 ) -> Result<(), Refusal>
-    ensures ends { spec.EndsAs result (map string_bytes words.now) (S.told shelf.old) (S.misses shelf.old) (S.misses shelf.new) (S.overs shelf.old) (S.overs shelf.new) (S.faults shelf.old) (S.faults shelf.new) (O.told out.old) (O.told out.new) (O.faults out.old) (O.faults out.new) }
-    ensures speaks { spec.Speaks result (map string_bytes words.now) (E.told err.old) (E.told err.new) (E.faults err.old) (E.faults err.new) }
+    ensures { spec.WorkEnds result
+        (spec.work (asked_in (map string_bytes words.now)) (used (S.seen shelf.old) (S.seen shelf.new)) (used (O.seen out.old) (O.seen out.new))) }
 {
     match asked_in(words) {
-        None => {
-            say(err, "", &Refusal::BadWords);
-            Err(Refusal::BadWords)
-        }
-        Some(asked) => match perform(alloc, asked.command, asked.file, shelf, out) {
-            Ok(()) => Ok(()),
-            Err(refusal) => {
-                say(err, asked.file, &refusal);
-                Err(refusal)
-            }
-        },
+        None => Err(Refusal::BadWords),
+        Some(asked) => perform(alloc, &asked, shelf, out),
+    }
+}
+
+/// The name of the file in the words.
+fn file_in(words: &[String]) -> &str
+    ensures { result.now ≡ file_in (map string_bytes words.now) }
+{
+    match asked_in(words) {
+        None => "",
+        Some(asked) => asked.file,
+    }
+}
+
+/// Tells of a refusal.
+fn tell<E: Sink>(err: &mut E, words: &[String], end: &Result<(), Refusal>)
+    ensures { spec.Speaks end.now (file_in (map string_bytes words.now)) (used (E.seen err.old) (E.seen err.new)) }
+{
+    match end {
+        Ok(()) => {}
+        Err(refusal) => say(err, file_in(words), refusal),
     }
 }
 
@@ -139,7 +80,7 @@ fn status_at(end: &Result<(), Refusal>) -> u8
     }
 }
 
-/// The program: takes the words after its name, and answers the exit status.
+/// The program: takes the words after its name, and answers the exit status. How it ends is one table, `specs/Ends.antt`.
 ///
 /// | status | comes |
 /// |---|---|
@@ -151,6 +92,8 @@ fn status_at(end: &Result<(), Refusal>) -> u8
 /// | 8 | memory ran out |
 /// | 9 | the file is longer than its command takes, and the shelf counted that |
 /// | 11 | `replay`: only where the script isn't spelled from events of the built kinds, or a pattern of its configuration may be refused |
+///
+/// `ended` is that table; the other clauses are what a reader looks for first, and follow from it.
 pub fn tool<S: Shelf, O: Sink, E: Sink>(
     alloc: Global,
     words: &[String],
@@ -158,30 +101,25 @@ pub fn tool<S: Shelf, O: Sink, E: Sink>(
     out: &mut O,
     err: &mut E,
 ) -> Finished
-    ensures done { result.status ≡ 0 → OfWords (map string_bytes words.now) (λ c f. spec.Does c f (S.told shelf.old) (O.told out.old) (O.told out.new)) }
-    ensures quiet { result.status ≡ 0 → E.told err.new ≡ E.told err.old }
-    ensures bad_words { result.status ≡ 2 → command_of (map string_bytes words.now) ≡ None }
-    ensures other_words { command_of (map string_bytes words.now) ≡ None → result.status ≡ 2 }
-    ensures absent { result.status ≡ 3 → OfWords (map string_bytes words.now) (λ c f. Rose (S.misses shelf.old) (S.misses shelf.new) × LacksFile (S.told shelf.old) f) }
-    ensures faulty { result.status ≡ 4 → OfCommand Check (map string_bytes words.now) (λ f. spec.TellsFault f (S.told shelf.old) (E.told err.old) (E.told err.new) (E.faults err.old) (E.faults err.new)) }
-    ensures read_fault { result.status ≡ 6 → Rose (S.faults shelf.old) (S.faults shelf.new) }
-    ensures write_fault { result.status ≡ 7 → Rose (O.faults out.old) (O.faults out.new) }
-    ensures front { result.status ≡ 7 → OfWords (map string_bytes words.now) (λ c f. spec.DoesFront c f (S.told shelf.old) (O.told out.old) (O.told out.new)) }
-    ensures too_long { result.status ≡ 9 → OfWords (map string_bytes words.now) (λ c f. Rose (S.overs shelf.old) (S.overs shelf.new) × HasLongerFile (S.told shelf.old) f (limit_of c)) }
-    ensures not_yet { result.status ≡ 11 → OfCommand Replay (map string_bytes words.now) (λ f. spec.HasNoBuilt f (S.told shelf.old)) }
-    ensures unwritten { result.status ≢ 0 → result.status ≢ 7 → O.told out.new ≡ O.told out.old }
-    ensures said { (r : Refusal) → result.status ≡ spec.status_of r → result.status ≢ 4 → spec.IsSaid (spec.message_of (file_in (map string_bytes words.now)) r) (E.told err.old) (E.told err.new) (E.faults err.old) (E.faults err.new) }
-    ensures statuses { (result.status ≡ 0) ⊎ ((r : Refusal) × (result.status ≡ spec.status_of r)) }
-    ensures missing { (c : Command) → command_of (map string_bytes words.now) ≡ Some c → spec.TellsNone (S.told shelf.old) (file_in (map string_bytes words.now)) → ¬ Rose (S.faults shelf.old) (S.faults shelf.new) → (result.status ≡ 3) ⊎ (result.status ≡ 8) }
-    ensures longer { (c : Command) → command_of (map string_bytes words.now) ≡ Some c → spec.TellsLonger (S.told shelf.old) (file_in (map string_bytes words.now)) (limit_of c) → ¬ Rose (S.faults shelf.old) (S.faults shelf.new) → (result.status ≡ 9) ⊎ (result.status ≡ 8) }
-    ensures complete { (bytes : List ℕ) (journal : List Event) → command_of (map string_bytes words.now) ≡ Some Replay → spec.TellsFile (S.told shelf.old) (file_in (map string_bytes words.now)) bytes → length bytes ≤ limit_of Replay → SpellsTaken bytes journal → ¬ Rose (S.faults shelf.old) (S.faults shelf.new) → ¬ Rose (O.faults out.old) (O.faults out.new) → (result.status ≡ 0) ⊎ (result.status ≡ 8) }
-    ensures taken { (bytes : List ℕ) (conf : Conf) → command_of (map string_bytes words.now) ≡ Some Check → spec.TellsFile (S.told shelf.old) (file_in (map string_bytes words.now)) bytes → length bytes ≤ limit_of Check → reading bytes ≡ Ok conf → listed_targets conf.jobs ≤ target_limit → ((place : List ℕ) → ¬ IsRefusedPattern conf place) → ¬ Rose (S.faults shelf.old) (S.faults shelf.new) → ¬ Rose (O.faults out.old) (O.faults out.new) → (result.status ≡ 0) ⊎ (result.status ≡ 8) }
-    ensures refused { (bytes : List ℕ) (fault : ConfFault) → command_of (map string_bytes words.now) ≡ Some Check → spec.TellsFile (S.told shelf.old) (file_in (map string_bytes words.now)) bytes → length bytes ≤ limit_of Check → reading bytes ≡ Err fault → ¬ Rose (S.faults shelf.old) (S.faults shelf.new) → spec.IsRefusedFor fault result.status (E.told err.old) (E.told err.new) (E.faults err.old) (E.faults err.new) ⊎ (result.status ≡ 8) }
-    ensures crowded { (bytes : List ℕ) (conf : Conf) → command_of (map string_bytes words.now) ≡ Some Check → spec.TellsFile (S.told shelf.old) (file_in (map string_bytes words.now)) bytes → length bytes ≤ limit_of Check → reading bytes ≡ Ok conf → target_limit < listed_targets conf.jobs → ¬ Rose (S.faults shelf.old) (S.faults shelf.new) → (result.status ≡ 4) ⊎ (result.status ≡ 8) }
-    ensures untold { (c : Command) → command_of (map string_bytes words.now) ≡ Some c → ¬ Rose (S.misses shelf.old) (S.misses shelf.new) → ¬ Rose (S.overs shelf.old) (S.overs shelf.new) → ¬ Rose (S.faults shelf.old) (S.faults shelf.new) → ¬ Rose (O.faults out.old) (O.faults out.new) → (result.status ≡ 0) ⊎ ((result.status ≡ 8) ⊎ (result.status ≡ spec.refused_at c)) }
+    ensures ended { spec.Ended result.status (spec.call (map string_bytes words.now)
+        (used (S.seen shelf.old) (S.seen shelf.new)) (used (O.seen out.old) (O.seen out.new)) (used (E.seen err.old) (E.seen err.new))) }
+    ensures printed { result.status ≡ 0 → spec.Prints
+        (spec.work (asked_in (map string_bytes words.now)) (used (S.seen shelf.old) (S.seen shelf.new)) (used (O.seen out.old) (O.seen out.new))) }
+    ensures unwritten { result.status ≢ 0 → result.status ≢ 7 → IsUntouched (used (O.seen out.old) (O.seen out.new)) }
+    ensures complete { Complete result.status (spec.call (map string_bytes words.now)
+        (used (S.seen shelf.old) (S.seen shelf.new)) (used (O.seen out.old) (O.seen out.new)) (used (E.seen err.old) (E.seen err.new))) }
+    ensures later { NoCountFell (spec.call (map string_bytes words.now)
+        (used (S.seen shelf.old) (S.seen shelf.new)) (used (O.seen out.old) (O.seen out.new)) (used (E.seen err.old) (E.seen err.new))) }
 {
-    let end = run(alloc, words, shelf, out, err);
+    let end = run(alloc, words, shelf, out);
+    tell(err, words, &end);
     Finished {
         status: status_at(&end),
     }
 }
+
+/// What each status says of a call that ended, whatever its objects are: the cause of each refusal, and its message.
+pub fn causes()
+    ensures causes { (c : spec.Call) → Causes c }
+    ensures statuses { (status : ℕ) (c : spec.Call) → spec.Ended status c → IsStatus status }
+{}

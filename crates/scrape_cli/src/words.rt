@@ -1,6 +1,8 @@
 //! The words of the command line.
-ghost use Rattle.std.specs.Prelude.{◌≡◌, map, option_map, string_bytes, IfSome};
+ghost use Rattle.std.specs.Prelude.{◌≡◌, map, string_bytes};
 ghost use Rattle.scrape_cli.specs.Words as spec;
+
+use std::marker::Model;
 
 /// What the program can be asked for.
 #[derive(Clone, Copy, PartialEq, Eq, Debug)]
@@ -12,10 +14,18 @@ pub enum Command {
 }
 
 /// A command and the name of its file.
-#[derive(Clone, Copy, Debug)]
+#[derive(Drop, Debug)]
 pub struct Asked<'a> {
     pub command: Command,
     pub file: &'a str,
+}
+
+impl<'a> Model for Asked<'a> {
+    ghost use Rattle.scrape_cli.specs.Words.{Asking};
+
+    ghost Value = { Asking };
+
+    ghost view = { λ a. record { command = a.command; file = a.file.now } };
 }
 
 fn command_named(word: &str) -> Option<Command>
@@ -30,10 +40,9 @@ fn command_named(word: &str) -> Option<Command>
     }
 }
 
-/// The command of the words `replay SCRIPT` or `check FILE`; no other words are taken.
+/// What the words `replay SCRIPT` or `check FILE` ask for; no other words are taken.
 pub fn asked_in(words: &[String]) -> Option<Asked<'_>>
-    ensures command { option_map (λ a. a.command) result ≡ spec.command_of (map string_bytes words.now) }
-    ensures file { IfSome result (λ a. a.file.now ≡ spec.file_in (map string_bytes words.now)) }
+    ensures { result ≡ spec.asked_in (map string_bytes words.now) }
 {
     match words {
         [word, file] => match command_named(word.as_str()) {
@@ -44,5 +53,15 @@ pub fn asked_in(words: &[String]) -> Option<Asked<'_>>
             None => None,
         },
         _ => None,
+    }
+}
+
+/// How many bytes the file of a command may have: 256 MiB for a script, and 4 MiB for a configuration.
+pub fn limit_of(command: Command) -> usize
+    ensures { result ≡ spec.limit_of command }
+{
+    match command {
+        Command::Replay => 268_435_456,
+        Command::Check => 4_194_304,
     }
 }

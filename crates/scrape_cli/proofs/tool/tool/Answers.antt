@@ -1,14 +1,27 @@
-use Rattle.std.proofs.Common.{◌≡◌}
 use Rattle.std.specs.Prelude.{map, string_bytes}
-use Rattle.scrape_cli.specs.Statuses.{IsRefusedFor}
-use Rattle.scrape_cli.proofs.CheckLemmas.{refused_ends}
+use Rattle.outside.specs.Objects.{used}
+use Rattle.scrape_cli.specs.Ends.{call}
+use Rattle.scrape_cli.proofs.EndLemmas.{ended_by, printed_by, unwritten_by, later_by}
+use Rattle.scrape_cli.proofs.DueLemmas.{complete_by}
 use Rattle.scrape_cli.proofs.tool.tool.Goals as goal
 
-pub returns-clause-refused : goal.returns-clause-refused
-returns-clause-refused g c bytes fault asked told short read sound =
-    let end = c.run-end in
-    rw c.status_at.ensures (refused_ends (map string_bytes c.args.words.now) (g.S.Shelf.told c.args.shelf.now) bytes fault asked told short read
-    (g.S.Shelf.misses c.args.shelf.now) (g.S.Shelf.misses end.new.shelf) (g.S.Shelf.overs c.args.shelf.now) (g.S.Shelf.overs end.new.shelf)
-    (g.S.Shelf.faults c.args.shelf.now) (g.S.Shelf.faults end.new.shelf) (g.O.Sink.faults c.args.out.now) (g.O.Sink.faults end.new.out)
-    (g.E.Sink.faults c.args.err.now) (g.E.Sink.faults end.new.err) (g.O.Sink.told c.args.out.now) (g.O.Sink.told end.new.out)
-    (g.E.Sink.told c.args.err.now) (g.E.Sink.told end.new.err) sound end.result end.ensures.ends end.ensures.speaks)
+pub returns-clause-ended : goal.returns-clause-ended
+returns-clause-ended g c = rw c.status_at.ensures (ended_by c.run-end.result _ c.run-end.ensures c.tell.ensures)
+
+pub returns-clause-printed : goal.returns-clause-printed
+returns-clause-printed g c =
+    let it = call (map string_bytes c.args.words.now) (used (g.S.Shelf.seen c.args.shelf.now) (g.S.Shelf.seen c.run-end.new.shelf))
+    (used (g.O.Sink.seen c.args.out.now) (g.O.Sink.seen c.run-end.new.out)) (used (g.E.Sink.seen c.args.err.now) (g.E.Sink.seen c.tell.new.err)) in
+    rw c.status_at.ensures (printed_by _ it (ended_by c.run-end.result it c.run-end.ensures c.tell.ensures))
+
+pub returns-clause-unwritten : goal.returns-clause-unwritten
+returns-clause-unwritten g c =
+    let it = call (map string_bytes c.args.words.now) (used (g.S.Shelf.seen c.args.shelf.now) (g.S.Shelf.seen c.run-end.new.shelf))
+    (used (g.O.Sink.seen c.args.out.now) (g.O.Sink.seen c.run-end.new.out)) (used (g.E.Sink.seen c.args.err.now) (g.E.Sink.seen c.tell.new.err)) in
+    rw c.status_at.ensures (unwritten_by _ it (ended_by c.run-end.result it c.run-end.ensures c.tell.ensures))
+
+pub returns-clause-complete : goal.returns-clause-complete
+returns-clause-complete g c = rw c.status_at.ensures (complete_by _ _ (ended_by c.run-end.result _ c.run-end.ensures c.tell.ensures))
+
+pub returns-clause-later : goal.returns-clause-later
+returns-clause-later g c = later_by _ _ (ended_by c.run-end.result _ c.run-end.ensures c.tell.ensures)

@@ -1,0 +1,321 @@
+-- Which status is due of a call that ended.
+use Rattle.std.proofs.Common.{◌≡◌, ◌⊎◌, ℕ, ◌<◌, ◌≤◌, List, [], length, sym, refl, ap, ◌∙◌, inl, inr, arith, subst, Option, None, Some}
+use Rattle.std.specs.Prelude.{Result, Ok, Err, IsSome, IsSomeAnd, IfSome, IsOkAnd}
+use Rattle.std.specs.Option.{option_map_or}
+use Rattle.outside.specs.declared.objects.StoredFile.{StoredFile}
+use Rattle.outside.specs.Objects.{file_of, HasFile, LacksFile, HasLongerFile}
+use Rattle.journal_text.specs.declared.events.Event.{Event}
+use Rattle.scrape_config.specs.Reading.{reading, IsRuleAt, IsRefusedPattern}
+use Rattle.scrape_config.specs.declared.conf.Conf.{Conf}
+use Rattle.config_fields.specs.declared.fault.ConfFault.{ConfFault}
+use Rattle.config_fields.specs.declared.fault.ConfFault.TheVariants.{NotJson, Shape, Unknown, Missing, Value, TwiceNamed, TooMany, Rule}
+use Rattle.scrape_core.specs.Built.{listed_targets}
+use Rattle.scrape_cli.specs.Checks.{target_limit, IsFault, IsTaken, fault_message}
+use Rattle.scrape_cli.specs.Scripts.{SpellsTaken, SpellsNoBuilt}
+use Rattle.scrape_cli.specs.Words.{Asking, asking, asked_in, file_in, limit_of}
+use Rattle.scrape_cli.specs.Ends.{Call, work_of, Reads, IsOutput, IsAskedFor, WorkEnds, Speaks, IsSaid, Ended, status_at}
+use Rattle.scrape_cli.specs.Laws.{Complete, IsTold, TellsNone, TellsLonger, IsRead, IsSound, IsUncounted, IsFreely, IsClean, IsCrowded, refused_at}
+use Rattle.scrape_cli.specs.declared.words.Command.{Command}
+use Rattle.scrape_cli.specs.declared.words.Command.TheVariants.{Replay, Check}
+use Rattle.scrape_cli.specs.declared.refusals.Refusal.{Refusal}
+use Rattle.scrape_cli.specs.declared.refusals.Refusal.TheVariants.{BadWords, Absent, Config, ReadFault, WriteFault, NoMemory, TooLong, NotYet}
+
+some_same : {A : Type 0} (a b : A) → Some a ≡ Some b → a ≡ b
+some_same a b e = cc
+
+-- files
+not_lacking : (files : Option (List StoredFile)) (name bytes : List ℕ) → IsSomeAnd files (λ fs. file_of name fs ≡ Some bytes) →
+    IfSome files (λ fs. file_of name fs ≡ None) → ⊥
+not_lacking None name bytes t h = t
+not_lacking (Some fs) name bytes t h = absurd cc
+
+longer_by : (o : Option (List ℕ)) (bytes : List ℕ) (limit : ℕ) → o ≡ Some bytes → IsSomeAnd o (λ b. limit < length b) → length bytes ≤ limit → ⊥
+longer_by None bytes limit e h le = absurd cc
+longer_by (Some b) bytes limit e h le =
+    let at : limit < length bytes = subst (λ (x : List ℕ). limit < length x) (some_same b bytes e) h in
+    absurd (omega (arith, at, le))
+
+not_longer : (files : Option (List StoredFile)) (name bytes : List ℕ) (limit : ℕ) → IsSomeAnd files (λ fs. file_of name fs ≡ Some bytes) →
+    IfSome files (λ fs. IsSomeAnd (file_of name fs) (λ b. limit < length b)) → length bytes ≤ limit → ⊥
+not_longer None name bytes limit t h le = t
+not_longer (Some fs) name bytes limit t h le = longer_by (file_of name fs) bytes limit t h le
+
+same_file : (files : Option (List StoredFile)) (name bytes other : List ℕ) → IsSomeAnd files (λ fs. file_of name fs ≡ Some bytes) →
+    IfSome files (λ fs. file_of name fs ≡ Some other) → other ≡ bytes
+same_file None name bytes other t h = absurd t
+same_file (Some fs) name bytes other t h = some_same other bytes (sym h ∙ t)
+
+none_has : (files : Option (List StoredFile)) (name other : List ℕ) → IsSomeAnd files (λ fs. file_of name fs ≡ None) →
+    IfSome files (λ fs. file_of name fs ≡ Some other) → ⊥
+none_has None name other t h = t
+none_has (Some fs) name other t h = absurd cc
+
+longer_none : (o : Option (List ℕ)) (limit : ℕ) → o ≡ None → IsSomeAnd o (λ b. limit < length b) → ⊥
+longer_none None limit e h = h
+longer_none (Some b) limit e h = absurd cc
+
+none_longer : (files : Option (List StoredFile)) (name : List ℕ) (limit : ℕ) → IsSomeAnd files (λ fs. file_of name fs ≡ None) →
+    IfSome files (λ fs. IsSomeAnd (file_of name fs) (λ b. limit < length b)) → ⊥
+none_longer None name limit t h = t
+none_longer (Some fs) name limit t h = longer_none (file_of name fs) limit t h
+
+longer_has : (files : Option (List StoredFile)) (name other : List ℕ) (limit : ℕ) → IsSomeAnd files (λ fs. IsSomeAnd (file_of name fs) (λ b. limit < length b)) →
+    IfSome files (λ fs. file_of name fs ≡ Some other) → length other ≤ limit → ⊥
+longer_has None name other limit t h le = t
+longer_has (Some fs) name other limit t h le = longer_by (file_of name fs) other limit h t le
+
+longer_lacks : (files : Option (List StoredFile)) (name : List ℕ) (limit : ℕ) → IsSomeAnd files (λ fs. IsSomeAnd (file_of name fs) (λ b. limit < length b)) →
+    IfSome files (λ fs. file_of name fs ≡ None) → ⊥
+longer_lacks None name limit t h = t
+longer_lacks (Some fs) name limit t h = longer_none (file_of name fs) limit h t
+
+-- faults of configurations
+no_conf : (said : Result Conf ConfFault) (fault : ConfFault) (P : Conf → Type 0) → said ≡ Err fault → IsOkAnd said P → ⊥
+no_conf (Ok conf) fault P e h = absurd cc
+no_conf (Err f) fault P e h = h
+
+conf_has : (said : Result Conf ConfFault) (conf : Conf) (P : Conf → Type 0) → said ≡ Ok conf → IsOkAnd said P → P conf
+conf_has (Ok other) conf P e h = let same : other ≡ conf = cc in subst P same h
+conf_has (Err f) conf P e h = absurd h
+
+no_fault : (said : Result Conf ConfFault) (conf : Conf) (fault : ConfFault) → said ≡ Ok conf → said ≡ Err fault → ⊥
+no_fault said conf fault e h = absurd cc
+
+one_fault : (said : Result Conf ConfFault) (fault found : ConfFault) → said ≡ Err fault → said ≡ Err found → found ≡ fault
+one_fault said fault found e h = cc
+
+rule_place : (P : List ℕ → Type 0) (fault : ConfFault) → IsRuleAt P fault → ((place : List ℕ) → ¬ P place) → ⊥
+rule_place P NotJson r n = r
+rule_place P (Shape place) r n = r
+rule_place P (Unknown place) r n = r
+rule_place P (Missing place) r n = r
+rule_place P (Value place) r n = r
+rule_place P (TwiceNamed job) r n = r
+rule_place P (TooMany place limit) r n = r
+rule_place P (Rule place) r n = n place r
+
+module _ (bytes : List ℕ) where
+  same_fault : (fault found : ConfFault) → reading bytes ≡ Err fault → IsFault bytes found → found ≡ fault
+  same_fault fault found e (inl (inl h)) = one_fault (reading bytes) fault found e h
+  same_fault fault found e (inl (inr h)) = absurd (no_conf (reading bytes) fault _ e h)
+  same_fault fault found e (inr h) = absurd (no_conf (reading bytes) fault _ e h.1)
+
+  clean_fault : (conf : Conf) (found : ConfFault) → IsClean bytes conf → IsFault bytes found → ⊥
+  clean_fault conf found k (inl (inl h)) = no_fault (reading bytes) conf found k.read h
+  clean_fault conf found k (inl (inr h)) = rule_place (IsRefusedPattern conf) found (conf_has (reading bytes) conf _ k.read h) k.patterns
+  clean_fault conf found k (inr h) =
+      let many = (conf_has (reading bytes) conf _ k.read h.1).1 in
+      let few = k.few in
+      absurd (omega (arith, many, few))
+
+  fault_taken : (conf : Conf) (fault : ConfFault) → reading bytes ≡ Err fault → IsTaken bytes conf → ⊥
+  fault_taken conf fault e t = no_fault (reading bytes) conf fault t.read e
+
+  crowd_taken : (conf other : Conf) → IsCrowded bytes conf → IsTaken bytes other → ⊥
+  crowd_taken conf other k t =
+      let same : other ≡ conf = conf_has (reading bytes) conf (λ z. other ≡ z) k.read (subst (λ z. IsOkAnd z (λ (y : Conf). other ≡ y)) (sym t.read) refl) in
+      let few : listed_targets conf.jobs ≤ target_limit = subst (λ (z : Conf). listed_targets z.jobs ≤ target_limit) same t.few in
+      let many = k.many in
+      absurd (omega (arith, many, few))
+
+module _ (c : Call) where
+  asked_file : (a : Asking) → asked_in c.words ≡ Some a → file_in c.words ≡ a.file
+  asked_file a e = ap (λ (o : Option Asking). option_map_or (λ (b : Asking). b.file) o []) e
+
+  asked_same : (a b : Asking) → asked_in c.words ≡ Some a → asked_in c.words ≡ Some b → a ≡ b
+  asked_same a b e f = some_same a b (sym e ∙ f)
+
+  -- of what was asked for
+  asked_has : (P : Asking → Type 0) (a : Asking) → asked_in c.words ≡ Some a → IsSomeAnd (asked_in c.words) P → P a
+  asked_has P a e h = subst (λ (o : Option Asking). IsSomeAnd o P) e h
+
+  is_asked : (o : Option Asking) → o ≡ None → IsSome o → ⊥
+  is_asked None e h = absurd cc
+  is_asked (Some a) e h = absurd cc
+
+  some_asked : (o : Option Asking) (P : Asking → Type 0) → o ≡ None → IsSomeAnd o P → ⊥
+  some_asked None P e h = h
+  some_asked (Some a) P e h = absurd cc
+
+  read_asked : (m : Command) (b : List ℕ) → asked_in c.words ≡ None → Reads m b (work_of c) → ⊥
+  read_asked m b e r = let at = r.asked in absurd cc
+
+  -- the file of a command that was read has the name in the words
+  read_file : (m : Command) (b : List ℕ) (r : Reads m b (work_of c)) → HasFile c.shelf.before (file_in c.words) b
+  read_file m b r = subst (λ (n : List ℕ). HasFile c.shelf.before n b) (sym (asked_file (asking r.file m) r.asked)) r.has
+
+  words_due : (end : Result (Unit {0}) Refusal) → WorkEnds end (work_of c) → asked_in c.words ≡ None → status_at end ≡ 2
+  words_due (Ok u) w e = absurd (read_asked _ _ e w.prints.asked_for.reads)
+  words_due (Err BadWords) w e = refl
+  words_due (Err Absent) w e = absurd (some_asked (asked_in c.words) _ e w.cause)
+  words_due (Err (Config f)) w e = absurd (read_asked _ _ e w.cause.1)
+  words_due (Err ReadFault) w e = absurd (is_asked (asked_in c.words) e w.cause)
+  words_due (Err WriteFault) w e = absurd (read_asked _ _ e w.cause.asked_for.reads)
+  words_due (Err NoMemory) w e = absurd (is_asked (asked_in c.words) e w.cause)
+  words_due (Err TooLong) w e = absurd (some_asked (asked_in c.words) _ e w.cause)
+  words_due (Err NotYet) w e = absurd (read_asked _ _ e w.cause.1)
+
+  module _ (a : Asking) (asked : asked_in c.words ≡ Some a) where
+    not_none : asked_in c.words ≡ None → ⊥
+    not_none e = absurd cc
+
+    asked_command : (m : Command) (b : List ℕ) → Reads m b (work_of c) → a.command ≡ m
+    asked_command m b r = ap (λ (z : Asking). z.command) (asked_same a (asking r.file m) asked r.asked)
+
+    lacks : IsSomeAnd (asked_in c.words) (λ z. LacksFile c.shelf.before z.file) → LacksFile c.shelf.before (file_in c.words)
+    lacks h = subst (LacksFile c.shelf.before) (sym (asked_file a asked)) (asked_has (λ z. LacksFile c.shelf.before z.file) a asked h)
+
+    longer : IsSomeAnd (asked_in c.words) (λ z. HasLongerFile c.shelf.before z.file (limit_of z.command)) →
+        HasLongerFile c.shelf.before (file_in c.words) (limit_of a.command)
+    longer h =
+        subst (λ (n : List ℕ). HasLongerFile c.shelf.before n (limit_of a.command)) (sym (asked_file a asked))
+        (asked_has (λ z. HasLongerFile c.shelf.before z.file (limit_of z.command)) a asked h)
+
+    missing_due : TellsNone c → IsRead c → (end : Result (Unit {0}) Refusal) → WorkEnds end (work_of c) → IsFreely 3 (status_at end)
+    missing_due t n (Ok u) w = absurd (none_has c.shelf.before.files (file_in c.words) _ t (read_file _ _ w.prints.asked_for.reads))
+    missing_due t n (Err BadWords) w = absurd (not_none w.cause)
+    missing_due t n (Err Absent) w = inl refl
+    missing_due t n (Err (Config f)) w = absurd (none_has c.shelf.before.files (file_in c.words) _ t (read_file _ _ w.cause.1))
+    missing_due t n (Err ReadFault) w = absurd (n w.shelf.counted)
+    missing_due t n (Err WriteFault) w = absurd (none_has c.shelf.before.files (file_in c.words) _ t (read_file _ _ w.cause.asked_for.reads))
+    missing_due t n (Err NoMemory) w = inr refl
+    missing_due t n (Err TooLong) w = absurd (none_longer c.shelf.before.files (file_in c.words) _ t (longer w.cause))
+    missing_due t n (Err NotYet) w = absurd (none_has c.shelf.before.files (file_in c.words) _ t (read_file _ _ w.cause.1))
+
+    -- what is read is within the limit of the command that was asked for
+    read_short : (m : Command) (b : List ℕ) → Reads m b (work_of c) → length b ≤ limit_of a.command
+    read_short m b r = subst (λ (z : Command). length b ≤ limit_of z) (sym (asked_command m b r)) r.short
+
+    not_long : (m : Command) (b : List ℕ) → TellsLonger a.command c → Reads m b (work_of c) → ⊥
+    not_long m b t r = longer_has c.shelf.before.files (file_in c.words) b (limit_of a.command) t (read_file m b r) (read_short m b r)
+
+    longer_due : TellsLonger a.command c → IsRead c → (end : Result (Unit {0}) Refusal) → WorkEnds end (work_of c) → IsFreely 9 (status_at end)
+    longer_due t n (Ok u) w = absurd (not_long _ _ t w.prints.asked_for.reads)
+    longer_due t n (Err BadWords) w = absurd (not_none w.cause)
+    longer_due t n (Err Absent) w = absurd (longer_lacks c.shelf.before.files (file_in c.words) _ t (lacks w.cause))
+    longer_due t n (Err (Config f)) w = absurd (not_long _ _ t w.cause.1)
+    longer_due t n (Err ReadFault) w = absurd (n w.shelf.counted)
+    longer_due t n (Err WriteFault) w = absurd (not_long _ _ t w.cause.asked_for.reads)
+    longer_due t n (Err NoMemory) w = inr refl
+    longer_due t n (Err TooLong) w = inl refl
+    longer_due t n (Err NotYet) w = absurd (not_long _ _ t w.cause.1)
+
+    refused_of : (m : Command) (b : List ℕ) → Reads m b (work_of c) → refused_at m ≡ refused_at a.command
+    refused_of m b r = ap refused_at (sym (asked_command m b r))
+
+    untold_due : IsUncounted c → (end : Result (Unit {0}) Refusal) → WorkEnds end (work_of c) → IsFreely 0 (status_at end) ⊎ (status_at end ≡ refused_at a.command)
+    untold_due n (Ok u) w = inl (inl refl)
+    untold_due n (Err BadWords) w = absurd (not_none w.cause)
+    untold_due n (Err Absent) w = absurd (n.found w.shelf.counted)
+    untold_due n (Err (Config f)) w = inr (refused_of Check _ w.cause.1)
+    untold_due n (Err ReadFault) w = absurd (n.sound.read w.shelf.counted)
+    untold_due n (Err WriteFault) w = absurd (n.sound.written w.cause.put.counted)
+    untold_due n (Err NoMemory) w = inl (inr refl)
+    untold_due n (Err TooLong) w = absurd (n.short w.shelf.counted)
+    untold_due n (Err NotYet) w = inr (refused_of Replay _ w.cause.1)
+
+  -- a file that is told
+  module _ (m : Command) (bytes : List ℕ) (t : IsTold m bytes c) where
+    told_command : (n : Command) (b : List ℕ) → Reads n b (work_of c) → m ≡ n
+    told_command n b r = asked_command (asking (file_in c.words) m) t.asked n b r
+
+    told_bytes : (n : Command) (b : List ℕ) → Reads n b (work_of c) → b ≡ bytes
+    told_bytes n b r = same_file c.shelf.before.files (file_in c.words) bytes b t.file (read_file n b r)
+
+    told_found : IsSomeAnd (asked_in c.words) (λ z. LacksFile c.shelf.before z.file) → ⊥
+    told_found h = not_lacking c.shelf.before.files (file_in c.words) bytes t.file (lacks (asking (file_in c.words) m) t.asked h)
+
+    told_short : IsSomeAnd (asked_in c.words) (λ z. HasLongerFile c.shelf.before z.file (limit_of z.command)) → ⊥
+    told_short h = not_longer c.shelf.before.files (file_in c.words) bytes (limit_of m) t.file (longer (asking (file_in c.words) m) t.asked h) t.short
+
+    told_asked : asked_in c.words ≡ None → ⊥
+    told_asked e = let at = t.asked in absurd cc
+
+  module _ (bytes : List ℕ) (t : IsTold Replay bytes c) (journal : List Event) (s : SpellsTaken bytes journal) (sound : IsSound c) where
+    not_checked : (b : List ℕ) → Reads Check b (work_of c) → ⊥
+    not_checked b r = let e = told_command Replay bytes t Check b r in absurd cc
+
+    not_left : (b : List ℕ) → Reads Replay b (work_of c) → SpellsNoBuilt b → ⊥
+    not_left b r none =
+        let none_of : SpellsNoBuilt bytes = subst SpellsNoBuilt (told_bytes Replay bytes t Replay b r) none in
+        s.taken (none_of journal s.is_journal s.text)
+
+    replayed_due : (end : Result (Unit {0}) Refusal) → WorkEnds end (work_of c) → IsFreely 0 (status_at end)
+    replayed_due (Ok u) w = inl refl
+    replayed_due (Err BadWords) w = absurd (told_asked Replay bytes t w.cause)
+    replayed_due (Err Absent) w = absurd (told_found Replay bytes t w.cause)
+    replayed_due (Err (Config f)) w = absurd (not_checked _ w.cause.1)
+    replayed_due (Err ReadFault) w = absurd (sound.read w.shelf.counted)
+    replayed_due (Err WriteFault) w = absurd (sound.written w.cause.put.counted)
+    replayed_due (Err NoMemory) w = inr refl
+    replayed_due (Err TooLong) w = absurd (told_short Replay bytes t w.cause)
+    replayed_due (Err NotYet) w = absurd (not_left _ w.cause.1 w.cause.2)
+
+  module _ (bytes : List ℕ) (t : IsTold Check bytes c) where
+    not_replayed : (b : List ℕ) → Reads Replay b (work_of c) → ⊥
+    not_replayed b r = let e = told_command Check bytes t Replay b r in absurd cc
+
+    told_fault : (b : List ℕ) (found : ConfFault) → Reads Check b (work_of c) → IsFault b found → IsFault bytes found
+    told_fault b found r h = subst (λ (x : List ℕ). IsFault x found) (told_bytes Check bytes t Check b r) h
+
+    -- the output of `check` is that of a configuration that is taken
+    told_taken : (n : Command) (b text : List ℕ) → Reads n b (work_of c) → IsOutput n b text → ((conf : Conf) → IsTaken bytes conf → ⊥) → ⊥
+    told_taken Replay b text r o none = not_replayed b r
+    told_taken Check b text r o none = none o.0 (subst (λ (x : List ℕ). IsTaken x o.0) (told_bytes Check bytes t Check b r) o.1)
+
+    asked_taken : (text : List ℕ) → IsAskedFor text (work_of c) → ((conf : Conf) → IsTaken bytes conf → ⊥) → ⊥
+    asked_taken text a none = told_taken a.command a.bytes text a.reads a.output none
+
+    -- where none is taken, the status is that of a fault
+    refused_due : ((conf : Conf) → IsTaken bytes conf → ⊥) → IsRead c → (end : Result (Unit {0}) Refusal) → WorkEnds end (work_of c) → IsFreely 4 (status_at end)
+    refused_due none n (Ok u) w = absurd (asked_taken _ w.prints.asked_for none)
+    refused_due none n (Err BadWords) w = absurd (told_asked Check bytes t w.cause)
+    refused_due none n (Err Absent) w = absurd (told_found Check bytes t w.cause)
+    refused_due none n (Err (Config f)) w = inl refl
+    refused_due none n (Err ReadFault) w = absurd (n w.shelf.counted)
+    refused_due none n (Err WriteFault) w = absurd (asked_taken _ w.cause.asked_for none)
+    refused_due none n (Err NoMemory) w = inr refl
+    refused_due none n (Err TooLong) w = absurd (told_short Check bytes t w.cause)
+    refused_due none n (Err NotYet) w = absurd (not_replayed _ w.cause.1)
+
+    checked_due : (conf : Conf) → IsClean bytes conf → IsSound c → (end : Result (Unit {0}) Refusal) → WorkEnds end (work_of c) → IsFreely 0 (status_at end)
+    checked_due conf k n (Ok u) w = inl refl
+    checked_due conf k n (Err BadWords) w = absurd (told_asked Check bytes t w.cause)
+    checked_due conf k n (Err Absent) w = absurd (told_found Check bytes t w.cause)
+    checked_due conf k n (Err (Config f)) w = absurd (clean_fault bytes conf f k (told_fault _ f w.cause.1 w.cause.2))
+    checked_due conf k n (Err ReadFault) w = absurd (n.read w.shelf.counted)
+    checked_due conf k n (Err WriteFault) w = absurd (n.written w.cause.put.counted)
+    checked_due conf k n (Err NoMemory) w = inr refl
+    checked_due conf k n (Err TooLong) w = absurd (told_short Check bytes t w.cause)
+    checked_due conf k n (Err NotYet) w = absurd (not_replayed _ w.cause.1)
+
+    told_due : (fault : ConfFault) → reading bytes ≡ Err fault → (end : Result (Unit {0}) Refusal) → WorkEnds end (work_of c) →
+        Speaks end (file_in c.words) c.err → status_at end ≡ 4 → IsSaid (fault_message fault) c.err
+    told_due fault e (Ok u) w s four = absurd (omega (arith, four))
+    told_due fault e (Err (Config f)) w s four =
+        let same : f ≡ fault = same_fault bytes fault f e (told_fault _ f w.cause.1 w.cause.2) in
+        subst (λ (z : ConfFault). IsSaid (fault_message z) c.err) same s
+    told_due fault e (Err _) w s four = absurd (omega (arith, four))
+
+pub complete_by : (status : ℕ) (c : Call) → Ended status c → Complete status c
+complete_by status c e = record {
+  words = λ none. e.status_is ∙ words_due c e.end e.work_ends none;
+  missing = λ some tells read. at_asked (asked_in c.words) refl some (λ a asked. freely 3 (missing_due c a asked tells read e.end e.work_ends));
+  longer = λ m asked tells read. freely 9 (longer_due c (asking (file_in c.words) m) asked tells read e.end e.work_ends);
+  replayed = λ bytes journal t s sound. freely 0 (replayed_due c bytes t journal s sound e.end e.work_ends);
+  checked = λ bytes conf t k sound. freely 0 (checked_due c bytes t conf k sound e.end e.work_ends);
+  refused = λ bytes fault t is read. freely 4 (refused_due c bytes t (λ conf taken. fault_taken bytes conf fault is taken) read e.end e.work_ends);
+  told = λ bytes fault t is four. told_due c bytes t fault is e.end e.work_ends e.speaks (sym e.status_is ∙ four);
+  crowded = λ bytes conf t k read. freely 4 (refused_due c bytes t (λ other taken. crowd_taken bytes conf other k taken) read e.end e.work_ends);
+  untold = λ a asked n. at_last a (untold_due c a asked n e.end e.work_ends);
+}
+  where
+    freely : (due : ℕ) → IsFreely due (status_at e.end) → IsFreely due status
+    freely due h = subst (IsFreely due) (sym e.status_is) h
+
+    at_last : (a : Asking) → IsFreely 0 (status_at e.end) ⊎ (status_at e.end ≡ refused_at a.command) → IsFreely 0 status ⊎ (status ≡ refused_at a.command)
+    at_last a h = subst (λ n. IsFreely 0 n ⊎ (n ≡ refused_at a.command)) (sym e.status_is) h
+
+    at_asked : (o : Option Asking) → asked_in c.words ≡ o → IsSome o → ((a : Asking) → asked_in c.words ≡ Some a → IsFreely 3 status) → IsFreely 3 status
+    at_asked None is some f = absurd (is_asked c None refl some)
+    at_asked (Some a) is some f = f a is

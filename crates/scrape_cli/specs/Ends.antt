@@ -1,0 +1,159 @@
+-- How a call of the program ends: the one table of its refusals.
+use Rattle.std.specs.Prelude.{◌≡◌, ℕ, ◌≤◌, ⊤, List, ◌++◌, codes, length, Option, Some, None, IsSome, IsSomeAnd, Result, Ok, Err}
+use Rattle.outside.specs.Objects.{ShelfSeen, SinkSeen, Use, IsUntouched, Rose, HasFile, LacksFile, HasLongerFile, Missed, MetLonger, FailedToRead, Adds, AddsFront, Took, Cut}
+use Rattle.journal_text.specs.declared.events.Event.{Event}
+use Rattle.scrape_config.specs.declared.conf.Conf.{Conf}
+use Rattle.scrape_core.specs.Machine.{book_of}
+use Rattle.scrape_cli.specs.Texts.{book_text}
+use Rattle.scrape_cli.specs.Scripts.{SpellsBuilt, SpellsNoBuilt}
+use Rattle.scrape_cli.specs.Checks.{IsTaken, IsFault, ok_line, fault_message}
+use Rattle.scrape_cli.specs.Words.{Asking, asking, asked_in, file_in, limit_of}
+use Rattle.scrape_cli.specs.declared.words.Command.{Command}
+use Rattle.scrape_cli.specs.declared.words.Command.TheVariants.{Replay, Check}
+use Rattle.scrape_cli.specs.declared.refusals.Refusal.{Refusal}
+use Rattle.scrape_cli.specs.declared.refusals.Refusal.TheVariants.{BadWords, Absent, Config, ReadFault, WriteFault, NoMemory, TooLong, NotYet}
+
+-- a call of the program: its words, and what it made of each outside object
+pub record Call : Type 0 where
+  pub words : List (List ℕ)
+  pub shelf : Use ShelfSeen
+  pub out : Use SinkSeen
+  pub err : Use SinkSeen
+
+abbrev pub call : List (List ℕ) → Use ShelfSeen → Use SinkSeen → Use SinkSeen → Call
+call words shelf out err = record { words = words; shelf = shelf; out = out; err = err }
+
+-- the part of it in which a command is done
+pub record Work : Type 0 where
+  pub asked : Option Asking
+  pub shelf : Use ShelfSeen
+  pub out : Use SinkSeen
+
+abbrev pub work : Option Asking → Use ShelfSeen → Use SinkSeen → Work
+work asked shelf out = record { asked = asked; shelf = shelf; out = out }
+
+abbrev pub work_of : Call → Work
+work_of c = work (asked_in c.words) c.shelf c.out
+
+-- this command was asked for, and its file has these bytes (where the shelf tells its files), within the limit
+pub record Reads (command : Command) (bytes : List ℕ) (w : Work) : Type 0 where
+  pub file : List ℕ
+  pub asked : w.asked ≡ Some (asking file command)
+  pub has : HasFile w.shelf.before file bytes
+  pub short : length bytes ≤ limit_of command
+
+-- what a command prints for the bytes of its file: the book of the journal that they spell, or the number of jobs
+abbrev pub IsOutput : Command → List ℕ → List ℕ → Type 0
+IsOutput Replay bytes text = (journal : List Event) × SpellsBuilt bytes journal × (text ≡ book_text (book_of journal))
+IsOutput Check bytes text = (conf : Conf) × IsTaken bytes conf × (text ≡ ok_line (length conf.jobs))
+
+-- this is the text that the words ask for
+pub record IsAskedFor (text : List ℕ) (w : Work) : Type 0 where
+  pub command : Command
+  pub bytes : List ℕ
+  pub reads : Reads command bytes w
+  pub output : IsOutput command bytes text
+
+-- the text that the words ask for was added to the output, every byte of it
+pub record Prints (w : Work) : Type 0 where
+  pub text : List ℕ
+  pub asked_for : IsAskedFor text w
+  pub put : Took text w.out
+
+-- a put failed: only a front of that text was added
+pub record PrintsFront (w : Work) : Type 0 where
+  pub text : List ℕ
+  pub asked_for : IsAskedFor text w
+  pub put : Cut text w.out
+
+-- the status of a refusal
+abbrev pub status_of : Refusal → ℕ
+status_of BadWords = 2
+status_of Absent = 3
+status_of (Config fault) = 4
+status_of ReadFault = 6
+status_of WriteFault = 7
+status_of NoMemory = 8
+status_of TooLong = 9
+status_of NotYet = 11
+
+-- the message of a refusal, for the file that the words name
+abbrev pub message_of : List ℕ → Refusal → List ℕ
+message_of file BadWords = codes "scrape: bad words\n"
+message_of file Absent = codes "scrape: absent " ++ (file ++ codes "\n")
+message_of file (Config fault) = fault_message fault
+message_of file ReadFault = codes "scrape: read fault\n"
+message_of file WriteFault = codes "scrape: write fault\n"
+message_of file NoMemory = codes "scrape: no memory\n"
+message_of file TooLong = codes "scrape: too long " ++ (file ++ codes "\n")
+message_of file NotYet = codes "scrape: not yet\n"
+
+-- the cause of each refusal
+abbrev pub IsCause : Refusal → Work → Type 0
+IsCause BadWords w = w.asked ≡ None
+IsCause Absent w = IsSomeAnd w.asked (λ a. LacksFile w.shelf.before a.file)
+IsCause (Config fault) w = (bytes : List ℕ) × Reads Check bytes w × IsFault bytes fault
+IsCause ReadFault w = IsSome w.asked
+IsCause WriteFault w = PrintsFront w
+IsCause NoMemory w = IsSome w.asked
+IsCause TooLong w = IsSomeAnd w.asked (λ a. HasLongerFile w.shelf.before a.file (limit_of a.command))
+IsCause NotYet w = (bytes : List ℕ) × Reads Replay bytes w × SpellsNoBuilt bytes
+
+-- what it leaves of the shelf: one count risen, of three refusals, and nothing else changed
+abbrev pub LeavesShelf : Refusal → Use ShelfSeen → Type 0
+LeavesShelf BadWords shelf = IsUntouched shelf
+LeavesShelf Absent shelf = Missed shelf
+LeavesShelf (Config fault) shelf = IsUntouched shelf
+LeavesShelf ReadFault shelf = FailedToRead shelf
+LeavesShelf WriteFault shelf = IsUntouched shelf
+LeavesShelf NoMemory shelf = IsUntouched shelf
+LeavesShelf TooLong shelf = MetLonger shelf
+LeavesShelf NotYet shelf = IsUntouched shelf
+
+-- and of the output: nothing is added but a front at a write fault, as its cause says
+abbrev pub LeavesOut : Refusal → Use SinkSeen → Type 0
+LeavesOut BadWords out = IsUntouched out
+LeavesOut Absent out = IsUntouched out
+LeavesOut (Config fault) out = IsUntouched out
+LeavesOut ReadFault out = IsUntouched out
+LeavesOut WriteFault out = ⊤
+LeavesOut NoMemory out = IsUntouched out
+LeavesOut TooLong out = IsUntouched out
+LeavesOut NotYet out = IsUntouched out
+
+-- the work was refused
+pub record IsRefused (r : Refusal) (w : Work) : Type 0 where
+  pub cause : IsCause r w
+  pub shelf : LeavesShelf r w.shelf
+  pub out : LeavesOut r w.out
+
+-- the work was done
+pub record IsDone (w : Work) : Type 0 where
+  pub prints : Prints w
+  pub shelf : IsUntouched w.shelf
+
+abbrev pub WorkEnds : Result (Unit {0}) Refusal → Work → Type 0
+WorkEnds (Ok u) w = IsDone w
+WorkEnds (Err r) w = IsRefused r w
+
+-- a message was tried: a front of it was added, and all of it where the sink counted no fault
+pub record IsSaid (message : List ℕ) (err : Use SinkSeen) : Type 0 where
+  pub front : AddsFront message err
+  pub whole : ¬ Rose err.before.faults err.after.faults → Adds message err
+  pub later : err.before.faults ≤ err.after.faults
+
+-- the error stream speaks of a refusal, and of nothing else
+abbrev pub Speaks : Result (Unit {0}) Refusal → List ℕ → Use SinkSeen → Type 0
+Speaks (Ok u) file err = IsUntouched err
+Speaks (Err r) file err = IsSaid (message_of file r) err
+
+abbrev pub status_at : Result (Unit {0}) Refusal → ℕ
+status_at (Ok u) = 0
+status_at (Err r) = status_of r
+
+-- the call ended with this status: its work was done or refused, and the error stream speaks of that
+pub record Ended (status : ℕ) (c : Call) : Type 0 where
+  pub end : Result (Unit {0}) Refusal
+  pub status_is : status ≡ status_at end
+  pub work_ends : WorkEnds end (work_of c)
+  pub speaks : Speaks end (file_in c.words) c.err

@@ -1,0 +1,99 @@
+-- What follows of a call that ended.
+use Rattle.std.specs.Prelude.{◌≡◌, ◌≢◌, ◌⊎◌, ℕ, ◌<◌, ◌≤◌, List, length, Some, None, IsSome, IsSomeAnd, Ok, Err}
+use Rattle.outside.specs.Objects.{IsUntouched, Rose, file_of, LacksFile, HasLongerFile, Missed, MetLonger, FailedToRead}
+use Rattle.journal_text.specs.declared.events.Event.{Event}
+use Rattle.scrape_config.specs.Reading.{reading, IsRefusedPattern}
+use Rattle.scrape_config.specs.declared.conf.Conf.{Conf}
+use Rattle.config_fields.specs.declared.fault.ConfFault.{ConfFault}
+use Rattle.scrape_core.specs.Built.{listed_targets}
+use Rattle.scrape_cli.specs.Checks.{target_limit, IsFault, fault_message}
+use Rattle.scrape_cli.specs.Ends.{Call, work_of, Ended, Reads, Prints, PrintsFront, IsSaid, message_of, status_of}
+use Rattle.scrape_cli.specs.Scripts.{SpellsTaken, SpellsNoBuilt}
+use Rattle.scrape_cli.specs.Words.{Asking, asking, asked_in, file_in, limit_of}
+use Rattle.scrape_cli.specs.declared.words.Command.{Command}
+use Rattle.scrape_cli.specs.declared.words.Command.TheVariants.{Replay, Check}
+use Rattle.scrape_cli.specs.declared.refusals.Refusal.{Refusal}
+
+-- what each status says of the call
+pub record Causes (c : Call) : Type 0 where
+  pub done : Ended 0 c → Prints (work_of c)
+  pub quiet : Ended 0 c → IsUntouched c.err
+  pub bad_words : Ended 2 c → asked_in c.words ≡ None
+  pub absent : Ended 3 c → Missed c.shelf × IsSomeAnd (asked_in c.words) (λ a. LacksFile c.shelf.before a.file)
+  pub faulty : Ended 4 c → (fault : ConfFault) × (bytes : List ℕ) × Reads Check bytes (work_of c) × IsFault bytes fault × IsSaid (fault_message fault) c.err
+  pub read_fault : Ended 6 c → FailedToRead c.shelf
+  pub front : Ended 7 c → PrintsFront (work_of c)
+  pub too_long : Ended 9 c → MetLonger c.shelf × IsSomeAnd (asked_in c.words) (λ a. HasLongerFile c.shelf.before a.file (limit_of a.command))
+  pub not_yet : Ended 11 c → (bytes : List ℕ) × Reads Replay bytes (work_of c) × SpellsNoBuilt bytes
+  pub said : (r : Refusal) → status_of r ≢ 4 → Ended (status_of r) c → IsSaid (message_of (file_in c.words) r) c.err
+
+-- a call ends with one of these statuses
+abbrev pub IsStatus : ℕ → Type 0
+IsStatus status = (status ≡ 0) ⊎ ((r : Refusal) × (status ≡ status_of r))
+
+-- what the words ask for is this, of a file that the shelf tells, within the limit
+pub record IsTold (command : Command) (bytes : List ℕ) (c : Call) : Type 0 where
+  pub asked : asked_in c.words ≡ Some (asking (file_in c.words) command)
+  pub file : IsSomeAnd c.shelf.before.files (λ files. file_of (file_in c.words) files ≡ Some bytes)
+  pub short : length bytes ≤ limit_of command
+
+-- the shelf tells its files, and has none of the name; or a longer one
+abbrev pub TellsNone : Call → Type 0
+TellsNone c = IsSomeAnd c.shelf.before.files (λ files. file_of (file_in c.words) files ≡ None)
+
+abbrev pub TellsLonger : Command → Call → Type 0
+TellsLonger command c = IsSomeAnd c.shelf.before.files (λ files. IsSomeAnd (file_of (file_in c.words) files) (λ bytes. limit_of command < length bytes))
+
+-- reading didn't fail; writing neither; nothing was counted at all
+abbrev pub IsRead : Call → Type 0
+IsRead c = ¬ Rose c.shelf.before.faults c.shelf.after.faults
+
+pub record IsSound (c : Call) : Type 0 where
+  pub read : IsRead c
+  pub written : ¬ Rose c.out.before.faults c.out.after.faults
+
+pub record IsUncounted (c : Call) : Type 0 where
+  pub sound : IsSound c
+  pub found : ¬ Rose c.shelf.before.misses c.shelf.after.misses
+  pub short : ¬ Rose c.shelf.before.overs c.shelf.after.overs
+
+-- a status, or want of memory in its place
+abbrev pub IsFreely : ℕ → ℕ → Type 0
+IsFreely due status = (status ≡ due) ⊎ (status ≡ 8)
+
+-- a configuration without a fault, that lists few targets and has no pattern that may be refused
+pub record IsClean (bytes : List ℕ) (conf : Conf) : Type 0 where
+  pub read : reading bytes ≡ Ok conf
+  pub few : listed_targets conf.jobs ≤ target_limit
+  pub patterns : (place : List ℕ) → ¬ IsRefusedPattern conf place
+
+-- a configuration without a fault that the text alone shows, which lists too many targets
+pub record IsCrowded (bytes : List ℕ) (conf : Conf) : Type 0 where
+  pub read : reading bytes ≡ Ok conf
+  pub many : target_limit < listed_targets conf.jobs
+
+-- the status for a file whose content a command refuses
+abbrev pub refused_at : Command → ℕ
+refused_at Replay = 11
+refused_at Check = 4
+
+-- which status is due: where the words are others; where the file is told and reading and writing don't fail; where nothing is counted.
+-- Want of memory alone may stand in its place
+pub record Complete (status : ℕ) (c : Call) : Type 0 where
+  pub words : asked_in c.words ≡ None → status ≡ 2
+  pub missing : IsSome (asked_in c.words) → TellsNone c → IsRead c → IsFreely 3 status
+  pub longer : (m : Command) → asked_in c.words ≡ Some (asking (file_in c.words) m) → TellsLonger m c → IsRead c → IsFreely 9 status
+  pub replayed : (bytes : List ℕ) (journal : List Event) → IsTold Replay bytes c → SpellsTaken bytes journal → IsSound c → IsFreely 0 status
+  pub checked : (bytes : List ℕ) (conf : Conf) → IsTold Check bytes c → IsClean bytes conf → IsSound c → IsFreely 0 status
+  pub refused : (bytes : List ℕ) (fault : ConfFault) → IsTold Check bytes c → reading bytes ≡ Err fault → IsRead c → IsFreely 4 status
+  pub told : (bytes : List ℕ) (fault : ConfFault) → IsTold Check bytes c → reading bytes ≡ Err fault → status ≡ 4 → IsSaid (fault_message fault) c.err
+  pub crowded : (bytes : List ℕ) (conf : Conf) → IsTold Check bytes c → IsCrowded bytes conf → IsRead c → IsFreely 4 status
+  pub untold : (a : Asking) → asked_in c.words ≡ Some a → IsUncounted c → IsFreely 0 status ⊎ (status ≡ refused_at a.command)
+
+-- no count of any object fell
+pub record NoCountFell (c : Call) : Type 0 where
+  pub misses : c.shelf.before.misses ≤ c.shelf.after.misses
+  pub overs : c.shelf.before.overs ≤ c.shelf.after.overs
+  pub reads : c.shelf.before.faults ≤ c.shelf.after.faults
+  pub puts : c.out.before.faults ≤ c.out.after.faults
+  pub messages : c.err.before.faults ≤ c.err.after.faults

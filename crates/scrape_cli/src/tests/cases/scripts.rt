@@ -1,0 +1,415 @@
+//! Scripts: what a scrape appends, series that vanish, and scripts that are not built.
+
+pub const CASES: &str = r#"
+== journal_without_events
+$ replay s
+-- file s
+scrape-journal 1
+-- status 0
+
+== one_load
+$ replay s
+-- file s
+scrape-journal 1
+load 0 76
+{"scrape_configs":[{"job_name":"j","static_configs":[{"targets":["a:1"]}]}]}
+sweep 0
+body 15 0 200 8
+x 1
+y 2
+
+-- out
+0 0 sample x{instance="a:1",job="j"} 1
+0 0 sample y{instance="a:1",job="j"} 2
+0 0 report up{instance="a:1",job="j"} 1
+0 0 report scrape_duration_seconds{instance="a:1",job="j"} 0.015
+0 0 report scrape_samples_scraped{instance="a:1",job="j"} 2
+0 0 report scrape_samples_post_metric_relabeling{instance="a:1",job="j"} 2
+0 0 report scrape_series_added{instance="a:1",job="j"} 2
+-- status 0
+
+== series_vanishes
+$ replay s
+-- file s
+scrape-journal 1
+load 0 76
+{"scrape_configs":[{"job_name":"j","static_configs":[{"targets":["a:1"]}]}]}
+sweep 0
+body 15 0 200 8
+x 1
+y 2
+
+sweep 60000
+body 15 1 200 4
+x 1
+
+-- out
+0 0 sample x{instance="a:1",job="j"} 1
+0 0 sample y{instance="a:1",job="j"} 2
+0 0 report up{instance="a:1",job="j"} 1
+0 0 report scrape_duration_seconds{instance="a:1",job="j"} 0.015
+0 0 report scrape_samples_scraped{instance="a:1",job="j"} 2
+0 0 report scrape_samples_post_metric_relabeling{instance="a:1",job="j"} 2
+0 0 report scrape_series_added{instance="a:1",job="j"} 2
+60000 0 sample x{instance="a:1",job="j"} 1
+60000 0 stale y{instance="a:1",job="j"}
+60000 0 report up{instance="a:1",job="j"} 1
+60000 0 report scrape_duration_seconds{instance="a:1",job="j"} 0.015
+60000 0 report scrape_samples_scraped{instance="a:1",job="j"} 1
+60000 0 report scrape_samples_post_metric_relabeling{instance="a:1",job="j"} 1
+60000 0 report scrape_series_added{instance="a:1",job="j"} 0
+-- status 0
+
+== failed_scrape_ends_series
+$ replay s
+-- file s
+scrape-journal 1
+load 0 76
+{"scrape_configs":[{"job_name":"j","static_configs":[{"targets":["a:1"]}]}]}
+sweep 0
+body 15 0 200 8
+x 1
+y 2
+
+sweep 60000
+body 15 1 200 4
+x 1
+
+sweep 120000
+lost 20 2
+sweep 180000
+lost 20 3
+-- out
+0 0 sample x{instance="a:1",job="j"} 1
+0 0 sample y{instance="a:1",job="j"} 2
+0 0 report up{instance="a:1",job="j"} 1
+0 0 report scrape_duration_seconds{instance="a:1",job="j"} 0.015
+0 0 report scrape_samples_scraped{instance="a:1",job="j"} 2
+0 0 report scrape_samples_post_metric_relabeling{instance="a:1",job="j"} 2
+0 0 report scrape_series_added{instance="a:1",job="j"} 2
+60000 0 sample x{instance="a:1",job="j"} 1
+60000 0 stale y{instance="a:1",job="j"}
+60000 0 report up{instance="a:1",job="j"} 1
+60000 0 report scrape_duration_seconds{instance="a:1",job="j"} 0.015
+60000 0 report scrape_samples_scraped{instance="a:1",job="j"} 1
+60000 0 report scrape_samples_post_metric_relabeling{instance="a:1",job="j"} 1
+60000 0 report scrape_series_added{instance="a:1",job="j"} 0
+120000 0 stale x{instance="a:1",job="j"}
+120000 0 report up{instance="a:1",job="j"} 0
+120000 0 report scrape_duration_seconds{instance="a:1",job="j"} 0.020
+120000 0 report scrape_samples_scraped{instance="a:1",job="j"} 0
+120000 0 report scrape_samples_post_metric_relabeling{instance="a:1",job="j"} 0
+120000 0 report scrape_series_added{instance="a:1",job="j"} 0
+180000 0 report up{instance="a:1",job="j"} 0
+180000 0 report scrape_duration_seconds{instance="a:1",job="j"} 0.020
+180000 0 report scrape_samples_scraped{instance="a:1",job="j"} 0
+180000 0 report scrape_samples_post_metric_relabeling{instance="a:1",job="j"} 0
+180000 0 report scrape_series_added{instance="a:1",job="j"} 0
+-- status 0
+
+== empty_body
+$ replay s
+-- file s
+scrape-journal 1
+load 0 76
+{"scrape_configs":[{"job_name":"j","static_configs":[{"targets":["a:1"]}]}]}
+sweep 0
+body 15 0 200 8
+x 1
+y 2
+
+sweep 60000
+body 15 1 200 0
+
+-- out
+0 0 sample x{instance="a:1",job="j"} 1
+0 0 sample y{instance="a:1",job="j"} 2
+0 0 report up{instance="a:1",job="j"} 1
+0 0 report scrape_duration_seconds{instance="a:1",job="j"} 0.015
+0 0 report scrape_samples_scraped{instance="a:1",job="j"} 2
+0 0 report scrape_samples_post_metric_relabeling{instance="a:1",job="j"} 2
+0 0 report scrape_series_added{instance="a:1",job="j"} 2
+60000 0 stale x{instance="a:1",job="j"}
+60000 0 stale y{instance="a:1",job="j"}
+60000 0 report up{instance="a:1",job="j"} 1
+60000 0 report scrape_duration_seconds{instance="a:1",job="j"} 0.015
+60000 0 report scrape_samples_scraped{instance="a:1",job="j"} 0
+60000 0 report scrape_samples_post_metric_relabeling{instance="a:1",job="j"} 0
+60000 0 report scrape_series_added{instance="a:1",job="j"} 0
+-- status 0
+
+== series_comes_back_after_a_failure
+$ replay s
+-- file s
+scrape-journal 1
+load 0 76
+{"scrape_configs":[{"job_name":"j","static_configs":[{"targets":["a:1"]}]}]}
+sweep 0
+body 15 0 200 8
+y 2
+x 1
+
+sweep 60000
+lost 20 1
+sweep 120000
+body 15 2 200 4
+x 5
+
+-- out
+0 0 sample y{instance="a:1",job="j"} 2
+0 0 sample x{instance="a:1",job="j"} 1
+0 0 report up{instance="a:1",job="j"} 1
+0 0 report scrape_duration_seconds{instance="a:1",job="j"} 0.015
+0 0 report scrape_samples_scraped{instance="a:1",job="j"} 2
+0 0 report scrape_samples_post_metric_relabeling{instance="a:1",job="j"} 2
+0 0 report scrape_series_added{instance="a:1",job="j"} 2
+60000 0 stale x{instance="a:1",job="j"}
+60000 0 stale y{instance="a:1",job="j"}
+60000 0 report up{instance="a:1",job="j"} 0
+60000 0 report scrape_duration_seconds{instance="a:1",job="j"} 0.020
+60000 0 report scrape_samples_scraped{instance="a:1",job="j"} 0
+60000 0 report scrape_samples_post_metric_relabeling{instance="a:1",job="j"} 0
+60000 0 report scrape_series_added{instance="a:1",job="j"} 0
+120000 0 sample x{instance="a:1",job="j"} 5
+120000 0 report up{instance="a:1",job="j"} 1
+120000 0 report scrape_duration_seconds{instance="a:1",job="j"} 0.015
+120000 0 report scrape_samples_scraped{instance="a:1",job="j"} 1
+120000 0 report scrape_samples_post_metric_relabeling{instance="a:1",job="j"} 1
+120000 0 report scrape_series_added{instance="a:1",job="j"} 0
+-- status 0
+
+== finish_of_no_ticket
+$ replay s
+-- file s
+scrape-journal 1
+load 0 76
+{"scrape_configs":[{"job_name":"j","static_configs":[{"targets":["a:1"]}]}]}
+sweep 0
+body 15 0 200 8
+x 1
+y 2
+
+body 15 0 200 4
+x 3
+
+body 15 7 200 4
+x 3
+
+-- out
+0 0 sample x{instance="a:1",job="j"} 1
+0 0 sample y{instance="a:1",job="j"} 2
+0 0 report up{instance="a:1",job="j"} 1
+0 0 report scrape_duration_seconds{instance="a:1",job="j"} 0.015
+0 0 report scrape_samples_scraped{instance="a:1",job="j"} 2
+0 0 report scrape_samples_post_metric_relabeling{instance="a:1",job="j"} 2
+0 0 report scrape_series_added{instance="a:1",job="j"} 2
+-- status 0
+
+== sweep_before_the_next_plan
+$ replay s
+-- file s
+scrape-journal 1
+load 0 76
+{"scrape_configs":[{"job_name":"j","static_configs":[{"targets":["a:1"]}]}]}
+sweep 0
+body 15 0 200 8
+x 1
+y 2
+
+sweep 59999
+body 15 1 200 4
+x 3
+
+-- out
+0 0 sample x{instance="a:1",job="j"} 1
+0 0 sample y{instance="a:1",job="j"} 2
+0 0 report up{instance="a:1",job="j"} 1
+0 0 report scrape_duration_seconds{instance="a:1",job="j"} 0.015
+0 0 report scrape_samples_scraped{instance="a:1",job="j"} 2
+0 0 report scrape_samples_post_metric_relabeling{instance="a:1",job="j"} 2
+0 0 report scrape_series_added{instance="a:1",job="j"} 2
+-- status 0
+
+== second_scrape_in_flight
+$ replay s
+-- file s
+scrape-journal 1
+load 0 76
+{"scrape_configs":[{"job_name":"j","static_configs":[{"targets":["a:1"]}]}]}
+sweep 0
+sweep 60000
+body 15 0 200 4
+x 1
+
+body 15 1 200 4
+x 1
+
+-- out
+0 0 sample x{instance="a:1",job="j"} 1
+0 0 report up{instance="a:1",job="j"} 1
+0 0 report scrape_duration_seconds{instance="a:1",job="j"} 0.015
+0 0 report scrape_samples_scraped{instance="a:1",job="j"} 1
+0 0 report scrape_samples_post_metric_relabeling{instance="a:1",job="j"} 1
+0 0 report scrape_series_added{instance="a:1",job="j"} 1
+-- status 0
+
+== script_of_no_bytes_not_built
+$ replay s
+-- file s
+-- err
+scrape: not yet
+-- status 11
+
+== script_without_a_head_not_built
+$ replay s
+-- file s
+x 1
+-- err
+scrape: not yet
+-- status 11
+
+== script_cut_in_its_head_not_built
+$ replay s
+-- file s
+scrape-journal 1
+\
+-- err
+scrape: not yet
+-- status 11
+
+== script_cut_in_a_configuration_not_built
+$ replay s
+-- file s
+scrape-journal 1
+load 0 76
+-- err
+scrape: not yet
+-- status 11
+
+== script_cut_in_a_body_not_built
+$ replay s
+-- file s
+scrape-journal 1
+load 0 76
+{"scrape_configs":[{"job_name":"j","static_configs":[{"targets":["a:1"]}]}]}
+sweep 0
+\
+-- err
+scrape: not yet
+-- status 11
+
+== script_cut_before_its_last_line_feed_not_built
+$ replay s
+-- file s
+scrape-journal 1
+load 0 76
+{"scrape_configs":[{"job_name":"j","static_configs":[{"targets":["a:1"]}]}]}
+sweep 0
+body 15 0 200 8
+x 1
+y 2
+-- err
+scrape: not yet
+-- status 11
+
+== length_with_a_leading_zero_not_built
+$ replay s
+-- file s
+scrape-journal 1
+load 0 076
+{"scrape_configs":[{"job_name":"j","static_configs":[{"targets":["a:1"]}]}]}
+sweep 0
+body 15 0 200 8
+x 1
+y 2
+
+-- err
+scrape: not yet
+-- status 11
+
+== second_load_not_built
+$ replay s
+-- file s
+scrape-journal 1
+load 0 76
+{"scrape_configs":[{"job_name":"j","static_configs":[{"targets":["a:1"]}]}]}
+sweep 0
+body 15 0 200 8
+x 1
+y 2
+
+load 60000 76
+{"scrape_configs":[{"job_name":"j","static_configs":[{"targets":["a:1"]}]}]}
+-- err
+scrape: not yet
+-- status 11
+
+== tick_not_built
+$ replay s
+-- file s
+scrape-journal 1
+load 0 76
+{"scrape_configs":[{"job_name":"j","static_configs":[{"targets":["a:1"]}]}]}
+sweep 0
+body 15 0 200 8
+x 1
+y 2
+
+tick 60000 0
+-- err
+scrape: not yet
+-- status 11
+
+== update_of_targets_not_built
+$ replay s
+-- file s
+scrape-journal 1
+load 0 76
+{"scrape_configs":[{"job_name":"j","static_configs":[{"targets":["a:1"]}]}]}
+sweep 0
+body 15 0 200 8
+x 1
+y 2
+
+targets 60000 1 1 2
+jf[]
+-- err
+scrape: not yet
+-- status 11
+
+== halt_not_built
+$ replay s
+-- file s
+scrape-journal 1
+load 0 76
+{"scrape_configs":[{"job_name":"j","static_configs":[{"targets":["a:1"]}]}]}
+sweep 0
+body 15 0 200 8
+x 1
+y 2
+
+halt 60000
+-- err
+scrape: not yet
+-- status 11
+
+== load_with_a_fault_not_built
+$ replay s
+-- file s
+scrape-journal 1
+load 0 48
+{"scrape_configs":[{"job_name":"j","colour":1}]}
+-- err
+scrape: not yet
+-- status 11
+
+== load_with_a_pattern_that_is_none_not_built
+$ replay s
+-- file s
+scrape-journal 1
+load 0 90
+{"scrape_configs":[{"job_name":"j","relabel_configs":[{"regex":"(","target_label":"t"}]}]}
+-- err
+scrape: not yet
+-- status 11
+"#;
