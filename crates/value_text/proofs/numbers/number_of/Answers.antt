@@ -1,5 +1,5 @@
-use Rattle.value_text.proofs.DurationLemmas.{number-parsed, digits-utf8}
-use Rattle.value_text.proofs.durations.number_of.Goals as goal
+use Rattle.value_text.proofs.NumberLemmas.{number-parsed, digits-utf8}
+use Rattle.value_text.proofs.numbers.number_of.Goals as goal
 
 pub returns-in-Ok : goal.returns-in-Ok
 returns-in-Ok c =
