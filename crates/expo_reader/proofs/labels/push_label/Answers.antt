@@ -1,8 +1,8 @@
-use Rattle.expo_reader.proofs.LabelLemmas.{label-no_word, label-no_mark, label-no_text, label-some, label-fault}
+use Rattle.expo_reader.proofs.LabelLemmas.{label-no_mark, label-no_text, label-some, label-fault}
 use Rattle.expo_reader.proofs.labels.push_label.Goals as goal
 
 pub returns-in_default-clause-label : goal.returns-in_default-clause-label
-returns-in_default-clause-label c = label-no_word c.args.text.now c.in_default.ensures.part
+returns-in_default-clause-label c = c.in_default.ensures.none
 
 pub returns-in_default-mark_in-clause-label : goal.returns-in_default-mark_in-clause-label
 returns-in_default-mark_in-clause-label c =
