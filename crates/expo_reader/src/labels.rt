@@ -135,7 +135,8 @@ fn push_label<'b>(
     };
     match label_of(alloc, name.bytes, value.bytes) {
         Ok(label) => {
-            labels.push(label)?;
+            labels.reserve(1)?;
+            labels.push_reserved(label);
             Ok(value.rest)
         }
         Err(fault) => Err(fault),
