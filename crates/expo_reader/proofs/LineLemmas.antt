@@ -21,12 +21,12 @@ lines_of-first b (c ∷ cs) =
     (λ (e : eqb b 10 ≡ false). rw e (longer b (c ∷ cs) (line_len (c ∷ cs)) _ (omega arith) (lines_of-first c cs)))
     (cases_Bool (eqb b 10))
 
-joined-twice : (xs ys : List BodyRow) (r : Result (List BodyRow) BodyCause) → joined xs (joined ys r) ≡ joined (xs ++ ys) r
+joined-twice : (xs ys : List BodyRow) (r : Result (List BodyRow) ℕ) → joined xs (joined ys r) ≡ joined (xs ++ ys) r
 joined-twice xs ys (Ok zs) = ap Ok (sym (append_assoc xs ys zs))
-joined-twice xs ys (Err cause) = refl
+joined-twice xs ys (Err line) = refl
 
 -- a line that is read
-pub rows-line : (xs : List BodyRow) (n : ℕ) (row : Option BodyRow) (bs : List ℕ) (said : Result (List BodyRow) BodyCause) → bs ≢ [] →
+pub rows-line : (xs : List BodyRow) (n : ℕ) (row : Option BodyRow) (bs : List ℕ) (said : Result (List BodyRow) ℕ) → bs ≢ [] →
     line_reading n (take (line_len bs) bs) ≡ Ok row →
     joined xs (rows_from n (lines_of bs)) ≡ said → joined (xs ++ row_list row) (rows_from (n + 1) (lines_of (drop (line_len bs + 1) bs))) ≡ said
 unfolding rows_from
@@ -36,22 +36,22 @@ rows-line xs n row (b ∷ bs) said some is e =
     sym (joined-twice xs (row_list row) (rows_from (n + 1) (lines_of rest)))
     ∙ ap (joined xs) (sym (ap (λ r. line_then r (rows_from (n + 1) (lines_of rest))) is) ∙ sym (ap (rows_from n) (lines_of-first b bs))) ∙ e
 
-fault : (xs : List BodyRow) (n : ℕ) (cause : BodyCause) (bs : List ℕ) (said : Result (List BodyRow) BodyCause) → bs ≢ [] →
-    line_reading n (take (line_len bs) bs) ≡ Err cause → joined xs (rows_from n (lines_of bs)) ≡ said → said ≡ Err cause
+fault : (xs : List BodyRow) (n m : ℕ) (bs : List ℕ) (said : Result (List BodyRow) ℕ) → bs ≢ [] →
+    line_reading n (take (line_len bs) bs) ≡ Err m → joined xs (rows_from n (lines_of bs)) ≡ said → said ≡ Err m
 unfolding rows_from
-fault xs n cause [] said some is e = absurd (some refl)
-fault xs n cause (b ∷ bs) said some is e =
+fault xs n m [] said some is e = absurd (some refl)
+fault xs n m (b ∷ bs) said some is e =
     let rest = drop (line_len (b ∷ bs) + 1) (b ∷ bs) in
     sym e ∙ ap (joined xs) (ap (rows_from n) (lines_of-first b bs) ∙ ap (λ r. line_then r (rows_from (n + 1) (lines_of rest))) is)
 
 -- a line that isn't read
-pub rows-fault : (xs : List BodyRow) (n : ℕ) (cause : BodyCause) (bs : List ℕ) (said : Result (List BodyRow) BodyCause) → bs ≢ [] →
+pub rows-fault : (xs : List BodyRow) (n : ℕ) (cause : BodyCause) (bs : List ℕ) (said : Result (List BodyRow) ℕ) → bs ≢ [] →
     CauseIs cause (line_reading n (take (line_len bs) bs)) → joined xs (rows_from n (lines_of bs)) ≡ said → CauseIs cause said
-rows-fault xs n (Line m) bs said some is e = fault xs n (Line m) bs said some is e
+rows-fault xs n (Line m) bs said some is e = fault xs n m bs said some is e
 rows-fault xs n NoMemory bs said some is e = tt
 
 -- the end
-pub rows-end : (xs : List BodyRow) (n : ℕ) (said : Result (List BodyRow) BodyCause) → joined xs (rows_from n (lines_of [])) ≡ said → said ≡ Ok xs
+pub rows-end : (xs : List BodyRow) (n : ℕ) (said : Result (List BodyRow) ℕ) → joined xs (rows_from n (lines_of [])) ≡ said → said ≡ Ok xs
 unfolding rows_from lines_of
 rows-end xs n said e = sym e ∙ ap Ok (append-nil xs)
 

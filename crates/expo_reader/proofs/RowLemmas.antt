@@ -12,7 +12,6 @@ use Rattle.label_set.specs.declared.texts.Pair.{Pair}
 use Rattle.expo_reader.specs.Bodies.{IsFit, has_metric_label, is_skipped, line_reading, line_then, lines_of, names_of, reading, rows_from, sample_or_fault}
 use Rattle.expo_reader.specs.Forms.{after_label, after_name, closed_or, is_exposed_name, label_and_more, label_in, label_of, labelled_row, labels_in, named_label, named_row, names_differ, names_differ_from, row_of, sample_in, valued_label, value_in, with_first}
 use Rattle.expo_reader.specs.Texts.{bare, mark_in, text_in, text_value, word_in}
-use Rattle.expo_reader.specs.declared.bodies.BodyCause.{BodyCause}
 use Rattle.expo_reader.specs.declared.rows.BodyRow.{BodyRow}
 
 both : (x y : Bool) → (x && y) ≡ true → (x ≡ true) × (y ≡ true)
@@ -168,7 +167,7 @@ rows-fit number [] rows e = let none : [] ≡ rows = cc in subst (All IsFit) non
 rows-fit number (l ∷ ls) rows e = by_line (λ more h. rows-fit (number + 1) ls more h) (line_reading number l) refl (rows_from (number + 1) ls) refl e
   where
     by_line : ((more : List BodyRow) → rows_from (number + 1) ls ≡ Ok more → All IsFit more) →
-        (x : Result (Option BodyRow) BodyCause) → line_reading number l ≡ x → (y : Result (List BodyRow) BodyCause) → rows_from (number + 1) ls ≡ y →
+        (x : Result (Option BodyRow) ℕ) → line_reading number l ≡ x → (y : Result (List BodyRow) ℕ) → rows_from (number + 1) ls ≡ y →
         line_then x y ≡ Ok rows → All IsFit rows
     by_line fit (Err cause) s y t e = absurd cc
     by_line fit (Ok o) s (Err cause) t e = absurd cc

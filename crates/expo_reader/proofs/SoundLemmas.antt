@@ -15,9 +15,11 @@ use Rattle.expo_reader.specs.declared.rows.BodyRow.{BodyRow}
 use Rattle.expo_reader.specs.Bodies.{is_skipped}
 use Rattle.expo_reader.specs.Texts.{bare, is_end, word_at, mark_at, text_at, word_in, mark_in, text_in, text_value}
 use Rattle.expo_reader.specs.Forms.{label_in, named_label, valued_label, labels_in, label_of, is_exposed_name, names_differ, stamp_in, value_in, valued, last_word, sample_in, named_row, after_name, row_of, labelled_row, differing_row, closed_or, label_and_more, after_label, with_first}
-use Rattle.expo_reader.specs.Grammar.{IsBlanks, IsLabel, IsLabels, IsLineEnd, IsMiddle, IsSample, IsSkipped, is_text}
+use Rattle.expo_reader.specs.Grammar.{IsBlanks, IsLabel, IsLabels, IsLineEnd, IsMiddle, IsSample, IsSkipped}
 use Rattle.expo_reader.proofs.FrontLemmas.{both, Stops, passes, stops-drop}
+use Rattle.expo_reader.proofs.QuoteLemmas.{is_text, text-sound as text-pieces}
 use Rattle.expo_reader.proofs.WordLemmas.{IsWord}
+use Rattle.value_text.proofs.GrammarLemmas.{value-sound as value-written}
 
 -- the blanks in front
 abbrev pub blanks : List ℕ → List ℕ
@@ -139,6 +141,7 @@ module _ (bs name rest : List ℕ) (label : Pair) (r : List ℕ) (whole : bs ≡
       let made = label-made name text label (p.1 ∙ ap Some is) in
       let mark = mark-sound 61 rest quoted (omega arith) m in
       let quotes = text-sound quoted text after t in
+      let is = text-pieces text label.value quotes.1 made.2 in
       let one = blanks bs ++ (name ++ (blanks rest ++ 61 ∷ (blanks quoted ++ 34 ∷ (text ++ 34 ∷ [])))) in
       let written : one ≡ blanks bs ++ (label.name ++ (blanks rest ++ 61 ∷ (blanks quoted ++ 34 ∷ (text ++ 34 ∷ [])))) =
       ap (λ n. blanks bs ++ (n ++ (blanks rest ++ 61 ∷ (blanks quoted ++ 34 ∷ (text ++ 34 ∷ []))))) (sym made.1) in
@@ -146,7 +149,7 @@ module _ (bs name rest : List ℕ) (label : Pair) (r : List ℕ) (whole : bs ≡
       whole ∙ ap (λ l. blanks bs ++ (name ++ l)) (mark ∙ ap (λ q. blanks rest ++ 61 ∷ q) (quotes.0 ∙ ap (λ a. blanks quoted ++ 34 ∷ (text ++ 34 ∷ a)) end)) in
       let joined : one ++ r ≡ blanks bs ++ (name ++ (blanks rest ++ 61 ∷ (blanks quoted ++ 34 ∷ (text ++ 34 ∷ r)))) = simp append_assoc in (
         one,
-        (blanks bs, blanks rest, blanks quoted, text, [], blanks-are bs, blanks-are rest, blanks-are quoted, refl, ap is_exposed_name made.1 ∙ made.0, quotes.1, made.2, written),
+        (blanks bs, blanks rest, blanks quoted, text, [], blanks-are bs, blanks-are rest, blanks-are quoted, refl, ap is_exposed_name made.1 ∙ made.0, is.0, is.1, written),
         spelled ∙ sym joined,
       )
 
@@ -291,7 +294,7 @@ module _ (number : ℕ) (line name rest : List ℕ) (row : BodyRow) (text_is : b
       let end = value-sound rest k.0 k.1 k.2 in
       let middle : IsMiddle (blanks rest) [] [] = inl (blanks-are rest, some-blanks rest k.0 end.0 stops end.4 end.3, refl, refl) in
       subst (IsSample number line) k.3
-      (blanks line, blanks rest, [], end.0, refl, blanks-are line, named, middle, sym (append-nil name), end.1, end.2, spelled ∙ ap (λ r. blanks line ++ (name ++ r)) end.3)
+      (blanks line, blanks rest, [], end.0, refl, blanks-are line, named, middle, sym (append-nil name), value-written k.0 end.1, end.2, spelled ∙ ap (λ r. blanks line ++ (name ++ r)) end.3)
 
   with-labels : (inside : List ℕ) → mark_in 123 rest ≡ Some inside → (labels : List Pair) (tail : List ℕ) → HasLabels inside labels tail →
       differing_row number (bare line) name labels tail ≡ Some row → IsSample number line row
@@ -311,7 +314,7 @@ module _ (number : ℕ) (line name rest : List ℕ) (row : BodyRow) (text_is : b
       let written : line ≡ blanks line ++ (name ++ ((braces ++ blanks tail) ++ (k.0 ++ end.0))) =
       apart line ∙ ap (λ t. blanks line ++ t) (whole ∙ ap (λ t. (name ++ braces) ++ t) end.3) ∙ simp append_assoc in
       subst (IsSample number line) k.3
-      (blanks line, braces ++ blanks tail, braces, end.0, refl, blanks-are line, named, middle, raw_is, end.1, end.2, written)
+      (blanks line, braces ++ blanks tail, braces, end.0, refl, blanks-are line, named, middle, raw_is, value-written k.0 end.1, end.2, written)
 
   by_labels : (inside : List ℕ) → mark_in 123 rest ≡ Some inside → (o : Option (List Pair × List ℕ)) → labels_in (length inside + 1) inside ≡ o →
       labelled_row number (bare line) name o ≡ Some row → IsSample number line row

@@ -1,11 +1,12 @@
 //! Whole bodies.
-ghost use Rattle.std.specs.Prelude.{◌≡◌, ◌++◌, All, IfErr, IfOk, Ok, OnOk};
-ghost use Rattle.expo_reader.specs.Grammar.{AreLines, IsCauseOf, ReadsTheFormat};
-ghost use Rattle.expo_reader.specs.Bodies.{CauseIs, Gives, IsFit, lines_of, reading, row_list, rows_from};
+ghost use Rattle.std.specs.Prelude.{◌≡◌, All, IfErr, IfOk, Ok};
+ghost use Rattle.expo_reader.specs.Grammar.{AreLines, IsCauseOf};
+ghost use Rattle.expo_reader.specs.Laws.{HasOneReading, RawTextsTell, ReadsTheFormat};
+ghost use Rattle.expo_reader.specs.Bodies.{CauseIs, IsFit, lines_of, reading};
 
-use crate::lines::{line_end, read_line, rest_after};
+use crate::lent::{LentBody, read_lent};
 use crate::rows::BodyRow;
-use label_set::Blob;
+use label_set::{Blob, NoMemory};
 use std::alloc::{AllocError, Global};
 use std::marker::Model;
 
@@ -61,9 +62,13 @@ pub fn read_rows(alloc: Global, body: &[u8]) -> Result<Vec<BodyRow>, BodyCause>
     ensures cause { IfErr result (λ c. CauseIs c (reading body.now)) }
     ensures fit { IfOk result (λ v. All IsFit v.items) }
 {
-    match rows_of(alloc, body) {
+    let lent = match read_lent(alloc, body) {
+        Ok(lent) => lent,
+        Err(cause) => return Err(cause),
+    };
+    match copies(alloc, &lent) {
         Ok(rows) => Ok(rows),
-        Err(cause) => Err(cause),
+        Err(NoMemory) => Err(BodyCause::NoMemory),
     }
 }
 
@@ -76,7 +81,7 @@ pub fn read_body(alloc: Global, bytes: Blob) -> Result<ReadBody, Unread>
     ensures bytes { IfOk result (λ b. b.bytes ≡ bytes) }
     ensures back { IfErr result (λ u. u.bytes ≡ bytes) }
 {
-    match rows_of(alloc, &bytes.bytes) {
+    match read_rows(alloc, &bytes.bytes) {
         Ok(rows) => Ok(ReadBody { bytes, rows }),
         Err(cause) => Err(Unread { bytes, cause }),
     }
@@ -86,6 +91,16 @@ pub fn read_body(alloc: Global, bytes: Blob) -> Result<ReadBody, Unread>
 /// with just these rows, and line n is named exactly where it is the first that is neither. It does nothing.
 pub fn reads_the_format()
     ensures { ReadsTheFormat }
+{}
+
+/// The law that each body has exactly one reading: rows as which its lines are written, or the number of its first faulty line. It does nothing.
+pub fn has_one_reading()
+    ensures { HasOneReading }
+{}
+
+/// The law that rows with one raw text, of one body or of two, have one name and the same labels. It does nothing.
+pub fn raw_texts_tell()
+    ensures { RawTextsTell }
 {}
 
 impl ReadBody {
@@ -113,34 +128,15 @@ impl ReadBody {
     }
 }
 
-/// The rows of a body.
-#[tactic(auto, unfolding(crate::specs::Bodies::reading))]
-fn rows_of(alloc: Global, body: &[u8]) -> Result<Vec<BodyRow>, BodyCause>
-    ensures { Gives (λ v. v.items) result (reading body.now) }
+/// Copies of the rows of a body.
+fn copies(alloc: Global, body: &LentBody<'_>) -> Result<Vec<BodyRow>, NoMemory>
+    ensures { IfOk result (λ v. v.items ≡ body.now.rows) }
 {
-    let mut rows = Vec::new(alloc);
-    let mut rest = body;
-    let mut number = 1;
-    while !rest.is_empty() {
-        let end = line_end(rest);
-        match read_line(alloc, number, &rest[..end]) {
-            Ok(row) => push_row(&mut rows, row)?,
-            Err(cause) => return Err(cause),
-        }
-        rest = rest_after(rest, end);
-        number += 1;
+    let mut rows = Vec::with_capacity(alloc, body.len())?;
+    for place in 0..body.len() {
+        rows.push(body.row(place).copied(alloc)?)?;
     }
     Ok(rows)
-}
-
-/// Adds the row of a line, if it has one.
-fn push_row(rows: &mut Vec<BodyRow>, row: Option<BodyRow>) -> Result<(), AllocError>
-    ensures { OnOk result (rows.new.items ≡ rows.old.items ++ row_list row) }
-{
-    if let Some(row) = row {
-        rows.push(row)?;
-    }
-    Ok(())
 }
 
 #[cfg(test)]

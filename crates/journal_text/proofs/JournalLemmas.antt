@@ -157,10 +157,19 @@ same_texts es fs rest more o u a b c d text =
     (sym (append_assoc first_line (events_text es) rest) ∙ text ∙ append_assoc first_line (events_text fs) more))
 
 -- a text spells one journal at most
-one_journal : (es fs : List Event) → IsJournal es → IsJournal fs → journal_text es ≡ journal_text fs → es ≡ fs
+pub one_journal : (es fs : List Event) → IsJournal es → IsJournal fs → journal_text es ≡ journal_text fs → es ≡ fs
 unfolding EndsBy
 one_journal es fs a b text =
     let same = same_texts es fs [] [] None None a b refl refl (append-nil (journal_text es) ∙ text ∙ sym (append-nil (journal_text fs))) in same.events
+
+-- and an event's spelling begins with that of no other
+pub stand_apart : (e f : Event) (rest : List ℕ) → IsInLimits e → HasNames e → IsInLimits f → HasNames f → spelling e ++ rest ≡ spelling f → (e ≡ f) × (rest ≡ [])
+stand_apart e f rest e_limits e_names f_limits f_names text =
+    let oks : ◌≡◌ {A = Result (Event × List ℕ) ScriptCause} (Ok (e, rest)) (Ok (f, [])) =
+    sym (event_in-follows 0 e rest e_limits e_names (omega arith)) ∙ ap (event_in 0) (text ∙ sym (append-nil (spelling f)))
+    ∙ event_in-follows 0 f [] f_limits f_names (omega arith) in
+    let pairs : (e, rest) ≡ (f, []) = same_ok {E = ScriptCause} (e, rest) (f, []) oks in
+    (ap (λ p. p.0) pairs, ap (λ p. p.1) pairs)
 
 -- where an event fails, the text is no journal's
 fails_none : (c : ScriptCause) (bytes : List ℕ) (offset : ℕ) → FailsAt bytes offset (Fails c) → SpellsNone bytes

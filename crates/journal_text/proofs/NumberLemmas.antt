@@ -1,50 +1,24 @@
 -- Digits and the numbers that they spell.
-use Rattle.std.proofs.Common.{◌≡◌, ◌≢◌, ℕ, suc, ◌+◌, ◌<◌, ◌≤◌, ◌^◌, true, false, ◌&&◌, List, [], ◌∷◌, ◌++◌, length, take, drop, get_or, Option, Some, None, option_map, Result, Ok, Err, refl, sym, ap, ap₂, ◌∙◌, subst, arith, eqb, leb, ltb, ⊎_elim}
+use Rattle.std.proofs.Common.{◌≡◌, ◌≢◌, ℕ, ◌+◌, ◌<◌, ◌≤◌, ◌^◌, true, false, ◌&&◌, List, [], ◌∷◌, ◌++◌, length, take, drop, get_or, Option, Some, None, option_map, refl, sym, ap, ap₂, ◌∙◌, subst, arith, eqb, leb, ltb, ⊎_elim}
 use Rattle.std.specs.Char.{is_ascii_digit}
 use Rattle.std.specs.Fmt.{decimal}
-use Rattle.std.specs.Str.{all_ascii_digits, IsUtf8}
-use Rattle.std.specs.Str.Parse.{digits_value, ParsesUnsigned}
-use Rattle.std.specs.Option.{SomeIff}
-use Rattle.std.specs.Result.{result_ok}
-use Rattle.std.proofs.lemmas.Bool.{cases_Bool, cases_eq, cases_lt, and_from, and_parts, eq-eqb, eqb-true, le-leb, leb-true, ltb-true}
+use Rattle.std.specs.Str.{all_ascii_digits}
+use Rattle.std.specs.Str.Parse.{digits_value}
+use Rattle.std.proofs.lemmas.Bool.{cases_Bool, cases_eq, cases_lt, and_parts, eq-eqb, eqb-true, le-leb, leb-true, ltb-true}
 use Rattle.std.proofs.lemmas.Bool.Decides.{nat_tests}
 use Rattle.std.proofs.lemmas.List.{take_at, drop_at, get_or_at, take-append-drop, drop-drop, drop_more, get_or_past}
 use Rattle.std.proofs.lemmas.Option.{cond_some, none-some, same_Some}
-use Rattle.std.proofs.lemmas.Str.{IsUtf8-from_ascii}
-use Rattle.std.proofs.lemmas.Str.Parse.{IsNumeralModel, numerals_by_value, tells_all_ascii_digits, parse_digits}
-use Rattle.std.proofs.lemmas.Fmt.{IsAscii-from_digits, digits_decimal, digits_value-decimal, decimal-digits_value, decimal_nonempty, decimal_digit, first_decimal}
-use Rattle.journal_text.specs.NumberReadings.{digit_count, is_plain, is_between, number_in, field_at, field}
-
-pub own : IsNumeralModel (λ ds. all_ascii_digits ds ≡ true) (digits_value 10)
-own = numerals_by_value _ tells_all_ascii_digits
-
--- what `parse` gives of digits
-pub value_parsed : {E : Type 0} (ds : List ℕ) (r : Result ℕ E) → 0 < length ds → all_ascii_digits ds ≡ true → ParsesUnsigned 64 10 ds r →
-    SomeIff (result_ok r) (digits_value 10 ds < 2 ^ 64) (digits_value 10 ds)
-value_parsed {E} ds (Ok x) some digits h = let g = parse_digits own {E = E} 64 ds (Ok x) h digits in (g.0.1, g.1)
-value_parsed {E} ds (Err e) some digits h = let g = parse_digits own {E = E} 64 ds (Err e) h digits in λ less. g (some, less)
-
-pub IsUtf8-from_digits : (ds : List ℕ) → all_ascii_digits ds ≡ true → IsUtf8 ds
-IsUtf8-from_digits ds digits = IsUtf8-from_ascii ds (IsAscii-from_digits ds (own.to ds digits))
-
-take-one : (b : ℕ) (bs : List ℕ) (k : ℕ) → take (1 + k) (b ∷ bs) ≡ b ∷ take k bs
-take-one b bs k = let e : 1 + k ≡ suc k = omega arith in rw e refl
-
--- the digits in front are digits
-pub digits_in_front : (bs : List ℕ) → all_ascii_digits (take (digit_count bs) bs) ≡ true
-digits_in_front [] = refl
-digits_in_front (b ∷ bs) =
-    ⊎_elim
-    (λ (e : is_ascii_digit b ≡ true). rw (e, take-one) (and_from (is_ascii_digit b) (all_ascii_digits (take (digit_count bs) bs)) e (digits_in_front bs)))
-    (λ (e : is_ascii_digit b ≡ false). rw e refl)
-    (cases_Bool (is_ascii_digit b))
+use Rattle.std.proofs.lemmas.Fmt.{digits_decimal, digits_value-decimal, decimal-digits_value, decimal_nonempty, decimal_digit, first_decimal}
+use Rattle.value_text.specs.Values.{digits}
+use Rattle.value_text.proofs.NumberLemmas.{own, front-ascii}
+use Rattle.journal_text.specs.NumberReadings.{is_plain, is_between, number_in, field_at, field}
 
 -- digits, and something else behind them
-pub digit_count-digits : (ds : List ℕ) (stop : ℕ) (rest : List ℕ) → all_ascii_digits ds ≡ true → is_ascii_digit stop ≡ false → digit_count (ds ++ stop ∷ rest) ≡ length ds
-digit_count-digits [] stop rest digits other = rw other refl
-digit_count-digits (d ∷ ds) stop rest digits other =
+pub digits-before : (ds : List ℕ) (stop : ℕ) (rest : List ℕ) → all_ascii_digits ds ≡ true → is_ascii_digit stop ≡ false → digits (ds ++ stop ∷ rest) ≡ length ds
+digits-before [] stop rest digits other = rw other refl
+digits-before (d ∷ ds) stop rest digits other =
     let parts = and_parts (is_ascii_digit d) (all_ascii_digits ds) digits in
-    rw (parts.0, digit_count-digits ds stop rest parts.1 other) (omega arith)
+    rw (parts.0, digits-before ds stop rest parts.1 other) (omega arith)
 
 -- a number's digits are plain
 plain_decimal : (n : ℕ) → n < 2 ^ 64 → is_plain (decimal n) ≡ true
@@ -76,7 +50,7 @@ unfolding field
 field-decimal low high stop n rest above below small other =
     let fits : n < 2 ^ 64 = omega arith in
     let digits : all_ascii_digits (decimal n) ≡ true = digits_decimal own n fits in
-    ap (λ k. field_at low high stop k (decimal n ++ stop ∷ rest)) (digit_count-digits (decimal n) stop rest digits other)
+    ap (λ k. field_at low high stop k (decimal n ++ stop ∷ rest)) (digits-before (decimal n) stop rest digits other)
     ∙ field_at-digits low high stop n (decimal n) rest (number_in-decimal low high n above below small)
 
 -- the first digit of plain digits is `0` only where it is the only one
@@ -130,4 +104,4 @@ pub field-some : (low high stop n : ℕ) (bytes rest : List ℕ) → high < 2 ^ 
     (low ≤ n) × (n ≤ high) × (bytes ≡ decimal n ++ stop ∷ rest)
 unfolding field
 field-some low high stop n bytes rest small some e =
-    field_at-some low high stop n (digit_count bytes) bytes rest small some (digits_in_front bytes) e
+    field_at-some low high stop n (digits bytes) bytes rest small some (front-ascii bytes) e

@@ -4,3 +4,4 @@ pub mod NumberReadings
 pub mod LineReadings
 pub mod EventReadings
 pub mod Faults
+pub mod Laws

@@ -2,13 +2,9 @@
 -- a word, then numbers in decimal with no sign and no leading zero, each behind one blank, then a line feed.
 use Rattle.std.specs.Prelude.{ℕ, ◌<◌, ◌≤◌, ◌^◌, List, [], ◌∷◌, ◌++◌, codes, ℤ, pos, negsuc}
 use Rattle.std.specs.Fmt.{decimal}
+pub use Rattle.value_text.specs.Numbers.{number}
 use Rattle.journal_text.specs.declared.lines.Line.{Line}
 use Rattle.journal_text.specs.declared.lines.Line.TheVariants.{Load, Targets, Tick, Sweep, Body, Lost, Garbled, Unsent, Oversize, Halt}
-
--- a moment, or how long something took, as a number of milliseconds
-abbrev pub number : ℤ → ℕ
-number (pos n) = n
-number (negsuc n) = 0
 
 -- the numbers in decimal, each behind a blank, and the line feed that ends the line
 abbrev pub numbers_text : List ℕ → List ℕ

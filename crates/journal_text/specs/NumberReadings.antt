@@ -1,24 +1,19 @@
 -- How the numbers of a line are read.
 use Rattle.std.specs.Prelude.{ℕ, ◌+◌, ◌-◌, ◌^◌, Bool, not, List, length, take, drop, slice_index, ◌&&◌, ◌||◌, ◌==◌, nat_lt, nat_le, if◌then◌else◌, ℤ, pos, Option, Some, None, option_map}
-use Rattle.std.specs.List.{prefix_len}
-use Rattle.std.specs.Char.{is_ascii_digit}
 use Rattle.std.specs.Str.Parse.{digits_value}
-
--- how many digits stand in front
-abbrev pub digit_count : List ℕ → ℕ
-digit_count bytes = prefix_len is_ascii_digit bytes
+use Rattle.value_text.specs.Values.{digits}
 
 -- one digit at least, and no leading zero
 abbrev pub is_plain : List ℕ → Bool
-is_plain digits = nat_lt 0 (length digits) && ((length digits == 1) || not (slice_index digits 0 == 48))
+is_plain ds = nat_lt 0 (length ds) && ((length ds == 1) || not (slice_index ds 0 == 48))
 
 abbrev pub is_between : ℕ → ℕ → ℕ → Bool
 is_between low high n = nat_le low n && nat_le n high
 
 -- the number that digits spell, where it is in range
 unfoldable pub number_in : ℕ → ℕ → List ℕ → Option ℕ
-number_in low high digits =
-    if is_plain digits && is_between low high (digits_value 10 digits) then Some (digits_value 10 digits) else None
+number_in low high ds =
+    if is_plain ds && is_between low high (digits_value 10 ds) then Some (digits_value 10 ds) else None
 
 -- a number in range that a given byte ends, and what follows that byte, where so many digits stand in front
 abbrev pub field_at : ℕ → ℕ → ℕ → ℕ → List ℕ → Option (ℕ × List ℕ)
@@ -28,7 +23,7 @@ field_at low high stop count bytes =
     else None
 
 unfoldable pub field : ℕ → ℕ → ℕ → List ℕ → Option (ℕ × List ℕ)
-field low high stop bytes = field_at low high stop (digit_count bytes) bytes
+field low high stop bytes = field_at low high stop (digits bytes) bytes
 
 -- a moment
 unfoldable pub moment_field : ℕ → List ℕ → Option (ℤ × List ℕ)

@@ -4,10 +4,10 @@ ghost use Rattle.journal_text.specs.Events.{IsInLimits, HasNames, IsJournal, May
 ghost use Rattle.journal_text.specs.Events as spec;
 
 use crate::events::Event;
-use crate::numbers::to_number;
 use label_set::NoMemory;
 use std::alloc::Global;
 use std::marker::Model;
+use value_text::to_number;
 
 /// The first line of a journal's text.
 pub(crate) const FIRST_LINE: &[u8] = b"scrape-journal 1\n";

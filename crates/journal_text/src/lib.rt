@@ -17,4 +17,4 @@ pub use events::Event;
 pub use faults::{ScriptCause, ScriptError, ScriptFault};
 pub use journal::Journal;
 pub use reading::read_journal;
-pub use writing::write_journal;
+pub use writing::{texts_tell_apart, write_journal};

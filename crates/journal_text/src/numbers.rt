@@ -1,29 +1,13 @@
 //! Numbers of a line.
-ghost use Rattle.std.specs.Prelude.{◌≡◌, ◌<◌, ◌≤◌, ◌^◌, ℕ, ℤ, pos, List, length, true, option_map, IfSome};
+ghost use Rattle.std.specs.Prelude.{◌≡◌, ◌<◌, ◌≤◌, ℕ, ℤ, List, true, option_map, IfSome};
 ghost use Rattle.std.specs.Str.{all_ascii_digits};
-ghost use Rattle.std.specs.Str.Parse.{digits_value};
-ghost use Rattle.std.specs.Option.{SomeIff};
 ghost use Rattle.journal_text.specs.NumberReadings as spec;
-ghost use Rattle.journal_text.specs.NumberReadings.{digit_count, is_plain, is_between, number_in, moment_field};
-ghost use Rattle.journal_text.specs.Lines.{number};
+ghost use Rattle.journal_text.specs.NumberReadings.{is_plain, number_in, moment_field};
+
+use value_text::{digit_count, number_of};
 
 /// The last moment, and the longest time, in milliseconds.
 pub(crate) const LAST_MOMENT: u64 = 4_503_599_627_370_495;
-
-/// A moment as a number.
-pub(crate) fn to_number(moment: i64) -> u64
-    ensures { result ≡ number moment }
-{
-    if moment < 0 { 0 } else { moment as u64 }
-}
-
-/// How many digits stand in front.
-fn count_digits(bytes: &[u8]) -> usize
-    ensures value { result ≡ digit_count bytes.now }
-    ensures within { result ≤ length bytes.now }
-{
-    bytes.iter().take_while(|b| b.is_ascii_digit()).count()
-}
 
 /// Whether there is a digit, and no leading zero.
 fn is_plain_number(digits: &[u8]) -> bool
@@ -42,23 +26,11 @@ fn number_between(digits: &[u8], low: u64, high: u64) -> Option<u64>
     if !is_plain_number(digits) {
         return None;
     }
-    let value = value_of(digits)?;
+    let value = number_of(digits)?;
     if low <= value && value <= high {
         Some(value)
     } else {
         None
-    }
-}
-
-/// The number that digits spell, where it has at most 64 bits.
-fn value_of(digits: &[u8]) -> Option<u64>
-    requires some { 0 < length digits.now }
-    requires digits { all_ascii_digits digits.now ≡ true }
-    ensures { SomeIff result (digits_value 10 digits.now < 2 ^ 64) (digits_value 10 digits.now) }
-{
-    match str::from_utf8(digits) {
-        Ok(text) => text.parse::<u64>().ok(),
-        Err(_) => None,
     }
 }
 
@@ -69,7 +41,7 @@ pub(crate) fn field(bytes: &[u8], low: u64, high: u64, stop: u8) -> Option<(u64,
     ensures value { option_map {U = ℕ × List ℕ} (λ p. (p.0, p.1.now)) result ≡ spec.field low high stop bytes.now }
     ensures range { IfSome result (λ p. p.0 ≤ high) }
 {
-    let end = count_digits(bytes);
+    let end = digit_count(bytes);
     if end == bytes.len() || bytes[end] != stop {
         return None;
     }

@@ -3,14 +3,15 @@ ghost use Rattle.std.specs.Prelude.{◌≡◌, ◌++◌, ◌∷◌, [], IfOk, On
 ghost use Rattle.journal_text.specs.Lines as lines;
 ghost use Rattle.journal_text.specs.Events as spec;
 ghost use Rattle.journal_text.specs.Events.{journal_text, rest_of};
+ghost use Rattle.journal_text.specs.Laws.{SpellsOne, StandApart};
 
 use crate::events::Event;
 use crate::journal::{FIRST_LINE, Journal};
 use crate::lines::Line;
-use crate::numbers::to_number;
 use label_set::{Blob, NoMemory};
 use outside::Reply;
 use std::alloc::Global;
+use value_text::to_number;
 
 /// The line of a finish.
 fn finish_line(ticket: u64, took: i64, reply: &Reply) -> Line
@@ -156,3 +157,9 @@ pub fn write_journal(alloc: Global, journal: &Journal) -> Result<Blob, NoMemory>
     }
     Ok(Blob { bytes: text })
 }
+
+/// The laws that tell texts apart: none is that of two journals, and an event's spelling begins with that of no other event. It does nothing.
+pub fn texts_tell_apart()
+    ensures journals { SpellsOne }
+    ensures events { StandApart }
+{}

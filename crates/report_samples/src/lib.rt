@@ -5,7 +5,9 @@
 #![tactic(auto)]
 
 pub mod entries;
+pub mod report_sets;
 pub mod scrape_reports;
 
 pub use entries::{Entry, EntryList, Kind};
+pub use report_sets::ReportSets;
 pub use scrape_reports::{Report, ReportCounts, report_set, reports};

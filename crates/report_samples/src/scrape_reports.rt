@@ -2,7 +2,8 @@
 ghost use Rattle.std.specs.Prelude.{◌≡◌, pos, ◌≤ℤ◌, [], ◌∷◌, IfOk};
 ghost use Rattle.report_samples.specs.Reports as spec;
 
-use crate::entries::{Entry, EntryList, Kind};
+use crate::entries::{Entry, EntryList};
+use crate::report_sets::ReportSets;
 use label_set::{LabelSet, NoMemory};
 use std::alloc::Global;
 use value_text::ValueText;
@@ -72,7 +73,7 @@ pub fn report_set(alloc: Global, target: &LabelSet, report: Report) -> Result<La
 }
 
 /// The value of `up`: 1 or 0.
-fn up_value(alloc: Global, up: bool) -> Result<ValueText, NoMemory>
+pub(crate) fn up_value(alloc: Global, up: bool) -> Result<ValueText, NoMemory>
     ensures { IfOk result (λ v. v ≡ spec.up_text up) }
 {
     if up {
@@ -82,28 +83,8 @@ fn up_value(alloc: Global, up: bool) -> Result<ValueText, NoMemory>
     }
 }
 
-/// One report with its value.
-fn report_entry(
-    alloc: Global,
-    life: u64,
-    target: &LabelSet,
-    moment: i64,
-    report: Report,
-    value: ValueText,
-) -> Result<Entry, NoMemory>
-    ensures { IfOk result (λ e. e ≡ spec.report_entry life target.now moment report value) }
-{
-    Ok(Entry {
-        life,
-        kind: Kind::Report,
-        series: report_set(alloc, target, report)?,
-        moment,
-        value: Some(value),
-    })
-}
-
 /// The five reports of a scrape of a life that started at a moment, in the order of `Report`. The fetch took 0 milliseconds or more;
-/// the duration is written in seconds with three decimals.
+/// the duration is written in seconds with three decimals. A life of many scrapes keeps its `ReportSets`.
 ///
 /// # Errors
 ///
@@ -118,22 +99,11 @@ pub fn reports(
     requires { pos 0 ≤ℤ counts.now.took }
     ensures { IfOk result (λ l. l ≡ spec.report_entries life target.now moment counts.now) }
 {
-    let up = up_value(alloc, counts.up)?;
-    let took = ValueText::of_millis(alloc, counts.took)?;
-    let scraped = ValueText::of_count(alloc, counts.scraped)?;
-    let left = ValueText::of_count(alloc, counts.left)?;
-    let added = ValueText::of_count(alloc, counts.added)?;
-    let up = report_entry(alloc, life, target, moment, Report::Up, up)?;
-    let took = report_entry(alloc, life, target, moment, Report::Duration, took)?;
-    let scraped = report_entry(alloc, life, target, moment, Report::Scraped, scraped)?;
-    let left = report_entry(alloc, life, target, moment, Report::Left, left)?;
-    let added = report_entry(alloc, life, target, moment, Report::Added, added)?;
-    Ok(EntryList {
-        items: five(alloc, up, took, scraped, left, added)?,
-    })
+    let sets = ReportSets::of(alloc, target.copy()?)?;
+    sets.reports(alloc, life, moment, counts)
 }
 
-fn five(
+pub(crate) fn five(
     alloc: Global,
     first: Entry,
     second: Entry,

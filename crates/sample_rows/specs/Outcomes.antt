@@ -1,13 +1,11 @@
 -- What a scrape comes to, by its reply ("Configuration", scrape_config: scrape_timeout, body_size_limit, sample_limit and the limits of labels;
 -- "Exposition formats").
-use Rattle.std.specs.Prelude.{ℕ, ℤ, Bool, not, List, length, ◌==◌, nat_lt, int_lt, Option, Some, None, Ok, Err, Result, if◌then◌else◌}
+use Rattle.std.specs.Prelude.{ℕ, ℤ, Bool, not, List, [], length, ◌==◌, nat_lt, int_lt, Option, Some, None, Ok, Err, Result, if◌then◌else◌}
 use Rattle.label_set.specs.declared.texts.Pair.{Pair}
 use Rattle.relabel.specs.declared.conf.RuleConf.{RuleConf}
 use Rattle.scrape_limits.specs.Limits.{body_limit}
 use Rattle.expo_reader.specs.Bodies.{reading}
 use Rattle.expo_reader.specs.declared.rows.BodyRow.{BodyRow}
-use Rattle.expo_reader.specs.declared.bodies.BodyCause.{BodyCause}
-use Rattle.expo_reader.specs.declared.bodies.BodyCause.TheVariants.{Line, NoMemory}
 use Rattle.outside.specs.declared.replies.Reply.{Reply}
 use Rattle.outside.specs.declared.replies.Reply.TheVariants.{Body, Lost, Garbled, Unsent, Oversize}
 use Rattle.sample_rows.specs.Rows.{Left, left_from, samples_of, rows_fault}
@@ -38,42 +36,55 @@ of_left rules ls scraped = judged (rows_fault rules.limits ls) (samples_of ls) s
 abbrev pub of_rows : RowRules → List RuleConf → List Pair → List BodyRow → Scrape
 of_rows rules metric target rows = of_left rules (left_from rules metric target 0 rows) (length rows)
 
--- of a body: its rows, or the fault that names its first faulty line. A reading never ends for want of memory: the last case is that of no body
-abbrev pub of_reading : RowRules → List RuleConf → List Pair → Result (List BodyRow) BodyCause → Scrape
-of_reading rules metric target (Ok rows) = of_rows rules metric target rows
-of_reading rules metric target (Err (Line line)) = failed (fault.Line line)
-of_reading rules metric target (Err NoMemory) = failed fault.Garbled
-
--- of a body that came in time with this status
-abbrev pub of_body : RowRules → List RuleConf → List Pair → ℕ → List ℕ → Scrape
-of_body rules metric target status bytes =
-    if not (status == 200) then failed (fault.Status status)
-    else if nat_lt (body_limit rules.limits) (length bytes) then failed fault.Size
-    else of_reading rules metric target (reading bytes)
-
 -- the fetch took longer than the timeout, both in milliseconds
 abbrev pub is_slow : RowRules → ℤ → Bool
 is_slow rules took = int_lt rules.timeout took
 
+-- the fault for which the body of a reply isn't read: the first of those of the reply, its time, its status and its size
+unfoldable pub early_read_fault : RowRules → Reply → ℤ → Option ScrapeFault
+early_read_fault rules Lost took = Some fault.Lost
+early_read_fault rules Garbled took = Some fault.Garbled
+early_read_fault rules Unsent took = Some fault.Unsent
+early_read_fault rules Oversize took = if is_slow rules took then Some fault.Slow else Some fault.Size
+early_read_fault rules (Body status bytes) took =
+    if is_slow rules took then Some fault.Slow
+    else if not (status == 200) then Some (fault.Status status)
+    else if nat_lt (body_limit rules.limits) (length bytes) then Some fault.Size
+    else None
+
+-- the bytes of the body of a reply
+abbrev pub body_of : Reply → List ℕ
+body_of (Body status bytes) = bytes
+body_of _ = []
+
+-- the rows that are read, or the fault that names the first faulty line
+abbrev pub or_line : Result (List BodyRow) ℕ → Result (List BodyRow) ScrapeFault
+or_line (Ok rows) = Ok rows
+or_line (Err line) = Err (fault.Line line)
+
+-- rows, unless there is a fault before they are read
+abbrev pub unless_fault : Option ScrapeFault → Result (List BodyRow) ScrapeFault → Result (List BodyRow) ScrapeFault
+unless_fault None rows = rows
+unless_fault (Some f) rows = Err f
+
+-- the rows of a reply, or the first fault for which none of them is looked at
+abbrev pub early_fault : RowRules → Reply → ℤ → Result (List BodyRow) ScrapeFault
+early_fault rules reply took = unless_fault (early_read_fault rules reply took) (or_line (reading (body_of reply)))
+
+-- the outcome of rows, or of a fault for which none is looked at
+abbrev pub of_early : RowRules → List RuleConf → List Pair → Result (List BodyRow) ScrapeFault → Scrape
+of_early rules metric target (Ok rows) = of_rows rules metric target rows
+of_early rules metric target (Err f) = failed f
+
 -- the outcome of a scrape of a target by its reply and how long that took: the first fault in the order of `ScrapeFault`, or the samples left
 unfoldable pub outcome : RowRules → List RuleConf → List Pair → Reply → ℤ → Scrape
-outcome rules metric target Lost took = failed fault.Lost
-outcome rules metric target Garbled took = failed fault.Garbled
-outcome rules metric target Unsent took = failed fault.Unsent
-outcome rules metric target Oversize took = if is_slow rules took then failed fault.Slow else failed fault.Size
-outcome rules metric target (Body status bytes) took = if is_slow rules took then failed fault.Slow else of_body rules metric target status bytes
+outcome rules metric target reply took = of_early rules metric target (early_fault rules reply took)
+
+-- how many rows there are to look at
+abbrev pub row_count : Result (List BodyRow) ScrapeFault → ℕ
+row_count (Ok rows) = length rows
+row_count (Err f) = 0
 
 -- how many rows the rules for samples are run on: all rows of a body that is read, and none of any other reply
-abbrev pub run_count : Result (List BodyRow) BodyCause → ℕ
-run_count (Ok rows) = length rows
-run_count (Err cause) = 0
-
-abbrev pub body_runs : RowRules → ℕ → List ℕ → ℕ
-body_runs rules status bytes =
-    if not (status == 200) then 0
-    else if nat_lt (body_limit rules.limits) (length bytes) then 0
-    else run_count (reading bytes)
-
 unfoldable pub runs : RowRules → Reply → ℤ → ℕ
-runs rules (Body status bytes) took = if is_slow rules took then 0 else body_runs rules status bytes
-runs rules _ took = 0
+runs rules reply took = row_count (early_fault rules reply took)

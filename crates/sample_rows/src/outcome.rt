@@ -1,6 +1,6 @@
 //! What a scrape comes to, by its reply.
-ghost use Rattle.std.specs.Prelude.{◌≡◌, ◌≤◌, ◌+◌, All, false, length, IfOk, OnOk};
-ghost use Rattle.expo_reader.specs.Bodies.{IsFit, reading};
+ghost use Rattle.std.specs.Prelude.{◌≡◌, ◌≤◌, ◌+◌, false, length, IfOk, OnOk};
+ghost use Rattle.expo_reader.specs.Bodies.{reading};
 ghost use Rattle.label_conflict.specs.Merging.{bears};
 ghost use Rattle.label_set.specs.SetText.{metric_label};
 ghost use Rattle.sample_rows.specs.Outcomes as spec;
@@ -9,7 +9,7 @@ ghost use Rattle.sample_rows.specs.Rows.{count_fault, first_of};
 use crate::fault::ScrapeFault;
 use crate::left::{Sifted, sift};
 use crate::scrape::{RowRules, Sample, SampleList, Scrape};
-use expo_reader::{BodyCause, BodyRow, read_rows};
+use expo_reader::{BodyCause, LentBody, read_lent};
 use label_set::{LabelSet, NoMemory, Steps};
 use outside::Reply;
 use relabel::Rules;
@@ -59,28 +59,27 @@ fn judged(fault: Option<ScrapeFault>, samples: Vec<Sample>, scraped: u64) -> Scr
     }
 }
 
-/// The outcome of a body with these rows. Each row takes one step.
-pub fn of_rows<L: Ledger>(
+/// The outcome of a body. Each row takes one step.
+fn of_rows<L: Ledger>(
     alloc: Global,
     rules: &RowRules,
     metric: &Rules,
     target: &LabelSet,
-    rows: &[BodyRow],
+    body: &LentBody<'_>,
     steps: &mut Steps<L>,
 ) -> Result<Scrape, NoMemory>
-    requires fit { All IsFit rows.now }
     requires nameless { bears target.now metric_label ≡ false }
-    ensures outcome { IfOk result (λ s. s ≡ spec.of_rows rules.now metric.now target.now rows.now) }
-    ensures steps { OnOk result (steps.new ≡ steps.old + length rows.now) }
+    ensures outcome { IfOk result (λ s. s ≡ spec.of_rows rules.now metric.now target.now body.now.rows) }
+    ensures steps { OnOk result (steps.new ≡ steps.old + length body.now.rows) }
     ensures at_least { steps.old ≤ steps.new }
-    ensures at_most { steps.new ≤ steps.old + length rows.now }
+    ensures at_most { steps.new ≤ steps.old + length body.now.rows }
 {
-    let sifted = sift(alloc, rules, metric, target, rows, steps)?;
+    let sifted = sift(alloc, rules, metric, target, body, steps)?;
     let fault = fault_of(&rules.limits, &sifted);
-    Ok(judged(fault, sifted.samples, rows.len() as u64))
+    Ok(judged(fault, sifted.samples, body.len() as u64))
 }
 
-/// The outcome of a body of status 200 that came in time and is no longer than its limit.
+/// The outcome of bytes that are read. Each row takes one step.
 fn of_bytes<L: Ledger>(
     alloc: Global,
     rules: &RowRules,
@@ -90,39 +89,54 @@ fn of_bytes<L: Ledger>(
     steps: &mut Steps<L>,
 ) -> Result<Scrape, NoMemory>
     requires nameless { bears target.now metric_label ≡ false }
-    ensures outcome { IfOk result (λ s. s ≡ spec.of_reading rules.now metric.now target.now (reading bytes.now)) }
-    ensures steps { OnOk result (steps.new ≡ steps.old + spec.run_count (reading bytes.now)) }
+    ensures outcome { IfOk result (λ s. s ≡ spec.of_early rules.now metric.now target.now (spec.or_line (reading bytes.now))) }
+    ensures steps { OnOk result (steps.new ≡ steps.old + spec.row_count (spec.or_line (reading bytes.now))) }
     ensures at_least { steps.old ≤ steps.new }
 {
-    match read_rows(alloc, bytes) {
-        Ok(rows) => of_rows(alloc, rules, metric, target, &rows, steps),
+    match read_lent(alloc, bytes) {
+        Ok(body) => of_rows(alloc, rules, metric, target, &body, steps),
         Err(BodyCause::Line(line)) => Ok(failed(ScrapeFault::Line(line))),
         Err(BodyCause::NoMemory) => Err(NoMemory),
     }
 }
 
-/// The outcome of a body that came in time.
-fn of_body<L: Ledger>(
-    alloc: Global,
-    rules: &RowRules,
-    metric: &Rules,
-    target: &LabelSet,
-    status: u16,
-    bytes: &[u8],
-    steps: &mut Steps<L>,
-) -> Result<Scrape, NoMemory>
-    requires nameless { bears target.now metric_label ≡ false }
-    ensures outcome { IfOk result (λ s. s ≡ spec.of_body rules.now metric.now target.now status bytes.now) }
-    ensures steps { OnOk result (steps.new ≡ steps.old + spec.body_runs rules.now status bytes.now) }
-    ensures at_least { steps.old ≤ steps.new }
+/// The fault for which the body of a reply that took so long isn't read.
+#[tactic(auto, unfolding(crate::specs::Outcomes::early_read_fault))]
+fn early_read_fault(rules: &RowRules, reply: &Reply, took: i64) -> Option<ScrapeFault>
+    ensures { result ≡ spec.early_read_fault rules.now reply.now took }
 {
-    if status != 200 {
-        return Ok(failed(ScrapeFault::Status(status)));
+    match reply {
+        Reply::Lost => Some(ScrapeFault::Lost),
+        Reply::Garbled => Some(ScrapeFault::Garbled),
+        Reply::Unsent => Some(ScrapeFault::Unsent),
+        Reply::Oversize => Some(if rules.timeout < took {
+            ScrapeFault::Slow
+        } else {
+            ScrapeFault::Size
+        }),
+        Reply::Body { status, bytes } => {
+            if rules.timeout < took {
+                return Some(ScrapeFault::Slow);
+            }
+            if *status != 200 {
+                return Some(ScrapeFault::Status(*status));
+            }
+            if bytes.as_slice().len() as u64 > body_limit(&rules.limits) {
+                return Some(ScrapeFault::Size);
+            }
+            None
+        }
     }
-    if bytes.len() as u64 > body_limit(&rules.limits) {
-        return Ok(failed(ScrapeFault::Size));
+}
+
+/// The bytes of the body of a reply.
+fn body_of(reply: &Reply) -> &[u8]
+    ensures { result.now ≡ spec.body_of reply.now }
+{
+    match reply {
+        Reply::Body { status: _, bytes } => bytes.as_slice(),
+        Reply::Lost | Reply::Garbled | Reply::Unsent | Reply::Oversize => &[],
     }
-    of_bytes(alloc, rules, metric, target, bytes, steps)
 }
 
 /// What a scrape of a target comes to, by its reply and the milliseconds that the fetch took: the samples that are left of its rows, or
@@ -151,32 +165,10 @@ pub fn rows<L: Ledger>(
     ensures steps { OnOk result (steps.new ≡ steps.old + spec.runs rules.now reply.now took) }
     ensures at_least { steps.old ≤ steps.new }
 {
-    match reply {
-        Reply::Lost => Ok(failed(ScrapeFault::Lost)),
-        Reply::Garbled => Ok(failed(ScrapeFault::Garbled)),
-        Reply::Unsent => Ok(failed(ScrapeFault::Unsent)),
-        Reply::Oversize => {
-            if rules.timeout < took {
-                Ok(failed(ScrapeFault::Slow))
-            } else {
-                Ok(failed(ScrapeFault::Size))
-            }
-        }
-        Reply::Body { status, bytes } => {
-            if rules.timeout < took {
-                return Ok(failed(ScrapeFault::Slow));
-            }
-            of_body(
-                alloc,
-                rules,
-                metric,
-                target,
-                *status,
-                bytes.as_slice(),
-                steps,
-            )
-        }
+    if let Some(fault) = early_read_fault(rules, reply, took) {
+        return Ok(failed(fault));
     }
+    of_bytes(alloc, rules, metric, target, body_of(reply), steps)
 }
 
 #[cfg(test)]

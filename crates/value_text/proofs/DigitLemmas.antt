@@ -1,6 +1,6 @@
 -- Digits, as a test, as a count and as a numeral.
-use Rattle.std.proofs.Common.{◌≡◌, ℕ, suc, zero, ◌^◌, ◌<◌, ◌≤◌, Bool, true, false, not, ◌&&◌, List, [], ◌∷◌, ◌++◌, length, refl, ◌∙◌, arith, ◌==◌}
-use Rattle.std.specs.List.{list_all, prefix_len}
+use Rattle.std.proofs.Common.{◌≡◌, ℕ, suc, zero, ◌^◌, ◌<◌, ◌≤◌, Bool, true, false, not, ◌&&◌, List, [], ◌∷◌, ◌++◌, length, take, slice_index, append-nil, refl, sym, ap, ◌∙◌, arith, ◌==◌, ⊎_elim}
+use Rattle.std.specs.List.{list_all}
 use Rattle.std.specs.Char.{is_ascii_digit}
 use Rattle.std.specs.Int.{IsInRange}
 use Rattle.std.specs.Str.{IsAscii}
@@ -8,10 +8,9 @@ use Rattle.std.specs.Str.Parse.{IsNumeral, digits_value}
 use Rattle.std.specs.Fmt.{decimal}
 use Rattle.std.proofs.lemmas.Fmt.{decimal_is_IsNumeral}
 use Rattle.std.proofs.lemmas.Str.Parse.{IsDigitsTest, IsNumeralModel, numerals_by_value}
-use Rattle.std.proofs.lemmas.Bool.{and_from}
+use Rattle.std.proofs.lemmas.Bool.{and_from, and_parts, cases_Bool}
 use Rattle.std.proofs.lemmas.Bool.Decides.{nat_tests}
 use Rattle.std.proofs.lemmas.Grind.{common_steps}
-use Rattle.std.proofs.lemmas.List.Folds.{length-prefix_len, prefix_len-append}
 use Rattle.value_text.specs.Values.{is_sign, is_digits, digits, unsigned}
 
 pub both : (x y : Bool) → (x && y) ≡ true → (x ≡ true) × (y ≡ true)
@@ -54,25 +53,33 @@ digits-ascii [] e i = omega arith
 digits-ascii (d ∷ ds) e zero = omega (arith, digit_range d (both (is_ascii_digit d) (list_all is_ascii_digit ds) e).0)
 digits-ascii (d ∷ ds) e (suc i) = digits-ascii ds (both (is_ascii_digit d) (list_all is_ascii_digit ds) e).1 i
 
--- how many digits stand in front of what are digits alone, and of digits before another byte
-prefix-all : (ds : List ℕ) → list_all is_ascii_digit ds ≡ true → prefix_len is_ascii_digit ds ≡ length ds
-prefix-all [] e = refl
-prefix-all (d ∷ ds) e =
-    let k = both (is_ascii_digit d) (list_all is_ascii_digit ds) e in
-    let more : prefix_len is_ascii_digit ds ≡ length ds = prefix-all ds k.1 in
+-- how many digits stand in front
+pub digits-front : (ds rest : List ℕ) → list_all is_ascii_digit ds ≡ true → is_ascii_digit (slice_index rest 0) ≡ false → digits (ds ++ rest) ≡ length ds
+digits-front [] [] e stops = refl
+digits-front [] (b ∷ rest) e stops = rw stops refl
+digits-front (d ∷ ds) rest e stops =
+    let k = and_parts (is_ascii_digit d) (list_all is_ascii_digit ds) e in
+    let more : digits (ds ++ rest) ≡ length ds = digits-front ds rest k.1 stops in
     rw (k.0, more) (omega arith)
 
 pub digits-all : (ds : List ℕ) → list_all is_ascii_digit ds ≡ true → digits ds ≡ length ds
-digits-all ds e = length-prefix_len is_ascii_digit ds ∙ prefix-all ds e
+digits-all ds e = ap digits (sym (append-nil ds)) ∙ digits-front ds [] e refl
 
 pub digits-before : (ds : List ℕ) (b : ℕ) (rest : List ℕ) → list_all is_ascii_digit ds ≡ true → is_ascii_digit b ≡ false → digits (ds ++ b ∷ rest) ≡ length ds
-digits-before ds b rest e other =
-    let all : prefix_len is_ascii_digit ds ≡ length ds = prefix-all ds e in
-    let stop : prefix_len is_ascii_digit (b ∷ rest) ≡ 0 = rw other refl in
-    length-prefix_len is_ascii_digit (ds ++ b ∷ rest) ∙ prefix_len-append is_ascii_digit ds (b ∷ rest) ∙ rw (all, stop) (grind (arith, nat_tests))
+digits-before ds b rest e other = digits-front ds (b ∷ rest) e other
+
+-- and these are digits
+pub front-digits : (bs : List ℕ) → list_all is_ascii_digit (take (digits bs) bs) ≡ true
+front-digits [] = refl
+front-digits (b ∷ bs) =
+    ⊎_elim
+    (λ (e : is_ascii_digit b ≡ true). (let n : digits (b ∷ bs) ≡ suc (digits bs) = rw e (omega arith) in
+    ap (λ m. list_all is_ascii_digit (take m (b ∷ bs))) n ∙ and_from (is_ascii_digit b) (list_all is_ascii_digit (take (digits bs) bs)) e (front-digits bs)))
+    (λ (e : is_ascii_digit b ≡ false). (let n : digits (b ∷ bs) ≡ 0 = rw e refl in ap (λ m. list_all is_ascii_digit (take m (b ∷ bs))) n))
+    (cases_Bool (is_ascii_digit b))
 
 -- digits have no sign
-digit-no_sign : (b : ℕ) → is_ascii_digit b ≡ true → is_sign b ≡ false
+pub digit-no_sign : (b : ℕ) → is_ascii_digit b ≡ true → is_sign b ≡ false
 unfolding is_sign
 digit-no_sign b e = grind (arith, nat_tests, common_steps)
 

@@ -1,4 +1,5 @@
 pub mod DigitLemmas
 pub mod DurationLemmas
+pub mod GrammarLemmas
 pub mod NumberLemmas
 pub mod ValueLemmas

@@ -1,15 +1,19 @@
 -- What `parse` reads are the timestamps.
-use Rattle.std.proofs.Common.{◌≡◌, ℕ, ℤ, pos, negsuc, suc, zero, ◌<◌, ◌^◌, eqb, true, false, not, ◌&&◌, List, [], ◌∷◌, length, refl, sym, ap, ◌∙◌, arith, Some, None, Result, Ok, Err, MatchResult, FitsSigned, w64, ⊎_elim, ◌==◌, nat_lt}
+use Rattle.std.proofs.Common.{◌≡◌, ℕ, ℤ, pos, negsuc, suc, zero, ◌<◌, ◌^◌, eqb, true, false, not, ◌&&◌, List, [], ◌∷◌, length, take, ◌+◌, refl, sym, ap, ◌∙◌, arith, Some, None, Result, Ok, Err, MatchResult, FitsSigned, w64, ⊎_elim, ◌==◌, nat_lt}
 use Rattle.std.specs.List.{list_all}
 use Rattle.std.specs.Char.{is_ascii_digit}
-use Rattle.std.specs.Str.{IsUtf8, IsAscii}
-use Rattle.std.specs.Str.Parse.{ParsesSigned, signed_digits_value, without_leading_sign}
+use Rattle.std.specs.Str.{all_ascii_digits, IsUtf8, IsAscii}
+use Rattle.std.specs.Option.{SomeIff}
+use Rattle.std.specs.Result.{result_ok}
+use Rattle.std.specs.Str.Parse.{ParsesSigned, ParsesUnsigned, digits_value, signed_digits_value, without_leading_sign}
+use Rattle.std.proofs.lemmas.Fmt.{IsAscii-from_digits}
+use Rattle.std.proofs.lemmas.Str.Parse.{IsNumeralModel, numerals_by_value, tells_all_ascii_digits, parse_digits}
 use Rattle.std.proofs.lemmas.Str.{IsUtf8-from_ascii, IsUtf8-nil}
 use Rattle.std.proofs.Math.Bool.{or-true}
 use Rattle.std.proofs.lemmas.Bool.{cases_Bool, and_from, and_left, false_from_ne_true}
 use Rattle.std.proofs.lemmas.Bool.Decides.{nat_tests}
 use Rattle.std.proofs.lemmas.Grind.{common_steps}
-use Rattle.value_text.specs.Values.{is_digits, unsigned, is_sign}
+use Rattle.value_text.specs.Values.{digits, is_digits, unsigned, is_sign}
 use Rattle.value_text.specs.Numbers.{millis, is_in_range}
 use Rattle.value_text.proofs.DigitLemmas.{both, digits-numeral, numeral-digits, digits-ascii}
 
@@ -67,3 +71,28 @@ signed_digits-utf8 (b ∷ bs) e =
     (λ (s : is_sign b ≡ true). (let d : is_digits bs ≡ true = rw s at e in IsUtf8-from_ascii (b ∷ bs) (signed-ascii b bs s (both (not (length bs == 0)) _ d).1)))
     (λ (s : is_sign b ≡ false). (let d : is_digits (b ∷ bs) ≡ true = rw s at e in IsUtf8-from_ascii (b ∷ bs) (digits-ascii (b ∷ bs) (both (not (length (b ∷ bs) == 0)) _ d).1)))
     (cases_Bool (is_sign b))
+
+-- the number that digits spell
+pub own : IsNumeralModel (λ ds. all_ascii_digits ds ≡ true) (digits_value 10)
+own = numerals_by_value _ tells_all_ascii_digits
+
+-- what `parse` gives of digits
+pub number-parsed : {E : Type 0} (ds : List ℕ) (r : Result ℕ E) → 0 < length ds → all_ascii_digits ds ≡ true → ParsesUnsigned 64 10 ds r →
+    SomeIff (result_ok r) (digits_value 10 ds < 2 ^ 64) (digits_value 10 ds)
+number-parsed {E} ds (Ok x) some digits h = let g = parse_digits own {E = E} 64 ds (Ok x) h digits in (g.0.1, g.1)
+number-parsed {E} ds (Err e) some digits h = let g = parse_digits own {E = E} 64 ds (Err e) h digits in λ less. g (some, less)
+
+pub digits-utf8 : (ds : List ℕ) → all_ascii_digits ds ≡ true → IsUtf8 ds
+digits-utf8 ds digits = IsUtf8-from_ascii ds (IsAscii-from_digits ds (own.to ds digits))
+
+-- the digits in front are digits
+take-one : (b : ℕ) (bs : List ℕ) (k : ℕ) → take (1 + k) (b ∷ bs) ≡ b ∷ take k bs
+take-one b bs k = let e : 1 + k ≡ suc k = omega arith in rw e refl
+
+pub front-ascii : (bs : List ℕ) → all_ascii_digits (take (digits bs) bs) ≡ true
+front-ascii [] = refl
+front-ascii (b ∷ bs) =
+    ⊎_elim
+    (λ (e : is_ascii_digit b ≡ true). rw (e, take-one) (and_from (is_ascii_digit b) (all_ascii_digits (take (digits bs) bs)) e (front-ascii bs)))
+    (λ (e : is_ascii_digit b ≡ false). rw e refl)
+    (cases_Bool (is_ascii_digit b))

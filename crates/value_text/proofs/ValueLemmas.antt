@@ -11,7 +11,7 @@ use Rattle.value_text.specs.Values.{is_value, is_exponent, is_digits, digits, is
 use Rattle.value_text.specs.Numbers.{number, seconds3, three_digits}
 use Rattle.value_text.proofs.DigitLemmas.{both, digit_test, digits-all, digits-before, unsigned-digit, decimal-digits}
 
-no_more : (n : ℕ) → nat_lt 0 n ≡ true → is_tail n [] ≡ true
+pub no_more : (n : ℕ) → nat_lt 0 n ≡ true → is_tail n [] ≡ true
 unfolding is_exponent
 no_more n some = and_from (nat_lt 0 n) true some refl
 

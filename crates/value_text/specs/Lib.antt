@@ -1,3 +1,4 @@
 pub mod Durations
+pub mod Grammar
 pub mod Numbers
 pub mod Values

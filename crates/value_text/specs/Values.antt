@@ -1,6 +1,6 @@
 -- The values of samples (Prometheus documentation, "Exposition formats", comments, help text and type information: the value of a sample line).
-use Rattle.std.specs.Prelude.{ℕ, Bool, not, List, length, drop, slice_index, take_while, ◌&&◌, ◌||◌, ◌==◌, nat_le, nat_lt, codes, if◌then◌else◌}
-use Rattle.std.specs.List.{list_all}
+use Rattle.std.specs.Prelude.{ℕ, Bool, not, List, length, drop, slice_index, ◌&&◌, ◌||◌, ◌==◌, nat_le, nat_lt, codes, if◌then◌else◌}
+use Rattle.std.specs.List.{list_all, prefix_len}
 use Rattle.std.specs.Char.{is_ascii_digit}
 use Rattle.std.specs.Str.{bytes_eq, str_to_ascii_lowercase}
 
@@ -14,7 +14,7 @@ unsigned bs = if is_sign (slice_index bs 0) then drop 1 bs else bs
 
 -- how many digits stand in front
 abbrev pub digits : List ℕ → ℕ
-digits bs = length (take_while is_ascii_digit bs)
+digits bs = prefix_len is_ascii_digit bs
 
 -- digits and nothing else, one at least
 abbrev pub is_digits : List ℕ → Bool

@@ -7,7 +7,7 @@ ghost use Rattle.std.specs.Str.Parse.{digits_value};
 ghost use Rattle.value_text.specs.Durations as spec;
 
 use crate::grammar::digit_count;
-use std::str;
+use crate::numbers::number_of;
 
 /// The text is no duration, or it is one of more than 2^40 milliseconds.
 #[derive(Clone, Copy, PartialEq, Eq, Debug)]
@@ -126,18 +126,6 @@ fn longer(total: u64, digits: &[u8], unit: Unit) -> Option<u64>
         Some(total + part)
     } else {
         None
-    }
-}
-
-/// The number that digits spell; `None` exactly where it has more than 64 bits.
-fn number_of(digits: &[u8]) -> Option<u64>
-    requires some { 0 < length digits.now }
-    requires digits { all_ascii_digits digits.now ≡ true }
-    ensures { SomeIff result (digits_value 10 digits.now < 2 ^ 64) (digits_value 10 digits.now) }
-{
-    match str::from_utf8(digits) {
-        Ok(text) => text.parse::<u64>().ok(),
-        Err(_) => None,
     }
 }
 

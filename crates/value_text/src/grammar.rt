@@ -39,6 +39,7 @@ fn all_digits(bytes: &[u8]) -> bool
     bytes.iter().all(|b| b.is_ascii_digit())
 }
 
+/// How many digits stand in front.
 pub fn digit_count(bytes: &[u8]) -> usize
     ensures value { result ≡ spec.digits bytes.now }
     ensures within { result ≤ length bytes.now }

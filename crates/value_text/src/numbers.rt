@@ -1,5 +1,8 @@
 //! Timestamps and durations.
-ghost use Rattle.std.specs.Prelude.{◌≡◌, ◌++◌, ◌≤ℤ◌, IfOk, MatchResult, None, OnErr, OnOk, Some, pos};
+ghost use Rattle.std.specs.Prelude.{◌≡◌, ◌++◌, ◌<◌, ◌^◌, ◌≤ℤ◌, length, IfOk, MatchResult, None, OnErr, OnOk, Some, pos, true};
+ghost use Rattle.std.specs.Option.{SomeIff};
+ghost use Rattle.std.specs.Str.{all_ascii_digits};
+ghost use Rattle.std.specs.Str.Parse.{digits_value};
 ghost use Rattle.value_text.specs.Numbers.{millis, number, seconds3, three_digits};
 
 use crate::grammar::{is_digits, without_sign};
@@ -57,11 +60,23 @@ pub fn seconds_text(alloc: Global, ms: i64) -> Result<Vec<u8>, AllocError>
     Ok(text)
 }
 
-fn to_number(ms: i64) -> u64
-    requires { pos 0 ≤ℤ ms }
+/// Milliseconds as a number, 0 for what is negative.
+pub fn to_number(ms: i64) -> u64
     ensures { result ≡ number ms }
 {
-    ms as u64
+    if ms < 0 { 0 } else { ms as u64 }
+}
+
+/// The number that digits spell; `None` exactly where it has more than 64 bits.
+pub fn number_of(digits: &[u8]) -> Option<u64>
+    requires some { 0 < length digits.now }
+    requires digits { all_ascii_digits digits.now ≡ true }
+    ensures { SomeIff result (digits_value 10 digits.now < 2 ^ 64) (digits_value 10 digits.now) }
+{
+    match str::from_utf8(digits) {
+        Ok(text) => text.parse::<u64>().ok(),
+        Err(_) => None,
+    }
 }
 
 /// The last three digits.

@@ -1,6 +1,7 @@
 //! Values, kept as their bytes.
 ghost use Rattle.std.specs.Prelude.{◌≡◌, ◌≤◌, ◌≤ℤ◌, ◌↔◌, length, IfOk, IsErrOf, IsOk, IsTrue, false, pos};
 ghost use Rattle.std.specs.Fmt.{decimal};
+ghost use Rattle.value_text.specs.Grammar.{ReadsTheValues};
 ghost use Rattle.value_text.specs.Values.{is_value};
 ghost use Rattle.value_text.specs.Numbers.{number, seconds3};
 
@@ -63,11 +64,12 @@ impl ValueText {
         }
     }
 
-    /// Keeps the bytes of a value.
+    /// Keeps the bytes of a value. They are looked at before memory is asked for.
     pub fn keep(alloc: Global, bytes: &[u8]) -> Result<ValueText, ValueError>
         ensures kept { IfOk result (λ v. v ≡ bytes.now) }
         ensures value { IfOk result (λ _. IsTrue (is_value bytes.now)) }
         ensures bad { IsErrOf result ValueError.BadValue → is_value bytes.now ≡ false }
+        ensures looked_first { IsErrOf result ValueError.NoMemory → IsTrue (is_value bytes.now) }
     {
         if !grammar::is_value(bytes) {
             return Err(ValueError::BadValue);
@@ -124,6 +126,11 @@ impl ValueText {
         })
     }
 }
+
+/// The law that ties the test of a value to the grammar of values: it accepts what is written as one, and nothing else. It does nothing.
+pub fn reads_the_values()
+    ensures { ReadsTheValues }
+{}
 
 #[cfg(test)]
 mod tests {

@@ -1,9 +1,0 @@
-use Rattle.journal_text.proofs.NumberLemmas.{value_parsed, IsUtf8-from_digits}
-use Rattle.journal_text.proofs.numbers.value_of.Goals as goal
-
-pub returns-in-Ok : goal.returns-in-Ok
-returns-in-Ok c =
-    rw c.ok.ensures.value (value_parsed c.args.digits.now c.parse.result c.requires.some c.requires.digits (rw c.in-Ok.ensures.cases.0 at c.parse.ensures.value.0))
-
-pub returns-in-Err : goal.returns-in-Err
-returns-in-Err c = λ less. absurd (c.in-Err.ensures.cases.0 (IsUtf8-from_digits c.args.digits.now c.requires.digits))

@@ -1,0 +1,124 @@
+//! The sets of a target's reports.
+ghost use Rattle.std.specs.Prelude.{◌≡◌, pos, ◌≤ℤ◌, IfOk};
+ghost use Rattle.report_samples.specs.Reports as spec;
+
+use crate::entries::{Entry, EntryList, Kind};
+use crate::scrape_reports::{Report, ReportCounts, five, report_set, up_value};
+use label_set::{LabelSet, NoMemory};
+use std::alloc::Global;
+use std::marker::Model;
+use value_text::ValueText;
+
+/// The labels of a target, and the sets of its five reports, which are made once. Contracts see the labels.
+#[derive(Debug, Drop)]
+pub struct ReportSets {
+    target: LabelSet,
+    up: LabelSet,
+    duration: LabelSet,
+    scraped: LabelSet,
+    left: LabelSet,
+    added: LabelSet,
+}
+
+impl Model for ReportSets {
+    ghost use Rattle.std.specs.Prelude.{◌≡◌, List};
+    ghost use Rattle.label_set.specs.declared.texts.Pair.{Pair};
+    ghost use Rattle.report_samples.specs.Reports.{report_set};
+    ghost use Rattle.report_samples.specs.declared.scrape_reports.Report.TheVariants.{Up, Duration, Scraped, Left, Added};
+
+    ghost Value = { List Pair };
+
+    ghost view = { λ s. s.target };
+
+    ghost invariant = { λ s. (s.up ≡ report_set s.target Up) × (s.duration ≡ report_set s.target Duration) × (s.scraped ≡ report_set s.target Scraped) × (s.left ≡ report_set s.target Left) × (s.added ≡ report_set s.target Added) };
+}
+
+impl ReportSets {
+    /// The sets of a target's reports.
+    ///
+    /// # Errors
+    ///
+    /// Only want of memory refuses.
+    pub fn of(alloc: Global, target: LabelSet) -> Result<ReportSets, NoMemory>
+        ensures { IfOk result (λ s. s ≡ target) }
+    {
+        Ok(ReportSets {
+            up: report_set(alloc, &target, Report::Up)?,
+            duration: report_set(alloc, &target, Report::Duration)?,
+            scraped: report_set(alloc, &target, Report::Scraped)?,
+            left: report_set(alloc, &target, Report::Left)?,
+            added: report_set(alloc, &target, Report::Added)?,
+            target,
+        })
+    }
+
+    /// The labels of the target.
+    pub fn target(&self) -> &LabelSet
+        ensures { result.now ≡ self.now }
+    {
+        &self.target
+    }
+
+    /// The set of a report.
+    pub fn set(&self, report: Report) -> &LabelSet
+        ensures { result.now ≡ spec.report_set self.now report }
+    {
+        match report {
+            Report::Up => &self.up,
+            Report::Duration => &self.duration,
+            Report::Scraped => &self.scraped,
+            Report::Left => &self.left,
+            Report::Added => &self.added,
+        }
+    }
+
+    /// One report with its value.
+    fn entry(
+        &self,
+        life: u64,
+        moment: i64,
+        report: Report,
+        value: ValueText,
+    ) -> Result<Entry, NoMemory>
+        ensures { IfOk result (λ e. e ≡ spec.report_entry life self.now moment report value) }
+    {
+        Ok(Entry {
+            life,
+            kind: Kind::Report,
+            series: self.set(report).copy()?,
+            moment,
+            value: Some(value),
+        })
+    }
+
+    /// The five reports of a scrape of a life that started at a moment, in the order of `Report`. The fetch took 0 milliseconds or more;
+    /// the duration is written in seconds with three decimals.
+    ///
+    /// # Errors
+    ///
+    /// Only want of memory refuses.
+    pub fn reports(
+        &self,
+        alloc: Global,
+        life: u64,
+        moment: i64,
+        counts: &ReportCounts,
+    ) -> Result<EntryList, NoMemory>
+        requires { pos 0 ≤ℤ counts.now.took }
+        ensures { IfOk result (λ l. l ≡ spec.report_entries life self.now moment counts.now) }
+    {
+        let up = up_value(alloc, counts.up)?;
+        let took = ValueText::of_millis(alloc, counts.took)?;
+        let scraped = ValueText::of_count(alloc, counts.scraped)?;
+        let left = ValueText::of_count(alloc, counts.left)?;
+        let added = ValueText::of_count(alloc, counts.added)?;
+        let up = self.entry(life, moment, Report::Up, up)?;
+        let took = self.entry(life, moment, Report::Duration, took)?;
+        let scraped = self.entry(life, moment, Report::Scraped, scraped)?;
+        let left = self.entry(life, moment, Report::Left, left)?;
+        let added = self.entry(life, moment, Report::Added, added)?;
+        Ok(EntryList {
+            items: five(alloc, up, took, scraped, left, added)?,
+        })
+    }
+}
