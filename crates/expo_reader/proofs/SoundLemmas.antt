@@ -18,6 +18,7 @@ use Rattle.expo_reader.specs.Forms.{label_in, named_label, valued_label, labels_
 use Rattle.expo_reader.specs.Grammar.{IsBlanks, IsLabel, IsLabels, IsLineEnd, IsMiddle, IsSample, IsSkipped}
 use Rattle.expo_reader.proofs.FrontLemmas.{both, Stops, passes, stops-drop}
 use Rattle.expo_reader.proofs.QuoteLemmas.{is_text, text-sound as text-pieces}
+use Rattle.expo_reader.proofs.RowLemmas.{chosen, first-label, mapped, pair}
 use Rattle.expo_reader.proofs.WordLemmas.{IsWord}
 use Rattle.value_text.proofs.GrammarLemmas.{value-sound as value-written}
 
@@ -30,15 +31,6 @@ apart bs = sym (take-append-drop (blank_len bs) bs)
 
 blanks-are : (bs : List ℕ) → IsBlanks (blanks bs)
 blanks-are bs = passes is_blank bs
-
--- a choice that gives something
-chosen : {A : Type 0} (b : Bool) (o : Option A) (x : A) → (if b then o else None) ≡ Some x → (b ≡ true) × (o ≡ Some x)
-chosen true o x e = (refl, e)
-chosen false o x e = absurd cc
-
--- the parts of a pair that is found
-pair : {A B : Type 0} (a c : A) (b d : B) → ◌≡◌ {A = Option (A × B)} (Some (a, b)) (Some (c, d)) → (a ≡ c) × (b ≡ d)
-pair {A} {B} a c b d e = let x : A × B = (a, b) in let y : A × B = (c, d) in let p : x ≡ y = cc in (ap (λ (q : A × B). q.0) p, ap (λ (q : A × B). q.1) p)
 
 -- a word
 word-split : (t w r : List ℕ) → word_at t ≡ Some (w, r) → (t ≡ w ++ r) × IsWord w × Stops is_word_byte r
@@ -118,11 +110,6 @@ text-sound bs text r e =
     let k = text-split (bare bs) text r e in
     (apart bs ∙ ap (λ t. blanks bs ++ t) k.0, k.1)
 
--- what a mapped option gives
-mapped : {A B : Type 0} (f : A → B) (o : Option A) (y : B) → option_map f o ≡ Some y → (x : A) × (o ≡ Some x) × (f x ≡ y)
-mapped f None y e = absurd cc
-mapped f (Some x) y e = (x, refl, cc)
-
 label-made : (name text : List ℕ) (label : Pair) → label_of name text ≡ Some label → (is_exposed_name name ≡ true) × (label.name ≡ name) × (text_value text ≡ Some label.value)
 label-made name text label e =
     let k = chosen (is_exposed_name name) (option_map {U = Pair} (λ (value : List ℕ). record { name = name; value = value }) (text_value text)) label e in
@@ -174,13 +161,6 @@ label-blanks one b label l e =
 -- labels and the brace behind them
 HasLabels : List ℕ → List Pair → List ℕ → Type 0
 HasLabels bs labels r = (inside : List ℕ) × IsLabels inside labels × (bs ≡ inside ++ 125 ∷ r)
-
-first-label : (label : Pair) (o : Option (List Pair × List ℕ)) (labels : List Pair) (r : List ℕ) → with_first label o ≡ Some (labels, r) →
-    (more : List Pair) × (o ≡ Some (more, r)) × (labels ≡ label ∷ more)
-first-label label None labels r e = absurd cc
-first-label label (Some (more, rest)) labels r e =
-    let p = pair (label ∷ more) labels rest r e in
-    (more, ap (λ q. Some (more, q)) p.1, sym p.0)
 
 module _ (next_labels : List ℕ → Option (List Pair × List ℕ)) (sound : (next : List ℕ) (labels : List Pair) (r : List ℕ) → next_labels next ≡ Some (labels, r) → HasLabels next labels r)
     (bs one rest : List ℕ) (label : Pair) (is : IsLabel one label) (whole : bs ≡ one ++ rest) (labels : List Pair) (r : List ℕ) where

@@ -1,1 +1,4 @@
 pub mod ForcedLemmas
+pub mod SampleLemmas
+pub mod SettleLemmas
+pub mod WalkLemmas

@@ -1,7 +1,8 @@
 -- Lists of label sets as finite sets: membership, what is gone, each once in rising order.
-use Rattle.std.specs.Prelude.{Bool, not, List, [], ◌∷◌, filter}
-use Rattle.std.specs.List.{list_any}
-use Rattle.std.specs.Ordering.{is_eq}
+use Rattle.std.specs.Prelude.{Bool, not, false, List, [], ◌∷◌, drop, filter, if◌then◌else◌}
+use Rattle.std.specs.List.{list_any, prefix_len}
+use Rattle.std.specs.List.Sorted.{IsStrictlySortedBy}
+use Rattle.std.specs.Ordering.{is_eq, is_lt}
 use Rattle.std.specs.BTreeSet.{insert_key}
 use Rattle.label_set.specs.Sets.{set_cmp}
 use Rattle.label_set.specs.declared.texts.Pair.{Pair}
@@ -18,3 +19,20 @@ gone olds news = filter (λ (x : List Pair). not (has x news)) olds
 abbrev pub rising : List (List Pair) → List (List Pair)
 rising [] = []
 rising (x ∷ xs) = insert_key set_cmp (rising xs) x
+
+-- sets that rise, so that each stands there once
+abbrev pub IsRising : List (List Pair) → Type 0
+IsRising xs = IsStrictlySortedBy set_cmp xs
+
+-- of rising sets those that aren't below a set
+unfoldable pub from_set : List Pair → List (List Pair) → List (List Pair)
+from_set x ys = drop (prefix_len (λ (y : List Pair). is_lt (set_cmp y x)) ys) ys
+
+-- whether a set is the first of some
+abbrev pub begins_with : List Pair → List (List Pair) → Bool
+begins_with x [] = false
+begins_with x (y ∷ ys) = is_eq (set_cmp y x)
+
+-- a set, unless it is the first of some
+abbrev pub unless_first : List Pair → List (List Pair) → List (List Pair)
+unless_first x ys = if begins_with x ys then [] else x ∷ []

@@ -1,6 +1,6 @@
 -- The sets of a scrape, and what it leaves to the life that it is of ("Staleness" of the Prometheus documentation: a series that is no longer
 -- present ends, and one whose samples have timestamps of their own isn't marked; "Configuration", scrape_config: honor_timestamps).
-use Rattle.std.specs.Prelude.{ℕ, ℤ, Bool, true, false, List, [], map, filter, length, Option, Some, None, is_none}
+use Rattle.std.specs.Prelude.{ℕ, ℤ, Bool, true, false, List, [], map, filter, length, Option, Some, None, is_none, if◌then◌else◌}
 use Rattle.label_set.specs.declared.texts.Pair.{Pair}
 use Rattle.outside.specs.declared.replies.Reply.{Reply}
 use Rattle.relabel.specs.declared.conf.RuleConf.{RuleConf}
@@ -65,6 +65,10 @@ tracked_sets s = rising (tracked_in (samples_of s))
 abbrev pub known_after : List (List Pair) → Scrape → List (List Pair)
 known_after known (Good rows scraped) = all_sets (Good rows scraped)
 known_after known (Bad f scraped left) = known
+
+-- the state after a scrape, good or not, with the sets that it tracks and all its sets
+abbrev pub settled : LifeView → Bool → List (List Pair) → List (List Pair) → LifeView
+settled l good tracked all = record l { tracked = tracked; known = if good then all else l.known }
 
 -- the state of a life of which nothing was scraped yet
 abbrev pub fresh : ℕ → List Pair → LifeView

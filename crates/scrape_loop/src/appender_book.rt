@@ -49,12 +49,14 @@ impl Book {
         self.entries.push_reserved(entry);
     }
 
-    /// Appends entries, all of them or, after a refusal, none.
+    /// Appends entries, all of them or, after a refusal, none. It uses up no more room than they take.
     pub fn append_all(&mut self, entries: EntryList) -> Result<(), NoMemory>
         ensures ok { OnOk result (self.new.entries ≡ self.old.entries ++ entries) }
-        ensures err { OnErr result (self.new.entries ≡ self.old.entries) }
+        ensures spare { OnOk result (self.old.spare ≤ self.new.spare + length entries) }
+        ensures err { OnErr result (self.new ≡ self.old) }
     {
         let mut items = entries.items;
+        self.entries.reserve(items.len())?;
         Ok(self.entries.append(&mut items)?)
     }
 

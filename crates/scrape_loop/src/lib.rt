@@ -10,6 +10,7 @@ mod rising;
 mod scrape_entries;
 mod scrape_sets;
 mod target_labels;
+mod walk;
 
 pub use appender_book::Book;
 pub use life_state::LifeState;

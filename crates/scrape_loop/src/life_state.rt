@@ -1,20 +1,21 @@
 //! What the scrapes of one life leave for the next.
-ghost use Rattle.std.specs.Prelude.{◌≡◌, ◌≤◌, ◌+◌, [], ◌++◌, pos, ◌≤ℤ◌, false, IfOk, OnOk, OnErr};
+ghost use Rattle.std.specs.Prelude.{◌≡◌, ◌≤◌, ◌+◌, [], ◌++◌, is_none, length, pos, ◌≤ℤ◌, false, IfOk, OnOk, OnErr};
 ghost use Rattle.label_conflict.specs.Merging.{bears};
 ghost use Rattle.label_set.specs.SetText.{metric_label};
 ghost use Rattle.sample_rows.specs.Outcomes.{runs, forced};
 ghost use Rattle.scrape_loop.specs.Entries.{entries_of, forced_entries};
+ghost use Rattle.scrape_loop.specs.Sets.{IsRising};
 ghost use Rattle.scrape_loop.specs.Tracked as spec;
 
 use crate::appender_book::Book;
 use crate::rising::RisingSets;
 use crate::scrape_entries::{counts_of, push_samples, push_stale};
-use crate::scrape_sets::{ScrapeSets, fault_in, samples_in, sets_of};
+use crate::scrape_sets::{ScrapeSets, fault_in, into_samples, sets_of};
 use crate::target_labels::TargetLabels;
 use label_set::{LabelSet, NoMemory, SetList, Steps};
 use outside::Reply;
 use relabel::Rules;
-use report_samples::{EntryList, reports};
+use report_samples::EntryList;
 use sample_rows::{RowRules, Scrape, ScrapeFault, rows};
 use std::alloc::Global;
 use std::marker::Model;
@@ -28,16 +29,19 @@ pub struct LifeState {
     target: TargetLabels,
     /// The sets that the last counted scrape tracked, rising.
     tracked: SetList,
-    /// All sets of the last good scrape.
-    known: RisingSets,
+    /// All sets of the last good scrape, rising.
+    known: SetList,
 }
 
 impl Model for LifeState {
+    ghost use Rattle.scrape_loop.specs.Sets.{IsRising};
     ghost use Rattle.scrape_loop.specs.Tracked.{LifeView};
 
     ghost Value = { LifeView };
 
     ghost view = { λ s. record { life = s.life; target = s.target; tracked = s.tracked; known = s.known } };
+
+    ghost invariant = { λ s. IsRising s.tracked × IsRising s.known };
 }
 
 impl LifeState {
@@ -50,13 +54,12 @@ impl LifeState {
         requires nameless { bears target metric_label ≡ false }
         ensures { IfOk result (λ s. s ≡ spec.fresh life target) }
     {
+        let none = RisingSets::new(alloc);
         Ok(LifeState {
             life,
-            target: TargetLabels::new(target),
-            tracked: SetList {
-                items: Vec::new(alloc),
-            },
-            known: RisingSets::new(alloc),
+            target: TargetLabels::of(alloc, target)?,
+            tracked: none.list(alloc)?,
+            known: none.list(alloc)?,
         })
     }
 
@@ -68,39 +71,58 @@ impl LifeState {
         self.target.set()
     }
 
+    /// The sets that the last counted scrape tracked, rising.
+    pub fn tracked(&self) -> &[LabelSet]
+        ensures sets { result.now ≡ self.now.tracked }
+        ensures rising { IsRising self.now.tracked }
+    {
+        self.tracked.as_slice()
+    }
+
+    /// All sets of the last good scrape, rising.
+    pub fn known(&self) -> &[LabelSet]
+        ensures sets { result.now ≡ self.now.known }
+        ensures rising { IsRising self.now.known }
+    {
+        self.known.as_slice()
+    }
+
     /// The entries of a scrape that started at a moment, by its sets and the milliseconds that it took.
     fn entries_of(
         &self,
         alloc: Global,
-        scrape: &Scrape,
+        scrape: Scrape,
         sets: &ScrapeSets,
         moment: i64,
         took: i64,
     ) -> Result<EntryList, NoMemory>
-        requires tracked { sets.now.tracked ≡ spec.tracked_sets scrape.now }
-        requires all { sets.now.all ≡ spec.all_sets scrape.now }
+        requires tracked { sets.now.tracked ≡ spec.tracked_sets scrape }
+        requires all { sets.now.all ≡ spec.all_sets scrape }
+        requires tracked_rise { IsRising sets.now.tracked }
+        requires all_rise { IsRising sets.now.all }
         requires took { pos 0 ≤ℤ took }
-        ensures { IfOk result (λ l. l ≡ entries_of self.now scrape.now moment took) }
+        ensures { IfOk result (λ l. l ≡ entries_of self.now scrape moment took) }
     {
-        let counts = counts_of(scrape, took, &sets.all, &self.known);
-        let mut last = reports(alloc, self.life, self.target.set(), moment, &counts)?;
-        let samples = samples_in(scrape);
-        let mut items = Vec::with_capacity(alloc, samples.len())?;
-        push_samples(alloc, &mut items, self.life, moment, samples)?;
-        let before = self.tracked.as_slice();
-        push_stale(&mut items, self.life, moment, before, &sets.tracked)?;
+        let counts = counts_of(&scrape, took, sets.all.as_slice(), self.known());
+        let sets_of_reports = self.target.report_sets();
+        let mut last = sets_of_reports.reports(alloc, self.life, moment, &counts)?;
+        let mut items = Vec::new(alloc);
+        push_samples(&mut items, self.life, moment, into_samples(alloc, scrape))?;
+        let now = sets.tracked.as_slice();
+        push_stale(&mut items, self.life, moment, self.tracked(), now)?;
         items.append(&mut last.items)?;
         Ok(EntryList { items })
     }
 
-    /// Counts a scrape, with the sets that it tracks and all its sets.
-    fn settle(&mut self, scrape: &Scrape, tracked: SetList, all: RisingSets)
-        requires tracked { tracked ≡ spec.tracked_sets scrape.now }
-        requires all { all ≡ spec.all_sets scrape.now }
-        ensures { self.new ≡ spec.after_scrape self.old scrape.now }
+    /// Counts a scrape with this fault, if it isn't good, and these sets.
+    fn settle(&mut self, fault: Option<ScrapeFault>, sets: ScrapeSets)
+        requires tracked_rise { IsRising sets.tracked }
+        requires all_rise { IsRising sets.all }
+        ensures { self.new ≡ spec.settled self.old (is_none fault) sets.tracked sets.all }
     {
+        let ScrapeSets { tracked, all } = sets;
         self.tracked = tracked;
-        if fault_in(scrape).is_none() {
+        if fault.is_none() {
             self.known = all;
         }
     }
@@ -117,7 +139,7 @@ impl LifeState {
     ///
     /// # Errors
     ///
-    /// Only want of memory refuses; the state and the book's entries are then as before.
+    /// Only want of memory refuses; the state and the book, its room too, are then as before.
     pub fn count<L: Ledger>(
         &mut self,
         alloc: Global,
@@ -133,19 +155,19 @@ impl LifeState {
         ensures fault { IfOk result (λ f. f ≡ spec.fault_of (spec.outcome_for self.old rules.now metric.now reply.now took)) }
         ensures entries { OnOk result (book.new.entries ≡ book.old.entries ++ entries_of self.old (spec.outcome_for self.old rules.now metric.now reply.now took) moment took) }
         ensures state { OnOk result (self.new ≡ spec.after_scrape self.old (spec.outcome_for self.old rules.now metric.now reply.now took)) }
+        ensures spare { OnOk result (book.old.spare ≤ book.new.spare + length (entries_of self.old (spec.outcome_for self.old rules.now metric.now reply.now took) moment took)) }
         ensures err_state { OnErr result (self.new ≡ self.old) }
-        ensures err_book { OnErr result (book.new.entries ≡ book.old.entries) }
+        ensures err_book { OnErr result (book.new ≡ book.old) }
         ensures steps { OnOk result (steps.new ≡ steps.old + runs rules.now reply.now took) }
         ensures at_least { steps.old ≤ steps.new }
     {
         let scrape = rows(alloc, rules, metric, self.target.set(), reply, took, steps)?;
+        let fault = fault_in(&scrape);
         let sets = sets_of(alloc, &scrape)?;
-        let entries = self.entries_of(alloc, &scrape, &sets, moment, took)?;
-        let ScrapeSets { tracked, all } = sets;
-        let tracked = tracked.list(alloc)?;
+        let entries = self.entries_of(alloc, scrape, &sets, moment, took)?;
         book.append_all(entries)?;
-        self.settle(&scrape, tracked, all);
-        Ok(fault_in(&scrape))
+        self.settle(fault, sets);
+        Ok(fault)
     }
 
     /// The entries of a forced scrape at a moment, one that is not made, since the job has more targets than its `target_limit`:
@@ -165,7 +187,7 @@ impl LifeState {
             left: 0,
         };
         let sets = sets_of(alloc, &scrape)?;
-        self.entries_of(alloc, &scrape, &sets, moment, 0)
+        self.entries_of(alloc, scrape, &sets, moment, 0)
     }
 
     /// Makes a forced scrape the last counted one: it tracks nothing, and the sets of the last good scrape stay known. It takes no memory.
@@ -173,6 +195,13 @@ impl LifeState {
         ensures state { self.new ≡ spec.after_scrape self.old forced }
         ensures none_tracked { self.new ≡ record self.old { tracked = [] } }
     {
-        self.tracked.items.clear();
+        clear(&mut self.tracked);
     }
+}
+
+/// Takes all sets out of a list.
+fn clear(sets: &mut SetList)
+    ensures { sets.new ≡ [] }
+{
+    sets.items.clear();
 }

@@ -1,8 +1,8 @@
 //! Sets of label sets, each once, in rising order.
-ghost use Rattle.std.specs.Prelude.{◌≡◌, [], ◌∷◌, OnOk, OnErr, IfOk, length};
+ghost use Rattle.std.specs.Prelude.{◌≡◌, [], OnOk, IfOk};
 ghost use Rattle.std.specs.BTreeSet.{insert_key};
 ghost use Rattle.label_set.specs.Sets.{set_cmp};
-ghost use Rattle.scrape_loop.specs.Sets.{has, gone};
+ghost use Rattle.scrape_loop.specs.Sets.{IsRising};
 
 use label_set::{LabelSet, NoMemory, SetList};
 use std::alloc::Global;
@@ -42,30 +42,10 @@ impl RisingSets {
         Ok(())
     }
 
-    /// Whether the set is there.
-    pub fn contains(&self, set: &LabelSet) -> bool
-        ensures { result ≡ has set.now self.now }
-    {
-        self.sets.contains(set)
-    }
-
-    /// How many sets there are.
-    pub fn len(&self) -> usize
-        ensures { result ≡ length self.now }
-    {
-        self.sets.len()
-    }
-
-    /// How many of them aren't among the others.
-    pub fn count_without(&self, others: &RisingSets) -> usize
-        ensures { result ≡ length (gone self.now others.now) }
-    {
-        self.sets.iter().filter(|set| !others.contains(set)).count()
-    }
-
     /// Their list.
     pub fn list(&self, alloc: Global) -> Result<SetList, NoMemory>
-        ensures { IfOk result (λ l. l ≡ self.now) }
+        ensures list { IfOk result (λ l. l ≡ self.now) }
+        ensures rising { IsRising self.now }
     {
         let mut items = Vec::new(alloc);
         for set in self.sets.iter() {

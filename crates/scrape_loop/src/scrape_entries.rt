@@ -1,25 +1,24 @@
 //! The entries of a scrape.
 ghost use Rattle.std.specs.Prelude.{◌≡◌, ◌++◌, map, IfOk, OnOk};
 ghost use Rattle.scrape_loop.specs.Entries as spec;
-ghost use Rattle.scrape_loop.specs.Sets.{gone};
+ghost use Rattle.scrape_loop.specs.Sets.{IsRising, gone, unless_first};
 ghost use Rattle.scrape_loop.specs.Tracked.{all_sets};
 
-use crate::rising::RisingSets;
+use crate::walk::{begins_with, count_without, from_set};
 use label_set::{LabelSet, NoMemory};
 use report_samples::{Entry, Kind, ReportCounts};
 use sample_rows::{Sample, Scrape};
-use std::alloc::Global;
 
-fn sample_entry(alloc: Global, life: u64, moment: i64, sample: &Sample) -> Result<Entry, NoMemory>
-    ensures { IfOk result (λ e. e ≡ spec.sample_entry life moment sample.now) }
+fn sample_entry(life: u64, moment: i64, sample: Sample) -> Entry
+    ensures { result ≡ spec.sample_entry life moment sample }
 {
-    Ok(Entry {
+    Entry {
         life,
         kind: Kind::Scraped,
-        series: sample.set.copy()?,
+        series: sample.set,
         moment: sample.stamp.unwrap_or(moment),
-        value: Some(sample.value.copy(alloc)?),
-    })
+        value: Some(sample.value),
+    }
 }
 
 fn stale_entry(life: u64, moment: i64, set: &LabelSet) -> Result<Entry, NoMemory>
@@ -36,19 +35,37 @@ fn stale_entry(life: u64, moment: i64, set: &LabelSet) -> Result<Entry, NoMemory
 
 /// Adds the samples of a scrape that started at a moment.
 pub fn push_samples(
-    alloc: Global,
     entries: &mut Vec<Entry>,
     life: u64,
     moment: i64,
-    samples: &[Sample],
+    samples: Vec<Sample>,
 ) -> Result<(), NoMemory>
-    ensures { OnOk result (entries.new.items ≡ entries.old.items ++ map (spec.sample_entry life moment) samples.now) }
+    ensures { OnOk result (entries.new.items ≡ entries.old.items ++ map (spec.sample_entry life moment) samples.items) }
 {
+    entries.reserve(samples.len())?;
     for sample in samples {
-        let entry = sample_entry(alloc, life, moment, sample)?;
         entries.reserve(1)?;
-        entries.push_reserved(entry);
+        entries.push_reserved(sample_entry(life, moment, sample));
     }
+    Ok(())
+}
+
+/// Adds a stale marker for a set, unless it is the first of those now.
+fn push_if_gone(
+    entries: &mut Vec<Entry>,
+    life: u64,
+    moment: i64,
+    now: &[LabelSet],
+    set: &LabelSet,
+) -> Result<(), NoMemory>
+    ensures { OnOk result (entries.new.items ≡ entries.old.items ++ map (spec.stale_entry life moment) (unless_first set.now now.now)) }
+{
+    if begins_with(now, set) {
+        return Ok(());
+    }
+    let entry = stale_entry(life, moment, set)?;
+    entries.reserve(1)?;
+    entries.push_reserved(entry);
     Ok(())
 }
 
@@ -58,26 +75,28 @@ pub fn push_stale(
     life: u64,
     moment: i64,
     before: &[LabelSet],
-    now: &RisingSets,
+    now: &[LabelSet],
 ) -> Result<(), NoMemory>
+    requires before { IsRising before.now }
+    requires now { IsRising now.now }
     ensures { OnOk result (entries.new.items ≡ entries.old.items ++ map (spec.stale_entry life moment) (gone before.now now.now)) }
 {
+    let mut rest = now;
     for set in before {
-        if !now.contains(set) {
-            let entry = stale_entry(life, moment, set)?;
-            entries.reserve(1)?;
-            entries.push_reserved(entry);
-        }
+        rest = from_set(rest, set);
+        push_if_gone(entries, life, moment, rest, set)?;
     }
     Ok(())
 }
 
 /// What the reports of a scrape say, by all its sets and those of the last good one.
-pub fn counts_of(scrape: &Scrape, took: i64, all: &RisingSets, known: &RisingSets) -> ReportCounts
-    requires { all.now ≡ all_sets scrape.now }
+pub fn counts_of(scrape: &Scrape, took: i64, all: &[LabelSet], known: &[LabelSet]) -> ReportCounts
+    requires all { all.now ≡ all_sets scrape.now }
+    requires all_rise { IsRising all.now }
+    requires known_rise { IsRising known.now }
     ensures { result ≡ spec.counts_of known.now scrape.now took }
 {
-    let added = all.count_without(known) as u64;
+    let added = count_without(all, known) as u64;
     match scrape {
         Scrape::Good { rows, scraped } => ReportCounts {
             up: true,

@@ -1,20 +1,22 @@
 //! The sets of a scrape.
-ghost use Rattle.std.specs.Prelude.{◌≡◌, IfOk};
-ghost use Rattle.scrape_loop.specs.Sets.{rising};
+ghost use Rattle.std.specs.Prelude.{◌≡◌, IfOk, is_none};
+ghost use Rattle.std.specs.List.{list_all};
+ghost use Rattle.sample_rows.specs.declared.scrape.Sample.{Sample as SampleView};
+ghost use Rattle.scrape_loop.specs.Sets.{IsRising, rising};
 ghost use Rattle.scrape_loop.specs.Tracked as spec;
 
 use crate::rising::RisingSets;
-use label_set::NoMemory;
+use label_set::{NoMemory, SetList};
 use sample_rows::{Sample, Scrape, ScrapeFault};
 use std::alloc::Global;
 
-/// The sets of a scrape.
+/// The sets of a scrape, rising.
 #[derive(Drop)]
 pub struct ScrapeSets {
     /// Those that it tracks.
-    pub tracked: RisingSets,
+    pub tracked: SetList,
     /// All.
-    pub all: RisingSets,
+    pub all: SetList,
 }
 
 /// The fault of a scrape, where it isn't good.
@@ -48,6 +50,20 @@ pub fn samples_in(scrape: &Scrape) -> &[Sample]
     }
 }
 
+/// The samples of a scrape, given up by it.
+pub fn into_samples(alloc: Global, scrape: Scrape) -> Vec<Sample>
+    ensures { result.items ≡ spec.samples_of scrape }
+{
+    match scrape {
+        Scrape::Good { rows, scraped: _ } => rows.items,
+        Scrape::Bad {
+            fault: _,
+            scraped: _,
+            left: _,
+        } => Vec::new(alloc),
+    }
+}
+
 /// The sets of some samples, each once, rising.
 fn all_sets(alloc: Global, samples: &[Sample]) -> Result<RisingSets, NoMemory>
     ensures { IfOk result (λ s. s ≡ rising (spec.sets_in samples.now)) }
@@ -76,14 +92,37 @@ fn tracked_sets(alloc: Global, samples: &[Sample]) -> Result<RisingSets, NoMemor
     Ok(sets)
 }
 
+/// Whether no sample has a timestamp of its own.
+fn is_unstamped(samples: &[Sample]) -> bool
+    ensures { result ≡ list_all (λ (r : SampleView). is_none r.stamp) samples.now }
+{
+    samples.iter().all(|sample| sample.stamp.is_none())
+}
+
+/// The list of the sets that some samples track, of which all sets are given: most samples have no timestamp of their own.
+#[tactic(auto, using(crate::proofs::SampleLemmas::tracked_all))]
+fn tracked_list(alloc: Global, samples: &[Sample], all: &RisingSets) -> Result<SetList, NoMemory>
+    requires { all.now ≡ rising (spec.sets_in samples.now) }
+    ensures list { IfOk result (λ l. l ≡ rising (spec.tracked_in samples.now)) }
+    ensures rises { IfOk result (λ l. IsRising l) }
+{
+    if is_unstamped(samples) {
+        return all.list(alloc);
+    }
+    tracked_sets(alloc, samples)?.list(alloc)
+}
+
 /// The sets of a scrape.
 pub fn sets_of(alloc: Global, scrape: &Scrape) -> Result<ScrapeSets, NoMemory>
     ensures tracked { IfOk result (λ s. s.tracked ≡ spec.tracked_sets scrape.now) }
     ensures all { IfOk result (λ s. s.all ≡ spec.all_sets scrape.now) }
+    ensures tracked_rise { IfOk result (λ s. IsRising s.tracked) }
+    ensures all_rise { IfOk result (λ s. IsRising s.all) }
 {
     let samples = samples_in(scrape);
+    let sets = all_sets(alloc, samples)?;
     Ok(ScrapeSets {
-        tracked: tracked_sets(alloc, samples)?,
-        all: all_sets(alloc, samples)?,
+        tracked: tracked_list(alloc, samples, &sets)?,
+        all: sets.list(alloc)?,
     })
 }

@@ -1,15 +1,17 @@
 //! Labels of targets.
-ghost use Rattle.std.specs.Prelude.{◌≡◌, false};
+ghost use Rattle.std.specs.Prelude.{◌≡◌, false, IfOk};
 ghost use Rattle.label_conflict.specs.Merging.{bears};
 ghost use Rattle.label_set.specs.SetText.{metric_label};
 
-use label_set::LabelSet;
+use label_set::{LabelSet, NoMemory};
+use report_samples::ReportSets;
+use std::alloc::Global;
 use std::marker::Model;
 
-/// The labels of a target, which have no `__name__`; seen as their list.
+/// The labels of a target, which have no `__name__`, with the sets of its reports; seen as the list of the labels.
 #[derive(Debug, Drop)]
 pub struct TargetLabels {
-    set: LabelSet,
+    sets: ReportSets,
 }
 
 impl Model for TargetLabels {
@@ -20,18 +22,20 @@ impl Model for TargetLabels {
 
     ghost Value = { List Pair };
 
-    ghost view = { λ t. t.set };
+    ghost view = { λ t. t.sets };
 
-    ghost invariant = { λ t. bears t.set metric_label ≡ false };
+    ghost invariant = { λ t. bears t.sets metric_label ≡ false };
 }
 
 impl TargetLabels {
     /// The labels of a set without `__name__`.
-    pub fn new(set: LabelSet) -> TargetLabels
+    pub fn of(alloc: Global, set: LabelSet) -> Result<TargetLabels, NoMemory>
         requires { bears set metric_label ≡ false }
-        ensures { result ≡ set }
+        ensures { IfOk result (λ t. t ≡ set) }
     {
-        TargetLabels { set }
+        Ok(TargetLabels {
+            sets: ReportSets::of(alloc, set)?,
+        })
     }
 
     /// The set of the labels.
@@ -39,6 +43,13 @@ impl TargetLabels {
         ensures value { result.now ≡ self.now }
         ensures nameless { bears self.now metric_label ≡ false }
     {
-        &self.set
+        self.sets.target()
+    }
+
+    /// The sets of the reports.
+    pub fn report_sets(&self) -> &ReportSets
+        ensures { result.now ≡ self.now }
+    {
+        &self.sets
     }
 }

@@ -168,9 +168,7 @@ fn no_rules(alloc: Global) -> Result<Rules, NoMemory> {
 fn is_named(set: &LabelSet) -> bool
     ensures { result ≡ bears set.now metric_label }
 {
-    set.pairs()
-        .iter()
-        .any(|label| label.name.as_str() == "__name__")
+    set.get("__name__").is_some()
 }
 
 fn target(alloc: Global) -> Result<LabelSet, NoMemory> {
