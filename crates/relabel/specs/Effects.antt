@@ -1,7 +1,6 @@
--- How a rule that was built stands to its settings, and the plain steps of the actions that go over labels.
+-- What the actions that go over labels do to each of them.
 use Rattle.std.specs.Prelude.{ℕ, Bool, List, [], ◌∷◌, not, Option, None, Some, if◌then◌else◌}
 use Rattle.label_set.specs.Bytes.{is_label_name}
-use Rattle.label_set.specs.Sets.{with_label}
 use Rattle.label_set.specs.declared.texts.Pair.{Pair}
 use Rattle.pattern_rule.specs.Patterns.{TemplateOf, matches}
 
@@ -13,11 +12,6 @@ stays keep pattern p = if keep then matches pattern p.name else not (matches pat
 abbrev pub label_of : Option (List ℕ) → List ℕ → List Pair
 label_of None value = []
 label_of (Some name) value = if is_label_name name then record { name = name; value = value } ∷ [] else []
-
--- labels set one after another
-abbrev pub set_each : List Pair → List Pair → List Pair
-set_each [] set = set
-set_each (p ∷ ps) set = set_each ps (with_label set p.name p.value)
 
 -- a template that was read for a pattern
 abbrev pub template_of : List ℕ → List ℕ → TemplateOf
