@@ -1,3 +1,5 @@
 pub mod FreeLemmas
 pub mod OrderLemmas
 pub mod JoinLemmas
+pub mod LentLemmas
+pub mod MergeLemmas

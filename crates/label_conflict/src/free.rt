@@ -1,18 +1,37 @@
 //! Names that no label bears yet.
-ghost use Rattle.std.specs.Prelude.{◌≡◌, ℕ, List, IfOk, Some};
+ghost use Rattle.std.specs.Prelude.{◌≡◌, ◌++◌, ℕ, List, map, IfOk, Some};
+ghost use Rattle.label_set.specs.Lent.{pair_of};
 ghost use Rattle.label_set.specs.declared.texts.Pair.{Pair};
 ghost use Rattle.label_conflict.specs.Merging as spec;
 ghost use Rattle.label_conflict.specs.Merging.{bears, exported};
 ghost use Rattle.label_conflict.specs.Laws.{HasFreeName};
 
-use label_set::{Name, NoMemory, Pair};
+use label_set::{Label, Name, NoMemory, Pair};
 use std::alloc::Global;
 
 /// Whether one of the labels bears a name.
-pub fn bears_name(pairs: &[Pair], name: &str) -> bool
-    ensures { result ≡ bears pairs.now name.now }
+pub fn bears_name(labels: &[Label<'_>], name: &str) -> bool
+    ensures { result ≡ bears (map pair_of labels.now) name.now }
 {
-    pairs.iter().any(|p| p.name.as_str() == name)
+    for label in labels {
+        if label.name == name {
+            return true;
+        }
+    }
+    false
+}
+
+fn is_renamed(renamed: &[Pair], name: &str) -> bool
+    ensures { result ≡ bears renamed.now name.now }
+{
+    renamed.iter().any(|pair| pair.name.as_str() == name)
+}
+
+/// Whether one of the labels, or of those that were renamed, bears a name.
+fn is_taken(labels: &[Label<'_>], renamed: &[Pair], name: &str) -> bool
+    ensures { result ≡ bears (map pair_of labels.now ++ renamed.now) name.now }
+{
+    bears_name(labels, name) || is_renamed(renamed, name)
 }
 
 /// A name with `exported_` in front of it.
@@ -24,12 +43,17 @@ fn exported_name(alloc: Global, name: &str) -> Result<Name, NoMemory>
     Ok(Name { text })
 }
 
-/// The first of `exported_` in front of a name once, twice, .. that no label bears.
-pub fn free_name(alloc: Global, pairs: &[Pair], name: &str) -> Result<Name, NoMemory>
-    ensures { IfOk result (λ n. spec.free_name pairs.now name.now ≡ Some n) }
+/// The first of `exported_` in front of a name once, twice, .. that no label bears, nor one that was renamed.
+pub fn free_name(
+    alloc: Global,
+    labels: &[Label<'_>],
+    renamed: &[Pair],
+    name: &str,
+) -> Result<Name, NoMemory>
+    ensures { IfOk result (λ n. spec.free_name (map pair_of labels.now ++ renamed.now) name.now ≡ Some n) }
 {
     let mut free = exported_name(alloc, name)?;
-    while bears_name(pairs, free.as_str()) {
+    while is_taken(labels, renamed, free.as_str()) {
         free = exported_name(alloc, free.as_str())?;
     }
     Ok(free)

@@ -1,137 +1,140 @@
 //! Labels gathered from a line and a target.
-ghost use Rattle.std.specs.Prelude.{◌≡◌, ◌++◌, ◌&&◌, not, filter, IfOk, OnOk};
+ghost use Rattle.std.specs.Prelude.{◌≡◌, ◌++◌, ◌&&◌, map, filter, IfOk, OnOk};
 ghost use Rattle.std.specs.List.Sorted.{IsPermutation, IsSorted};
-ghost use Rattle.label_conflict.specs.Merging as spec;
 ghost use Rattle.std.specs.List.{IsDistinct};
 ghost use Rattle.std.specs.Str.{bytes_eq};
+ghost use Rattle.label_set.specs.Lent.{pair_of};
+ghost use Rattle.label_set.specs.Sets.{IsSet};
+ghost use Rattle.label_conflict.specs.Merging as spec;
 ghost use Rattle.label_conflict.specs.Merging.{bears, names_of, name_label, apart_from, settled};
-ghost use Rattle.label_conflict.specs.Orders.{by_name, by_length};
+ghost use Rattle.label_conflict.specs.Orders.{by_length};
 
 use crate::free::{bears_name, free_name};
-use label_set::{NoMemory, Pair};
+use label_set::{Label, LabelSet, NoMemory, Pair};
 use std::alloc::Global;
 use std::cmp::Ordering;
 
-fn has_value(pair: &Pair) -> bool
-    ensures { result ≡ spec.has_value pair.now }
+fn has_value(label: Label<'_>) -> bool
+    ensures { result ≡ spec.has_value (pair_of label.entry) }
 {
-    !pair.value.as_str().is_empty()
+    !label.value.is_empty()
 }
 
 /// Adds the metric name as the value of `__name__`, if it isn't empty.
-pub fn push_name(alloc: Global, out: &mut Vec<Pair>, name: &str) -> Result<(), NoMemory>
-    ensures { OnOk result (out.new.items ≡ out.old.items ++ name_label name.now) }
+pub fn push_name<'a>(out: &mut Vec<Label<'a>>, name: &'a str) -> Result<(), NoMemory>
+    ensures { OnOk result (map pair_of out.new.items ≡ map pair_of out.old.items ++ name_label name.now) }
 {
     if !name.is_empty() {
-        out.push(Pair::from_strs(alloc, "__name__", name)?)?;
+        out.push(Label {
+            name: "__name__",
+            value: name,
+        })?;
     }
     Ok(())
 }
 
-/// Adds copies of all labels.
-pub fn push_all(alloc: Global, out: &mut Vec<Pair>, pairs: &[Pair]) -> Result<(), NoMemory>
-    ensures { OnOk result (out.new.items ≡ out.old.items ++ pairs.now) }
+/// Adds all labels of a set.
+pub fn push_all<'a>(out: &mut Vec<Label<'a>>, set: &'a LabelSet) -> Result<(), NoMemory>
+    ensures labels { OnOk result (map pair_of out.new.items ≡ map pair_of out.old.items ++ set.now) }
+    ensures set { OnOk result (IsSet set.now) }
 {
-    for pair in pairs {
-        out.push(pair.copy(alloc)?)?;
+    for label in set.labels() {
+        out.push(label)?;
     }
     Ok(())
 }
 
-/// Adds copies of the labels that have a value.
-pub fn push_valued(alloc: Global, out: &mut Vec<Pair>, pairs: &[Pair]) -> Result<(), NoMemory>
-    ensures { OnOk result (out.new.items ≡ out.old.items ++ filter spec.has_value pairs.now) }
+/// Adds the labels that have a value.
+pub fn push_valued<'a>(out: &mut Vec<Label<'a>>, labels: &[Label<'a>]) -> Result<(), NoMemory>
+    ensures { OnOk result (map pair_of out.new.items ≡ map pair_of out.old.items ++ filter spec.has_value (map pair_of labels.now)) }
 {
-    for pair in pairs {
-        if has_value(pair) {
-            out.push(pair.copy(alloc)?)?;
+    for label in labels {
+        if has_value(*label) {
+            out.push(*label)?;
         }
     }
     Ok(())
 }
 
-/// Adds copies of the labels that have a value and whose names none of the others bears.
-pub fn push_apart(
-    alloc: Global,
-    out: &mut Vec<Pair>,
-    pairs: &[Pair],
-    others: &[Pair],
+/// Adds the labels that have a value and whose names none of the others bears.
+pub fn push_apart<'a>(
+    out: &mut Vec<Label<'a>>,
+    labels: &[Label<'a>],
+    others: &[Label<'_>],
 ) -> Result<(), NoMemory>
-    ensures { OnOk result (out.new.items ≡ out.old.items ++ apart_from others.now pairs.now) }
+    ensures { OnOk result (map pair_of out.new.items
+        ≡ map pair_of out.old.items ++ apart_from (map pair_of others.now) (map pair_of labels.now)) }
 {
-    for pair in pairs {
-        if has_value(pair) && !bears_name(others, pair.name.as_str()) {
-            out.push(pair.copy(alloc)?)?;
+    for label in labels {
+        if has_value(*label) && !bears_name(others, label.name) {
+            out.push(*label)?;
         }
     }
     Ok(())
 }
 
-/// Copies of the labels that have a value and whose names one of the others bears. Where there is none, it takes no memory.
-fn shared_names(alloc: Global, pairs: &[Pair], others: &[Pair]) -> Result<Vec<Pair>, NoMemory>
-    ensures { IfOk result (λ v. v.items ≡ filter (λ p. spec.has_value p && bears others.now p.name) pairs.now) }
+/// The labels that have a value and whose names one of the others bears. Where there is none, it takes no memory.
+fn shared_names<'a>(
+    alloc: Global,
+    labels: &[Label<'a>],
+    others: &[Label<'_>],
+) -> Result<Vec<Label<'a>>, NoMemory>
+    ensures { IfOk result (λ v. map pair_of v.items
+        ≡ filter (λ p. spec.has_value p && bears (map pair_of others.now) p.name) (map pair_of labels.now)) }
 {
     let mut out = Vec::new(alloc);
-    for pair in pairs {
-        if has_value(pair) && bears_name(others, pair.name.as_str()) {
-            out.push(pair.copy(alloc)?)?;
+    for label in labels {
+        if has_value(*label) && bears_name(others, label.name) {
+            out.push(*label)?;
         }
     }
     Ok(out)
 }
 
-fn length_order(p: &Pair, q: &Pair) -> Ordering
-    ensures { result ≡ by_length p.now q.now }
+fn length_order(one: Label<'_>, other: Label<'_>) -> Ordering
+    ensures { result ≡ by_length (pair_of one.entry) (pair_of other.entry) }
 {
-    p.name
-        .as_str()
+    one.name
         .len()
-        .cmp(&q.name.as_str().len())
-        .then(name_order(p, q))
-}
-
-fn name_order(p: &Pair, q: &Pair) -> Ordering
-    ensures { result ≡ by_name p.now q.now }
-{
-    p.name.as_str().cmp(q.name.as_str())
+        .cmp(&other.name.len())
+        .then(one.name.cmp(other.name))
 }
 
 /// Puts labels into the order of their names' lengths, and then of their names.
-fn sort_by_length(pairs: &mut Vec<Pair>)
-    ensures moved { IsPermutation pairs.old.items pairs.new.items }
-    ensures sorted { IsSorted by_length pairs.new.items }
+fn sort_by_length(labels: &mut Vec<Label<'_>>)
+    ensures moved { IsPermutation labels.old.items labels.new.items }
+    ensures sorted { IsSorted (λ one other. by_length (pair_of one) (pair_of other)) labels.new.items }
 {
-    pairs.sort_unstable_by(|p, q| length_order(p, q));
-}
-
-/// Puts labels into the order of their names.
-pub fn sort_by_name(pairs: &mut Vec<Pair>)
-    ensures moved { IsPermutation pairs.old.items pairs.new.items }
-    ensures sorted { IsSorted by_name pairs.new.items }
-{
-    pairs.sort_unstable_by(|p, q| name_order(p, q));
+    labels.sort_unstable_by(|one, other| length_order(*one, *other));
 }
 
 /// The conflicts, in the order in which they are settled.
-pub fn conflicts(alloc: Global, exposed: &[Pair], target: &[Pair]) -> Result<Vec<Pair>, NoMemory>
-    requires { IsDistinct bytes_eq (names_of exposed.now) }
-    ensures { IfOk result (λ v. v.items ≡ spec.conflicts exposed.now target.now) }
+pub fn conflicts<'a>(
+    alloc: Global,
+    exposed: &[Label<'a>],
+    target: &[Label<'_>],
+) -> Result<Vec<Label<'a>>, NoMemory>
+    requires { IsDistinct bytes_eq (names_of (map pair_of exposed.now)) }
+    ensures { IfOk result (λ v. map pair_of v.items ≡ spec.conflicts (map pair_of exposed.now) (map pair_of target.now)) }
 {
     let mut found = shared_names(alloc, exposed, target)?;
     sort_by_length(&mut found);
     Ok(found)
 }
 
-/// Adds labels, each under a name that is free by then.
-pub fn push_renamed(alloc: Global, out: &mut Vec<Pair>, pairs: Vec<Pair>) -> Result<(), NoMemory>
-    ensures { OnOk result (out.new.items ≡ settled pairs.items out.old.items) }
+/// The labels of conflicts, each under a name that is free by then.
+pub fn renamed(
+    alloc: Global,
+    labels: &[Label<'_>],
+    conflicts: &[Label<'_>],
+) -> Result<Vec<Pair>, NoMemory>
+    ensures { IfOk result (λ v. settled (map pair_of conflicts.now) (map pair_of labels.now) ≡ map pair_of labels.now ++ v.items) }
 {
-    for pair in pairs {
-        let name = free_name(alloc, out.as_slice(), pair.name.as_str())?;
-        out.push(Pair {
-            name,
-            value: pair.value,
-        })?;
+    let mut out = Vec::new(alloc);
+    for place in 0..conflicts.len() {
+        let label = conflicts[place];
+        let name = free_name(alloc, labels, out.as_slice(), label.name)?;
+        out.push(Pair::from_strs(alloc, name.as_str(), label.value)?)?;
     }
-    Ok(())
+    Ok(out)
 }

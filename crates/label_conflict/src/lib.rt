@@ -8,4 +8,4 @@ mod gather;
 mod sample;
 
 pub use free::always_free;
-pub use sample::merge;
+pub use sample::{merge, merge_lent};

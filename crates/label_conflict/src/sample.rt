@@ -1,73 +1,62 @@
 //! Labels of a line joined with those of its target.
-ghost use Rattle.std.specs.Prelude.{◌≡◌, [], false, true, IfOk};
+ghost use Rattle.std.specs.Prelude.{◌≡◌, ◌++◌, [], map, false, true, IfOk};
 ghost use Rattle.std.specs.List.{IsDistinct};
 ghost use Rattle.std.specs.Str.{bytes_eq};
+ghost use Rattle.label_set.specs.Lent.{pair_of};
 ghost use Rattle.label_set.specs.SetText.{metric_label};
-ghost use Rattle.label_conflict.specs.Merging.{bears, names_of, joined, merged};
+ghost use Rattle.label_conflict.specs.Merging.{bears, names_of, name_label, apart_from, settled, joined, merged};
+ghost use Rattle.label_set.specs.Lasts.{with_labels};
 
-use crate::gather::{
-    conflicts, push_all, push_apart, push_name, push_renamed, push_valued, sort_by_name,
-};
-use label_set::{LabelSet, NoMemory, Pair};
+use crate::gather::{conflicts, push_all, push_apart, push_name, push_valued, renamed};
+use label_set::{Label, LabelSet, NoMemory, Pair, lent};
 use std::alloc::Global;
 
-/// Room for the metric name and the labels of both.
-fn room_for(alloc: Global, exposed: &[Pair], target: &[Pair]) -> Result<Vec<Pair>, NoMemory>
-    ensures { IfOk result (λ v. v.items ≡ []) }
+/// The metric name, the labels of the line, and those of the target whose names it doesn't expose.
+fn honored<'a>(
+    alloc: Global,
+    name: &'a str,
+    exposed: &[Label<'a>],
+    target: &[Label<'a>],
+) -> Result<Vec<Label<'a>>, NoMemory>
+    ensures { IfOk result (λ v. map pair_of v.items ≡ joined name.now (map pair_of exposed.now) (map pair_of target.now) true) }
 {
-    Ok(Vec::with_capacity(alloc, exposed.len() + target.len() + 1)?)
+    let mut labels = Vec::new(alloc);
+    push_name(&mut labels, name)?;
+    push_valued(&mut labels, exposed)?;
+    push_apart(&mut labels, target, exposed)?;
+    Ok(labels)
 }
 
-/// The labels of the line, and those of the target whose names it doesn't expose.
-fn honored(
+/// The metric name, the labels of the line whose names the target doesn't bear, and those of the target.
+fn without_conflicts<'a>(
     alloc: Global,
-    name: &str,
-    exposed: &[Pair],
-    target: &[Pair],
-) -> Result<Vec<Pair>, NoMemory>
-    ensures { IfOk result (λ v. v.items ≡ joined name.now exposed.now target.now true) }
+    name: &'a str,
+    exposed: &[Label<'a>],
+    target: &'a LabelSet,
+    others: &[Label<'_>],
+) -> Result<Vec<Label<'a>>, NoMemory>
+    ensures { IfOk result (λ v. map pair_of v.items
+        ≡ name_label name.now ++ (apart_from (map pair_of others.now) (map pair_of exposed.now) ++ target.now)) }
 {
-    let mut pairs = room_for(alloc, exposed, target)?;
-    push_name(alloc, &mut pairs, name)?;
-    push_valued(alloc, &mut pairs, exposed)?;
-    push_apart(alloc, &mut pairs, target, exposed)?;
-    Ok(pairs)
+    let mut labels = Vec::new(alloc);
+    push_name(&mut labels, name)?;
+    push_apart(&mut labels, exposed, others)?;
+    push_all(&mut labels, target)?;
+    Ok(labels)
 }
 
-/// The labels of the target and those of the line, the conflicts renamed.
-fn renamed(
+/// The set of labels and of conflicts, each under a name that is free by then.
+fn settled_set(
     alloc: Global,
-    name: &str,
-    exposed: &[Pair],
-    target: &[Pair],
-) -> Result<Vec<Pair>, NoMemory>
-    requires { IsDistinct bytes_eq (names_of exposed.now) }
-    ensures { IfOk result (λ v. v.items ≡ joined name.now exposed.now target.now false) }
+    labels: &[Label<'_>],
+    conflicts: &[Label<'_>],
+) -> Result<LabelSet, NoMemory>
+    ensures { IfOk result (λ s. s ≡ with_labels [] (settled (map pair_of conflicts.now) (map pair_of labels.now))) }
 {
-    let mut pairs = room_for(alloc, exposed, target)?;
-    push_name(alloc, &mut pairs, name)?;
-    push_apart(alloc, &mut pairs, exposed, target)?;
-    push_all(alloc, &mut pairs, target)?;
-    push_renamed(alloc, &mut pairs, conflicts(alloc, exposed, target)?)?;
-    Ok(pairs)
-}
-
-/// The labels of a sample in any order.
-fn join(
-    alloc: Global,
-    name: &str,
-    exposed: &[Pair],
-    target: &[Pair],
-    honor: bool,
-) -> Result<Vec<Pair>, NoMemory>
-    requires { IsDistinct bytes_eq (names_of exposed.now) }
-    ensures { IfOk result (λ v. v.items ≡ joined name.now exposed.now target.now honor) }
-{
-    if honor {
-        honored(alloc, name, exposed, target)
-    } else {
-        renamed(alloc, name, exposed, target)
-    }
+    let pairs = renamed(alloc, labels, conflicts)?;
+    let set = LabelSet::of(alloc, labels)?;
+    let given = lent(alloc, pairs.as_slice())?;
+    set.with_all(alloc, given.as_slice())
 }
 
 /// The set of the labels of a sample: those that its line exposes, with the metric name as the value of `__name__`, and those of its
@@ -99,9 +88,36 @@ pub fn merge(
     requires no_name_in_target { bears target.now metric_label ≡ false }
     ensures merged { IfOk result (λ s. s ≡ merged name.now exposed.now target.now honor) }
 {
-    let mut pairs = join(alloc, name, exposed, target.pairs(), honor)?;
-    sort_by_name(&mut pairs);
-    LabelSet::from_pairs(alloc, pairs)
+    let exposed = lent(alloc, exposed)?;
+    merge_lent(alloc, name, exposed.as_slice(), target, honor)
+}
+
+/// The set that `merge` gives, of exposed labels that are lent.
+///
+/// # Errors
+///
+/// Only want of memory refuses.
+pub fn merge_lent(
+    alloc: Global,
+    name: &str,
+    exposed: &[Label<'_>],
+    target: &LabelSet,
+    honor: bool,
+) -> Result<LabelSet, NoMemory>
+    requires names_differ { IsDistinct bytes_eq (names_of (map pair_of exposed.now)) }
+    requires no_name_exposed { bears (map pair_of exposed.now) metric_label ≡ false }
+    requires no_name_in_target { bears target.now metric_label ≡ false }
+    ensures merged { IfOk result (λ s. s ≡ merged name.now (map pair_of exposed.now) target.now honor) }
+{
+    let mut others = Vec::new(alloc);
+    push_all(&mut others, target)?;
+    if honor {
+        let labels = honored(alloc, name, exposed, others.as_slice())?;
+        return LabelSet::of(alloc, labels.as_slice());
+    }
+    let found = conflicts(alloc, exposed, others.as_slice())?;
+    let labels = without_conflicts(alloc, name, exposed, target, others.as_slice())?;
+    settled_set(alloc, labels.as_slice(), found.as_slice())
 }
 
 #[cfg(test)]

@@ -1,3 +1,4 @@
 pub mod PatternLemmas
 pub mod DefaultLemmas
 pub mod WordLemmas
+pub mod TestLemmas

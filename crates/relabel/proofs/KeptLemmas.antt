@@ -5,7 +5,8 @@ use Rattle.std.specs.List.{list_all}
 use Rattle.std.proofs.lemmas.Bool.{and_parts, cond-true}
 use Rattle.label_set.specs.Sets.{with_label}
 use Rattle.label_set.specs.declared.texts.Pair.{Pair}
-use Rattle.relabel.specs.Steps.{set_each, label_of}
+use Rattle.label_set.specs.Lasts.{with_labels}
+use Rattle.relabel.specs.Effects.{label_of}
 use Rattle.relabel.specs.Relabelling.{mapped, with_expanded}
 use Rattle.relabel.specs.declared.conf.RuleConf.{RuleConf}
 use Rattle.pattern_rule.specs.Patterns.{expansion}
@@ -19,29 +20,24 @@ all_stay f (x ∷ xs) e =
     let parts = and_parts (f x) (list_all f xs) e in
     cond-true (f x) (x ∷ filter f xs) (filter f xs) parts.0 ∙ ap (λ ys. x ∷ ys) (all_stay f xs parts.1)
 
--- one more label is set after the others
-pub set_each-push : (ps : List Pair) (p : Pair) (set : List Pair) → set_each (ps ++ p ∷ []) set ≡ with_label (set_each ps set) p.name p.value
-set_each-push [] p set = refl
-set_each-push (q ∷ ps) p set = set_each-push ps p (with_label set q.name q.value)
-
 -- what a label gives under `labelmap`
 abbrev given_by : RuleConf → Pair → List Pair
 given_by r p = label_of (expansion r.regex r.replacement p.name) p.value
 
-module _ (value : List ℕ) (rest set : List Pair) (after : List Pair → List Pair) (more : (s : List Pair) → set_each rest s ≡ after s) where
+module _ (value : List ℕ) (rest set : List Pair) (after : List Pair → List Pair) (more : (s : List Pair) → with_labels s rest ≡ after s) where
   by_name : (b : Bool) (name : List ℕ) →
-      set_each ((if b then record { name = name; value = value } ∷ [] else []) ++ rest) set ≡ after (if b then with_label set name value else set)
+      with_labels set ((if b then record { name = name; value = value } ∷ [] else []) ++ rest) ≡ after (if b then with_label set name value else set)
   by_name true name = more (with_label set name value)
   by_name false name = more set
 
-  one_given : (o : Option (List ℕ)) → set_each (label_of o value ++ rest) set ≡ after (with_expanded set o (Some value))
+  one_given : (o : Option (List ℕ)) → with_labels set (label_of o value ++ rest) ≡ after (with_expanded set o (Some value))
   one_given None = more set
   one_given (Some name) = by_name (is_label_name name) name
 
 -- `labelmap` sets the labels that all labels give
 pub mapped_is : (r : RuleConf) (ps set : List Pair) →
-    set_each (flat_map (λ (p : Pair). label_of (expansion r.regex r.replacement p.name) p.value) ps) set ≡ mapped r ps set
+    with_labels set (flat_map (λ (p : Pair). label_of (expansion r.regex r.replacement p.name) p.value) ps) ≡ mapped r ps set
 mapped_is r [] set = refl
 mapped_is r (p ∷ ps) set =
-    ap (λ xs. set_each xs set) (flat_map-cons (given_by r) p ps)
+    ap (with_labels set) (flat_map-cons (given_by r) p ps)
     ∙ one_given p.value (flat_map (given_by r) ps) set (mapped r ps) (mapped_is r ps) (expansion r.regex r.replacement p.name)

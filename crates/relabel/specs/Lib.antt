@@ -1,4 +1,4 @@
 pub mod Refusals
 pub mod Relabelling
-pub mod Steps
+pub mod Effects
 pub mod Built

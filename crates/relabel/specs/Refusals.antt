@@ -3,7 +3,7 @@ use Rattle.std.specs.Prelude.{◌≡◌, ℕ, ◌+◌, Bool, false, IsSomeAnd, s
 use Rattle.std.specs.Option.{option_or}
 use Rattle.std.specs.List.{list_all}
 use Rattle.label_set.specs.Bytes.{is_label_name}
-use Rattle.pattern_rule.specs.Patterns.{IsPattern, MayBeRefused}
+use Rattle.pattern_rule.specs.Patterns.{is_pattern, IsPattern, MayBeRefused}
 use Rattle.relabel.specs.declared.conf.Action.{Action}
 use Rattle.relabel.specs.declared.conf.Action.TheVariants as action
 use Rattle.relabel.specs.declared.conf.RuleConf.{RuleConf}
@@ -56,3 +56,19 @@ abbrev pub IsFaultOf : List RuleConf → RuleFault → Type 0
 IsFaultOf rules (BadRule n field) = first_bad_rule 0 rules ≡ Some (n, field)
 IsFaultOf rules (BadPattern n) = (first_bad_rule 0 rules ≡ None) × IsSomeAnd (slice_get rules n) HasBadPattern
 IsFaultOf rules NoMemory = Unit {0}
+
+-- the first rule whose pattern isn't one, also where its action doesn't use it
+abbrev pub first_bad_pattern : ℕ → List RuleConf → Option ℕ
+first_bad_pattern n [] = None
+first_bad_pattern n (r ∷ rs) = if is_pattern r.regex then first_bad_pattern (n + 1) rs else Some n
+
+-- why rules are refused: the first bad field of the first bad rule; where no field is refused, the first pattern that isn't one
+abbrev pub rules_fault : List RuleConf → Option RuleFault
+rules_fault rules =
+    option_or (option_map (λ bad. BadRule bad.0 bad.1) (first_bad_rule 0 rules)) (option_map (λ n. BadPattern n) (first_bad_pattern 0 rules))
+
+-- what is told is the first fault, but for want of memory
+abbrev pub IsFirstFault : List RuleConf → RuleFault → Type 0
+IsFirstFault rules (BadRule n field) = rules_fault rules ≡ Some (BadRule n field)
+IsFirstFault rules (BadPattern n) = rules_fault rules ≡ Some (BadPattern n)
+IsFirstFault rules NoMemory = Unit {0}

@@ -4,16 +4,15 @@ ghost use Rattle.std.specs.Char.{to_ascii_lowercase, to_ascii_uppercase};
 ghost use Rattle.relabel.specs.Relabelling.{value_or_empty, joined_by, joined_text, shard_of};
 
 use crate::conf::RuleConf;
-use label_set::sets::value_in;
-use label_set::{Name, NoMemory, Pair};
+use label_set::{LabelSet, Name, NoMemory};
 use md5::{Digest, Md5};
 use std::alloc::Global;
 
 /// The value of a label, empty where there is none.
-pub fn value_of<'a>(pairs: &'a [Pair], name: &str) -> &'a str
-    ensures { result.now ≡ value_or_empty pairs.now name.now }
+pub fn value_of<'a>(set: &'a LabelSet, name: &str) -> &'a str
+    ensures { result.now ≡ value_or_empty set.now name.now }
 {
-    value_in(pairs, name).unwrap_or("")
+    set.get(name).unwrap_or("")
 }
 
 /// Appends the values of more sources, the separator before each.
@@ -21,14 +20,14 @@ fn push_more(
     out: &mut String,
     sources: &[Name],
     separator: &str,
-    pairs: &[Pair],
+    set: &LabelSet,
 ) -> Result<(), NoMemory>
     ensures { OnOk result (string_bytes out.new ≡ string_bytes out.old
-        ++ flat_map (λ w. separator.now ++ w) (map (value_or_empty pairs.now) sources.now)) }
+        ++ flat_map (λ w. separator.now ++ w) (map (value_or_empty set.now) sources.now)) }
 {
     for source in sources {
         out.push_str(separator)?;
-        out.push_str(value_of(pairs, source.as_str()))?;
+        out.push_str(value_of(set, source.as_str()))?;
     }
     Ok(())
 }
@@ -38,14 +37,14 @@ fn joined_values(
     alloc: Global,
     sources: &[Name],
     separator: &str,
-    pairs: &[Pair],
+    set: &LabelSet,
 ) -> Result<String, NoMemory>
-    ensures { IfOk result (λ s. string_bytes s ≡ joined_by separator.now (map (value_or_empty pairs.now) sources.now)) }
+    ensures { IfOk result (λ s. string_bytes s ≡ joined_by separator.now (map (value_or_empty set.now) sources.now)) }
 {
     let mut out = String::new(alloc);
     if let Some((first, more)) = sources.split_first() {
-        out.push_str(value_of(pairs, first.as_str()))?;
-        push_more(&mut out, more, separator, pairs)?;
+        out.push_str(value_of(set, first.as_str()))?;
+        push_more(&mut out, more, separator, set)?;
     }
     Ok(out)
 }
@@ -70,15 +69,15 @@ pub fn shard(alloc: Global, text: &str, modulus: u64) -> Result<Name, NoMemory>
 pub fn joined<'a>(
     alloc: Global,
     conf: &RuleConf,
-    pairs: &'a [Pair],
+    set: &'a LabelSet,
     room: &'a mut String,
 ) -> Result<&'a str, NoMemory>
-    ensures { IfOk result (λ text. text.now ≡ joined_text conf.now pairs.now) }
+    ensures { IfOk result (λ text. text.now ≡ joined_text conf.now set.now) }
 {
     let sources = conf.sources.as_slice();
     if sources.len() == 1 {
-        return Ok(value_of(pairs, sources[0].as_str()));
+        return Ok(value_of(set, sources[0].as_str()));
     }
-    *room = joined_values(alloc, sources, conf.separator.as_str(), pairs)?;
+    *room = joined_values(alloc, sources, conf.separator.as_str(), set)?;
     Ok(room.as_str())
 }

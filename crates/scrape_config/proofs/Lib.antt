@@ -4,3 +4,4 @@ pub mod ListLemmas
 pub mod RuleLemmas
 pub mod JobLemmas
 pub mod ReadLemmas
+pub mod PatternLemmas

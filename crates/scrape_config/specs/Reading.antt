@@ -1,9 +1,10 @@
 -- What the bytes of a configuration, or of the list of a file, are read as: a value or one fault; and which patterns of it are refused.
-use Rattle.std.specs.Prelude.{◌≡◌, ◌⊎◌, ℕ, List, [], Option, Some, None, Result, Ok, Err, All, codes, IsOkAnd, IsSomeAnd, slice_get, ⊤, if◌then◌else◌}
+use Rattle.std.specs.Prelude.{◌≡◌, ◌⊎◌, ℕ, ◌+◌, List, [], ◌∷◌, Option, Some, None, Result, Ok, Err, All, codes, IsOkAnd, IsSomeAnd, slice_get, option_map, ⊤, if◌then◌else◌}
+use Rattle.std.specs.Option.{option_or}
 use Rattle.std.specs.Str.{is_utf8}
 use Rattle.serde_json.specs.Data.{Data}
 use Rattle.serde_json.specs.Read.{read}
-use Rattle.relabel.specs.Refusals.{HasPattern, HasBadPattern}
+use Rattle.relabel.specs.Refusals.{HasPattern, HasBadPattern, first_bad_pattern}
 use Rattle.relabel.specs.declared.conf.RuleConf.{RuleConf}
 use Rattle.config_fields.specs.Places.{field_place, item_place}
 use Rattle.config_fields.specs.Faults.{told}
@@ -54,6 +55,38 @@ jobs_place = field_place [] (codes "scrape_configs")
 -- the place of a list of rules of the job with number n
 unfoldable pub rules_place : ℕ → List ℕ → List ℕ
 rules_place n key = field_place (item_place jobs_place n) key
+
+-- the place of the first pattern of these rules that isn't one
+abbrev pub rules_pattern : List ℕ → List RuleConf → Option (List ℕ)
+rules_pattern list rules = option_map (λ n. field_place (item_place list n) (codes "regex")) (first_bad_pattern 0 rules)
+
+-- the same of a job's two lists of rules, where the job has number n
+abbrev pub job_pattern : ℕ → Job → Option (List ℕ)
+job_pattern n job =
+    option_or (rules_pattern (rules_place n (codes "metric_relabel_configs")) job.conf.metric_relabel) (rules_pattern (rules_place n (codes "relabel_configs")) job.conf.relabel)
+
+-- the same of jobs, where the first has number n
+abbrev pub jobs_pattern : ℕ → List Job → Option (List ℕ)
+jobs_pattern n [] = None
+jobs_pattern n (job ∷ jobs) = option_or (job_pattern n job) (jobs_pattern (n + 1) jobs)
+
+abbrev pub with_patterns : Result Conf ConfFault → Result Conf ConfFault
+with_patterns (Err fault) = Err fault
+with_patterns (Ok conf) = unless_fault (option_map (λ place. Rule place) (jobs_pattern 0 conf.jobs)) conf
+
+-- the whole reading of a configuration: where it has no other fault, the first pattern that isn't one is its fault
+unfoldable pub whole_reading : List ℕ → Result Conf ConfFault
+whole_reading bytes = with_patterns (reading bytes)
+
+-- want of memory, or the fault of the first pattern that isn't one
+abbrev pub IsPatternCause : Option (List ℕ) → ConfError → Type 0
+IsPatternCause first (Bad fault) = option_map (λ place. Rule place) first ≡ Some fault
+IsPatternCause first NoMemory = ⊤
+
+-- want of memory, or the fault of the whole reading
+abbrev pub IsWholeCause : Result Conf ConfFault → ConfError → Type 0
+IsWholeCause said (Bad fault) = said ≡ Err fault
+IsWholeCause said NoMemory = ⊤
 
 -- the place is that of a pattern of these rules that may be refused
 abbrev pub IsRefusedIn : List ℕ → List RuleConf → List ℕ → Type 0

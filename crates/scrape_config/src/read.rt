@@ -58,6 +58,8 @@ fn rules_in(alloc: Global, job: usize, key: &str, rules: &[RuleConf]) -> Result<
     ensures rules { IfOk result (λ r. r ≡ rules.now) }
     ensures patterns { IfOk result (λ _. All HasPattern rules.now) }
     ensures refused { IfErr result (λ e. spec.IsRuleCause (spec.IsRefusedIn (spec.rules_place job key.now) rules.now) e) }
+    ensures none { IfOk result (λ _. spec.rules_pattern (spec.rules_place job key.now) rules.now ≡ None) }
+    ensures first { IfErr result (λ e. spec.IsPatternCause (spec.rules_pattern (spec.rules_place job key.now) rules.now) e) }
 {
     // so many rules don't fit into any memory
     if rules.len() >= 1 << 32 {
@@ -81,6 +83,8 @@ fn job_in(alloc: Global, base: Base, index: usize, value: &Value) -> Result<Job,
     ensures job { IfOk result (λ j. j ≡ built (job_of base (view value.now))) }
     ensures patterns { IfOk result (λ j. spec.HasPatterns j) }
     ensures refused { IfErr result (λ e. spec.IsRuleCause (spec.IsRefusedInJob index (built (job_of base (view value.now)))) e) }
+    ensures none { IfOk result (λ _. spec.job_pattern index (built (job_of base (view value.now))) ≡ None) }
+    ensures first { IfErr result (λ e. spec.IsPatternCause (spec.job_pattern index (built (job_of base (view value.now)))) e) }
 {
     let conf = job_of(alloc, base, value)?;
     let metric = conf.metric_relabel.as_slice();
@@ -113,6 +117,8 @@ fn jobs_in(alloc: Global, base: Base, values: &[Value]) -> Result<JobList, ConfE
     ensures jobs { IfOk result (λ l. l ≡ jobs_of base (items_view values.now)) }
     ensures patterns { IfOk result (λ l. All spec.HasPatterns l) }
     ensures refused { IfErr result (λ e. spec.IsRuleCause (spec.IsRefusedInJobs (jobs_of base (items_view values.now))) e) }
+    ensures none { IfOk result (λ _. spec.jobs_pattern 0 (jobs_of base (items_view values.now)) ≡ None) }
+    ensures first { IfErr result (λ e. spec.IsPatternCause (spec.jobs_pattern 0 (jobs_of base (items_view values.now))) e) }
 {
     let mut items = Vec::new(alloc);
     for value in values {
@@ -131,6 +137,8 @@ fn conf_in(alloc: Global, value: &Value) -> Result<Conf, ConfError>
     ensures conf { IfOk result (λ c. c ≡ conf_of (view value.now)) }
     ensures patterns { IfOk result (λ c. All spec.HasPatterns c.jobs) }
     ensures refused { IfErr result (λ e. spec.IsRuleCause (spec.IsRefusedPattern (conf_of (view value.now))) e) }
+    ensures none { IfOk result (λ _. spec.jobs_pattern 0 (conf_of (view value.now)).jobs ≡ None) }
+    ensures first { IfErr result (λ e. spec.IsPatternCause (spec.jobs_pattern 0 (conf_of (view value.now)).jobs) e) }
 {
     match jobs_in(alloc, base_of(value), list_under("scrape_configs", value)) {
         Ok(jobs) => Ok(Conf { jobs }),
@@ -139,12 +147,15 @@ fn conf_in(alloc: Global, value: &Value) -> Result<Conf, ConfError>
 }
 
 /// Reads the bytes of a configuration in JSON. `Bad` tells the one fault of the least number, the first of its kind in the walk through
-/// the text; `Rule`, for a pattern, comes only where there is no other fault and `regex` may refuse the pattern at the place.
-#[tactic(auto, unfolding(crate::specs::Reading::reading))]
+/// the text; `Rule`, for a pattern, comes only where there is no other fault and `regex` may refuse the pattern at the place, which is
+/// the first of the text that isn't one.
+#[tactic(auto, unfolding(crate::specs::Reading::reading, crate::specs::Reading::whole_reading))]
 pub fn read_conf(alloc: Global, bytes: &[u8]) -> Result<Conf, ConfError>
     ensures read { IfOk result (λ c. spec.reading bytes.now ≡ Ok c) }
     ensures patterns { IfOk result (λ c. All spec.HasPatterns c.jobs) }
     ensures refused { IfErr result (λ e. spec.IsCause (spec.reading bytes.now) e) }
+    ensures whole { IfOk result (λ c. spec.whole_reading bytes.now ≡ Ok c) }
+    ensures first { IfErr result (λ e. spec.IsWholeCause (spec.whole_reading bytes.now) e) }
 {
     let Some(value) = json_of(alloc, bytes)? else {
         return Err(ConfError::Bad(ConfFault::NotJson));

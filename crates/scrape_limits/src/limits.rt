@@ -5,7 +5,7 @@ ghost use Rattle.label_set.specs.declared.texts.Pair.{Pair};
 ghost use Rattle.scrape_limits.specs.Limits as spec;
 ghost use Rattle.scrape_limits.specs.Limits.{is_past, limit_fault, has_many_samples};
 
-use label_set::{LabelSet, Pair};
+use label_set::LabelSet;
 
 /// The limits of a scrape job; 0 is no limit.
 /// (Prometheus documentation, "Configuration", `<scrape_config>`: the setting that each field names.)
@@ -42,12 +42,11 @@ pub enum LimitFault {
 pub fn judge(limits: &Limits, set: &LabelSet) -> Option<LimitFault>
     ensures { result ≡ limit_fault limits.now set.now }
 {
-    let labels = set.pairs();
-    if exceeds(limits.label, labels.len() as u64) {
+    if has_many_labels(limits.label, set) {
         Some(LimitFault::Labels)
-    } else if has_long_name(limits.name_length, labels) {
+    } else if has_long_name(limits.name_length, set) {
         Some(LimitFault::NameLength)
-    } else if has_long_value(limits.value_length, labels) {
+    } else if has_long_value(limits.value_length, set) {
         Some(LimitFault::ValueLength)
     } else {
         None
@@ -83,20 +82,44 @@ pub fn exceeds(limit: u64, count: u64) -> bool
     limit != 0 && count > limit
 }
 
-fn has_long_name(limit: u64, labels: &[Pair]) -> bool
-    ensures { result ≡ list_any (λ (p : Pair). is_past limit (length p.name)) labels.now }
+fn has_many_labels(limit: u64, set: &LabelSet) -> bool
+    ensures { result ≡ is_past limit (length set.now) }
 {
-    labels
-        .iter()
-        .any(|label| exceeds(limit, label.name.as_str().len() as u64))
+    limit != 0 && exceeds(limit, set.len() as u64)
 }
 
-fn has_long_value(limit: u64, labels: &[Pair]) -> bool
-    ensures { result ≡ list_any (λ (p : Pair). is_past limit (length p.value)) labels.now }
+fn has_long_name(limit: u64, set: &LabelSet) -> bool
+    ensures { result ≡ list_any (λ (p : Pair). is_past limit (length p.name)) set.now }
 {
-    labels
-        .iter()
-        .any(|label| exceeds(limit, label.value.as_str().len() as u64))
+    limit != 0 && any_long_name(limit, set)
+}
+
+fn any_long_name(limit: u64, set: &LabelSet) -> bool
+    ensures { result ≡ list_any (λ (p : Pair). is_past limit (length p.name)) set.now }
+{
+    for label in set.labels() {
+        if exceeds(limit, label.name.len() as u64) {
+            return true;
+        }
+    }
+    false
+}
+
+fn has_long_value(limit: u64, set: &LabelSet) -> bool
+    ensures { result ≡ list_any (λ (p : Pair). is_past limit (length p.value)) set.now }
+{
+    limit != 0 && any_long_value(limit, set)
+}
+
+fn any_long_value(limit: u64, set: &LabelSet) -> bool
+    ensures { result ≡ list_any (λ (p : Pair). is_past limit (length p.value)) set.now }
+{
+    for label in set.labels() {
+        if exceeds(limit, label.value.len() as u64) {
+            return true;
+        }
+    }
+    false
 }
 
 #[cfg(test)]

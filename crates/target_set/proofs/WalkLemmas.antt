@@ -1,7 +1,8 @@
 -- The walk through listed targets.
-use Rattle.std.proofs.Common.{◌≡◌, ℕ, ◌+◌, ◌<◌, List, [], ◌∷◌, ◌++◌, length, take, get_or, append_assoc, map, refl, sym, ap, ◌∙◌, arith, length-append}
+use Rattle.std.proofs.Common.{◌≡◌, ℕ, ◌+◌, ◌<◌, ◌≤◌, suc, drop, drop-cons, List, [], ◌∷◌, ◌++◌, length, take, get_or, append_assoc, map, refl, sym, ap, ◌∙◌, arith, length-append}
 use Rattle.std.proofs.lemmas.List.{length-map, map-append, take_more}
-use Rattle.std.proofs.lemmas.List.Sums.{sum_by-cons}
+use Rattle.std.proofs.lemmas.List.Sums.{sum_by-cons, sum_by-take-drop}
+use Rattle.std.specs.List.{sum_by}
 use Rattle.relabel.specs.declared.conf.RuleConf.{RuleConf}
 use Rattle.scrape_config.specs.declared.conf.Group.{Group}
 use Rattle.scrape_config.specs.declared.conf.JobConf.{JobConf}
@@ -19,6 +20,14 @@ from_group conf rules group text = refl
 pub outcome_count : (conf : JobConf) (rules : List RuleConf) (groups : List Group) → length (outcomes_of conf rules groups) ≡ listed_count groups
 outcome_count conf rules [] = refl
 outcome_count conf rules (g ∷ gs) = grind (arith, sum_by-cons group_count g gs, length-append (group_outcomes conf rules g) (outcomes_of conf rules gs), length-map g.targets (outcome_of conf rules g), outcome_count conf rules gs)
+
+-- a group's targets are some of those of all groups from it on
+pub counted_next : (groups : List Group) (i : ℕ) (g : Group) → i < length groups → g ≡ get_or groups i g → listed_count (take i groups) + group_count g ≤ listed_count groups
+counted_next groups i g h is =
+    let split : sum_by group_count (take i groups) + sum_by group_count (drop i groups) ≡ sum_by group_count groups = sum_by-take-drop group_count groups i in
+    let behind : sum_by group_count (drop i groups) ≡ group_count g + sum_by group_count (drop (suc i) groups) =
+    ap (sum_by group_count) (drop-cons groups i g h ∙ ap (λ x. x ∷ drop (suc i) groups) (sym is)) ∙ sum_by-cons group_count g (drop (suc i) groups) in
+    omega arith
 
 module _ (conf : JobConf) (rules : List RuleConf) (group : Group) where
   abbrev pub of_text : List ℕ → Outcome

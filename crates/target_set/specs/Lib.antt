@@ -3,4 +3,3 @@ pub mod Outcomes
 pub mod Listed
 pub mod Requests
 pub mod Walk
-pub mod Sameness

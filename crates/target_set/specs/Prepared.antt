@@ -3,6 +3,7 @@ use Rattle.std.specs.Prelude.{ℕ, List, [], ◌∷◌, ◌++◌, codes, Option,
 use Rattle.std.specs.List.{list_all}
 use Rattle.label_set.specs.Bytes.{is_name_byte}
 use Rattle.label_set.specs.Sets.{value_of, with_label}
+use Rattle.label_set.specs.Lasts.{with_labels}
 use Rattle.label_set.specs.declared.texts.Pair.{Pair}
 use Rattle.scrape_config.specs.declared.conf.Scheme.{Scheme}
 use Rattle.scrape_config.specs.declared.conf.Scheme.TheVariants.{Http, Https}
@@ -23,11 +24,6 @@ path_label = codes "__metrics_path__"
 -- what stands in front of a parameter's name in the label of its first value
 abbrev pub param_prefix : List ℕ
 param_prefix = codes "__param_"
-
--- labels set one after another
-abbrev pub with_labels : List Pair → List Pair → List Pair
-with_labels set [] = set
-with_labels set (p ∷ ps) = with_labels (with_label set p.name p.value) ps
 
 -- the name of the file that lists a group
 abbrev pub with_file : List Pair → Option (List ℕ) → List Pair

@@ -6,7 +6,8 @@ use Rattle.relabel.specs.Relabelling.{relabelled}
 use Rattle.relabel.specs.declared.conf.RuleConf.{RuleConf}
 use Rattle.scrape_config.specs.declared.conf.Group.{Group}
 use Rattle.scrape_config.specs.declared.conf.JobConf.{JobConf}
-use Rattle.target_set.specs.Prepared.{address_label, with_labels, with_file, with_defaults}
+use Rattle.label_set.specs.Lasts.{with_labels}
+use Rattle.target_set.specs.Prepared.{address_label, with_file, with_defaults}
 use Rattle.target_set.specs.Outcomes.{judged}
 use Rattle.target_set.specs.declared.targets.Outcome.{Outcome}
 

@@ -10,69 +10,19 @@ use crate::targets::{Outcome, Target, Targets};
 use indexmap::IndexSet;
 use label_set::{LabelSet, NoMemory};
 use std::alloc::Global;
-use std::hash::{Hash, Hasher};
-use std::marker::Model;
-
-/// An identity, by which targets are looked up. Contracts see its labels.
-#[derive(Drop, Debug)]
-pub struct Identity {
-    set: LabelSet,
-}
-
-impl Model for Identity {
-    ghost use Rattle.std.specs.Prelude.{List};
-    ghost use Rattle.label_set.specs.declared.texts.Pair.{Pair};
-
-    ghost Value = { List Pair };
-
-    ghost view = { λ i. i.set };
-}
-
-impl PartialEq for Identity {
-    ghost use Rattle.std.specs.Cmp as Cmp;
-    ghost use Rattle.std.specs.Ordering.{eq_by_cmp};
-    ghost use Rattle.label_set.specs.Sets.{set_cmp, sets_total};
-
-    ghost eq = { eq_by_cmp set_cmp };
-
-    ghost laws = { Cmp.partial_equiv_from_equiv (Cmp.eq_by_cmp_equiv sets_total) };
-
-    fn eq(&self, other: &Self) -> bool {
-        self.set == other.set
-    }
-}
-
-impl Eq for Identity {
-    ghost use Rattle.std.specs.Cmp as Cmp;
-    ghost use Rattle.label_set.specs.Sets.{sets_total};
-
-    ghost laws = { Cmp.eq_by_cmp_equiv sets_total };
-}
-
-impl Hash for Identity {
-    ghost use Rattle.target_set.specs.Sameness.{set_input, same_input};
-
-    ghost hash_input = { set_input };
-
-    ghost respects_eq = { same_input };
-
-    fn hash<H: Hasher>(&self, state: &mut H) {
-        self.set.pairs().hash(state);
-    }
-}
 
 /// Puts the identity of a kept target where it isn't there.
-fn add(seen: &mut IndexSet<Identity>, outcome: &Outcome) -> Result<(), NoMemory>
+fn add(seen: &mut IndexSet<LabelSet>, outcome: &Outcome) -> Result<(), NoMemory>
     ensures { OnOk result (seen.new.keys ≡ insert_all is_same seen.old.keys (kept_in outcome.now)) }
 {
     if let Outcome::Kept(set) = outcome {
-        let _ = seen.insert(Identity { set: set.copy()? })?;
+        let _ = seen.insert(set.copy()?)?;
     }
     Ok(())
 }
 
 /// The identities of the kept targets, each at its first place.
-fn identities(alloc: Global, outcomes: &[Outcome]) -> Result<IndexSet<Identity>, NoMemory>
+fn identities(alloc: Global, outcomes: &[Outcome]) -> Result<IndexSet<LabelSet>, NoMemory>
     ensures { IfOk result (λ s. s.keys ≡ distinct (flat_map kept_in outcomes.now)) }
 {
     let mut seen = IndexSet::new(alloc);
@@ -82,16 +32,16 @@ fn identities(alloc: Global, outcomes: &[Outcome]) -> Result<IndexSet<Identity>,
     Ok(seen)
 }
 
-fn kept_target(alloc: Global, identity: &Identity) -> Result<Target, NoMemory>
+fn kept_target(alloc: Global, identity: &LabelSet) -> Result<Target, NoMemory>
     ensures { IfOk result (λ t. t ≡ target_of identity.now) }
 {
     Ok(Target {
-        identity: identity.set.copy()?,
-        labels: labels_of(alloc, &identity.set)?,
+        identity: identity.copy()?,
+        labels: labels_of(alloc, identity)?,
     })
 }
 
-fn targets_in(alloc: Global, identities: &[Identity]) -> Result<Vec<Target>, NoMemory>
+fn targets_in(alloc: Global, identities: &[LabelSet]) -> Result<Vec<Target>, NoMemory>
     ensures { IfOk result (λ v. v.items ≡ map target_of identities.now) }
 {
     let mut out = Vec::with_capacity(alloc, identities.len())?;

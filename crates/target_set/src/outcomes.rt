@@ -1,6 +1,7 @@
 //! What becomes of a set that the rules leave.
-ghost use Rattle.std.specs.Prelude.{◌≡◌, [], codes, filter, not, is_ok, unwrap_or, IfOk, Some, if◌then◌else◌};
-ghost use Rattle.label_set.specs.Sets.{value_of};
+ghost use Rattle.std.specs.Prelude.{◌≡◌, [], codes, filter, map, not, is_ok, unwrap_or, IfOk, OnOk, Some, if◌then◌else◌};
+ghost use Rattle.label_set.specs.Sets.{IsSet, value_of};
+ghost use Rattle.label_set.specs.Lent.{pair_of};
 ghost use Rattle.label_set.specs.declared.texts.Pair.{Pair};
 ghost use Rattle.target_set.specs.Outcomes as spec;
 ghost use Rattle.target_set.specs.Outcomes.{url_of};
@@ -10,7 +11,7 @@ ghost use Rattle.target_set.specs.declared.targets.TargetCause.TheVariants.{BadA
 use crate::address::{has_mark, is_spoken, read_url};
 use crate::prepare::defaulted;
 use crate::targets::{Outcome, TargetCause};
-use label_set::{LabelSet, NoMemory, Pair};
+use label_set::{Label, LabelSet, NoMemory};
 use std::alloc::Global;
 
 /// Whether a scheme and an address make a URL.
@@ -69,13 +70,19 @@ fn begins_with(text: &str, front: &str) -> bool
     text.as_bytes().starts_with(front.as_bytes())
 }
 
-fn pairs_without_front(alloc: Global, pairs: &[Pair], front: &str) -> Result<Vec<Pair>, NoMemory>
-    ensures { IfOk result (λ v. v.items ≡ filter (λ (p : Pair). not (spec.begins_with front.now p.name)) pairs.now) }
+/// The labels whose names don't begin so.
+fn labels_without_front<'a>(
+    alloc: Global,
+    set: &'a LabelSet,
+    front: &str,
+) -> Result<Vec<Label<'a>>, NoMemory>
+    ensures labels { IfOk result (λ v. map pair_of v.items ≡ filter (λ (p : Pair). not (spec.begins_with front.now p.name)) set.now) }
+    ensures set { OnOk result (IsSet set.now) }
 {
-    let mut out = Vec::with_capacity(alloc, pairs.len())?;
-    for pair in pairs {
-        if !begins_with(pair.name.as_str(), front) {
-            out.push(pair.copy(alloc)?)?;
+    let mut out = Vec::new(alloc);
+    for label in set.labels() {
+        if !begins_with(label.name, front) {
+            out.push(label)?;
         }
     }
     Ok(out)
@@ -86,8 +93,8 @@ fn pairs_without_front(alloc: Global, pairs: &[Pair], front: &str) -> Result<Vec
 fn without_front(alloc: Global, set: &LabelSet, front: &str) -> Result<LabelSet, NoMemory>
     ensures { IfOk result (λ s. s ≡ spec.without_front front.now set.now) }
 {
-    let pairs = pairs_without_front(alloc, set.pairs(), front)?;
-    LabelSet::from_pairs(alloc, pairs)
+    let labels = labels_without_front(alloc, set, front)?;
+    LabelSet::from_labels(alloc, labels.as_slice())
 }
 
 /// The set with an `instance`: the address where none is set.

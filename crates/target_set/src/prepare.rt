@@ -1,13 +1,13 @@
 //! The label set of a listed target before its job's rules.
 ghost use Rattle.std.specs.Prelude.{◌≡◌, ◌++◌, [], codes, IfOk, string_bytes};
-ghost use Rattle.std.specs.List.{list_all};
-ghost use Rattle.label_set.specs.Bytes.{is_name_byte};
 ghost use Rattle.label_set.specs.Sets.{with_label};
 ghost use Rattle.target_set.specs.Prepared as spec;
-ghost use Rattle.target_set.specs.Prepared.{address_label, param_prefix, with_labels};
+ghost use Rattle.label_set.specs.Lasts.{with_labels};
+ghost use Rattle.target_set.specs.Prepared.{address_label, param_prefix};
 ghost use Rattle.target_set.specs.Walk.{group_set, listed_from};
 
-use label_set::{LabelSet, NoMemory, Pair};
+use label_set::names::are_name_bytes;
+use label_set::{Label, LabelSet, NoMemory, Pair, lent};
 use scrape_config::{Group, JobConf, Param, Scheme};
 use std::alloc::Global;
 
@@ -15,11 +15,7 @@ use std::alloc::Global;
 fn labelled(alloc: Global, set: &LabelSet, name: &str, value: &str) -> Result<LabelSet, NoMemory>
     ensures { IfOk result (λ s. s ≡ with_label set.now name.now value.now) }
 {
-    // a configuration has label names alone, so only memory can be wanting
-    match set.with(alloc, name, value) {
-        Ok(set) => Ok(set),
-        Err(_) => Err(NoMemory),
-    }
+    set.with_label(alloc, Label { name, value })
 }
 
 /// The set with a name set to a value, where the set has no value for it.
@@ -41,11 +37,8 @@ pub fn defaulted(
 fn all_labelled(alloc: Global, pairs: &[Pair]) -> Result<LabelSet, NoMemory>
     ensures { IfOk result (λ s. s ≡ with_labels [] pairs.now) }
 {
-    let mut set = LabelSet::empty();
-    for pair in pairs {
-        set = labelled(alloc, &set, pair.name.as_str(), pair.value.as_str())?;
-    }
-    Ok(set)
+    let labels = lent(alloc, pairs)?;
+    LabelSet::of(alloc, labels.as_slice())
 }
 
 /// What each target of a group starts with.
@@ -69,20 +62,6 @@ fn scheme_text(scheme: Scheme) -> &'static str
     }
 }
 
-#[tactic(auto, unfolding(label_set::specs::Bytes::is_name_byte, label_set::specs::Bytes::is_name_start))]
-fn is_inner(byte: u8) -> bool
-    ensures { result ≡ is_name_byte byte }
-{
-    byte.is_ascii_alphabetic() || byte == b'_' || byte.is_ascii_digit()
-}
-
-/// Whether a text can stand in a label's name.
-fn is_plain(text: &str) -> bool
-    ensures { result ≡ list_all is_name_byte text.now }
-{
-    text.as_bytes().iter().all(|b| is_inner(*b))
-}
-
 /// The name of the label that sets a parameter.
 pub fn param_label(alloc: Global, name: &str) -> Result<String, NoMemory>
     ensures { IfOk result (λ s. string_bytes s ≡ param_prefix ++ name.now) }
@@ -99,7 +78,7 @@ fn with_first(alloc: Global, set: &LabelSet, param: &Param) -> Result<LabelSet, 
     match param.values.as_slice() {
         [] => set.copy(),
         [value, ..] => {
-            if !is_plain(param.name.as_str()) {
+            if !are_name_bytes(param.name.as_str().as_bytes()) {
                 return set.copy();
             }
             let name = param_label(alloc, param.name.as_str())?;

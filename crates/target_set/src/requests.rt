@@ -8,7 +8,7 @@ ghost use Rattle.target_set.specs.Requests as spec;
 
 use crate::address::{has_mark, is_spoken, read_url};
 use crate::prepare::param_label;
-use label_set::{LabelSet, Name, NoMemory, Pair};
+use label_set::{LabelSet, Name, NoMemory};
 use outside::{Request, Scheme};
 use scrape_config::{JobConf, Param};
 use scrape_limits::body_limit;
@@ -91,11 +91,11 @@ fn put_params(alloc: Global, names: &mut BTreeSet<Name>, params: &[Param]) -> Re
 }
 
 /// Puts the names of the parameters that labels set at their places.
-fn put_set(alloc: Global, names: &mut BTreeSet<Name>, labels: &[Pair]) -> Result<(), NoMemory>
-    ensures { OnOk result (names.new.keys ≡ spec.put_all names.old.keys (filter_map (λ (p : Pair). spec.param_name p.name) labels.now)) }
+fn put_set(alloc: Global, names: &mut BTreeSet<Name>, set: &LabelSet) -> Result<(), NoMemory>
+    ensures { OnOk result (names.new.keys ≡ spec.put_all names.old.keys (filter_map (λ (p : Pair). spec.param_name p.name) set.now)) }
 {
-    for label in labels {
-        if let Some(name) = param_name(label.name.as_str()) {
+    for label in set.labels() {
+        if let Some(name) = param_name(label.name) {
             let _ = names.insert(Name::from_str(alloc, name)?)?;
         }
     }
@@ -112,7 +112,7 @@ fn query_names(
 {
     let mut names = BTreeSet::new(alloc);
     put_params(alloc, &mut names, params)?;
-    put_set(alloc, &mut names, identity.pairs())?;
+    put_set(alloc, &mut names, identity)?;
     Ok(names)
 }
 

@@ -8,7 +8,7 @@ use crate::outcomes::judged;
 use crate::prepare::{prepared, set_of_group};
 use crate::targets::Outcome;
 use label_set::{LabelSet, NoMemory, Steps};
-use relabel::Rules;
+use relabel::{Rules, Runner};
 use scrape_config::{Group, JobConf};
 use std::alloc::Global;
 use std::sync::ledger::Ledger;
@@ -18,12 +18,13 @@ use std::sync::ledger::Ledger;
 fn outcome_from<L: Ledger>(
     alloc: Global,
     conf: &JobConf,
-    rules: &Rules,
+    rules: &mut Runner<'_>,
     base: &LabelSet,
     text: &str,
     steps: &mut Steps<L>,
 ) -> Result<Outcome, NoMemory>
-    ensures outcome { IfOk result (λ o. o ≡ walked.outcome_from conf.now rules.now base.now text.now) }
+    ensures outcome { IfOk result (λ o. o ≡ walked.outcome_from conf.now rules.old base.now text.now) }
+    ensures same { rules.new ≡ rules.old }
     ensures steps { OnOk result (steps.new ≡ steps.old + 1) }
     ensures at_least { steps.old ≤ steps.new }
     ensures at_most { steps.new ≤ steps.old + 1 }
@@ -37,12 +38,13 @@ fn outcome_from<L: Ledger>(
 fn push_group<L: Ledger>(
     alloc: Global,
     conf: &JobConf,
-    rules: &Rules,
+    rules: &mut Runner<'_>,
     group: &Group,
     out: &mut Vec<Outcome>,
     steps: &mut Steps<L>,
 ) -> Result<(), NoMemory>
-    ensures outcomes { OnOk result (out.new.items ≡ out.old.items ++ group_outcomes conf.now rules.now group.now) }
+    ensures outcomes { OnOk result (out.new.items ≡ out.old.items ++ group_outcomes conf.now rules.old group.now) }
+    ensures same { rules.new ≡ rules.old }
     ensures steps { OnOk result (steps.new ≡ steps.old + group_count group.now) }
     ensures at_least { steps.old ≤ steps.new }
     ensures at_most { steps.new ≤ steps.old + group_count group.now }
@@ -68,9 +70,10 @@ pub fn outcomes_of<L: Ledger>(
     ensures at_least { steps.old ≤ steps.new }
     ensures at_most { steps.new ≤ steps.old + listed_count groups.now }
 {
+    let mut runner = rules.runner(alloc)?;
     let mut out = Vec::new(alloc);
     for group in groups {
-        push_group(alloc, conf, rules, group, &mut out, steps)?;
+        push_group(alloc, conf, &mut runner, group, &mut out, steps)?;
     }
     Ok(out)
 }

@@ -1,10 +1,10 @@
 ghost use Rattle.std.specs.Prelude.{◌≡◌, true};
 ghost use Rattle.std.specs.List.{IsDistinct};
 ghost use Rattle.std.specs.Str.{bytes_eq};
+ghost use Rattle.label_conflict.specs.Merging as spec;
 ghost use Rattle.label_conflict.specs.Merging.{names_of};
 
 use super::*;
-use crate::free::bears_name;
 use std::test::Fail;
 
 /// A metric name, the labels of the line, those of the target, whether the line is honoured, and the text of the set, in cells between
@@ -58,6 +58,23 @@ fn set_of(alloc: Global, cell: &str) -> Result<LabelSet, NoMemory> {
     Ok(set)
 }
 
+fn bears_name(pairs: &[Pair], name: &str) -> bool
+    ensures { result ≡ spec.bears pairs.now name.now }
+{
+    pairs.iter().any(|p| p.name.as_str() == name)
+}
+
+fn set_bears(set: &LabelSet, name: &str) -> bool
+    ensures { result ≡ spec.bears set.now name.now }
+{
+    for label in set.labels() {
+        if label.name == name {
+            return true;
+        }
+    }
+    false
+}
+
 /// Whether no name comes twice.
 fn names_differ(pairs: &[Pair]) -> bool
     ensures { result ≡ true → IsDistinct bytes_eq (names_of pairs.now) }
@@ -82,7 +99,7 @@ fn row_gives(alloc: Global, row: &str) -> Result<bool, NoMemory> {
     let target = set_of(alloc, cells[2])?;
     if !names_differ(&exposed)
         || bears_name(&exposed, "__name__")
-        || bears_name(target.pairs(), "__name__")
+        || set_bears(&target, "__name__")
     {
         return Ok(false);
     }

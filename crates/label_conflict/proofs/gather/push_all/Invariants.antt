@@ -1,5 +1,7 @@
 use Rattle.std.proofs.Common.{◌≡◌, ◌++◌, take}
+use Rattle.std.specs.Prelude.{map}
+use Rattle.label_set.specs.Lent.{pair_of}
 use Rattle.label_conflict.proofs.gather.push_all.Given as goal
 
-abbrev pub invariant-loop-pair : goal.invariant-loop-pair
-invariant-loop-pair l = l.out.items ≡ l.fn.out.items ++ take l.pair-index l.pairs
+abbrev pub invariant-loop-label : goal.invariant-loop-label
+invariant-loop-label l = map pair_of l.out.items ++ l.label-iterator ≡ map pair_of l.fn.out.items ++ l.fn.set

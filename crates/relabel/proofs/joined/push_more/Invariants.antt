@@ -5,4 +5,4 @@ use Rattle.relabel.proofs.joined.push_more.Given as goal
 
 abbrev pub invariant-loop-source : goal.invariant-loop-source
 invariant-loop-source l =
-    string_bytes l.out ≡ string_bytes l.fn.out ++ flat_map (λ w. l.separator ++ w) (map (value_or_empty l.pairs) (take l.source-index l.sources))
+    string_bytes l.out ≡ string_bytes l.fn.out ++ flat_map (λ w. l.separator ++ w) (map (value_or_empty l.set) (take l.source-index l.sources))

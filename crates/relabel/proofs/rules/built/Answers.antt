@@ -1,4 +1,5 @@
-use Rattle.std.proofs.Common.{rules, ◌≡◌, ◌++◌, ◌∷◌, [], ◌+◌, take}
+use Rattle.std.proofs.lemmas.Grind.{common_steps}
+use Rattle.std.proofs.Common.{arith, rules, ◌≡◌, ◌++◌, ◌∷◌, [], ◌+◌, take}
 use Rattle.std.proofs.lemmas.List.{take_more}
 use Rattle.std.proofs.lemmas.List.Elements.{All-push}
 use Rattle.relabel.specs.Refusals.{HasPattern}
@@ -11,4 +12,5 @@ loop-conf-preserved c =
       number = search rules;
       built = search rules;
       read = rw more (All-push HasPattern _ c.conf-item.result c.loop-conf.invariant.read c.in-Ok.ensures.read);
+      patterns = first_of (search rules, grind (arith, common_steps));
     }

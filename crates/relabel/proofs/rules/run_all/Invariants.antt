@@ -3,4 +3,4 @@ use Rattle.relabel.specs.Relabelling.{relabelled}
 use Rattle.relabel.proofs.rules.run_all.Given as goal
 
 abbrev pub invariant-loop-rule : goal.invariant-loop-rule
-invariant-loop-rule l = relabelled (drop l.rule-index l.rules) l.labels ≡ relabelled l.rules l.fn.labels
+invariant-loop-rule l = relabelled (drop l.rule-index l.rules) l.left ≡ relabelled l.rules l.set

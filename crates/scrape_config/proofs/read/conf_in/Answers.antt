@@ -15,3 +15,11 @@ returns-in-Ok-clause-conf c = rw (c.in-Ok.ensures.jobs, c.base_of.ensures, c.lis
 pub returns-in-Err-clause-refused : goal.returns-in-Err-clause-refused
 unfolding conf_of IsRefusedPattern
 returns-in-Err-clause-refused c = rw (c.base_of.ensures, c.list_under.ensures) at c.in-Err.ensures.refused
+
+pub returns-in-Ok-clause-none : goal.returns-in-Ok-clause-none
+unfolding conf_of
+returns-in-Ok-clause-none c = rw (c.base_of.ensures, c.list_under.ensures) at c.in-Ok.ensures.none
+
+pub returns-in-Err-clause-first : goal.returns-in-Err-clause-first
+unfolding conf_of
+returns-in-Err-clause-first c = rw (c.base_of.ensures, c.list_under.ensures) at c.in-Err.ensures.first

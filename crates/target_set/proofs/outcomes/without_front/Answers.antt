@@ -4,6 +4,6 @@ use Rattle.label_set.specs.declared.texts.Pair.{Pair}
 use Rattle.target_set.specs.Outcomes.{begins_with}
 use Rattle.target_set.proofs.outcomes.without_front.Goals as goal
 
-pub from_pairs-requires : goal.from_pairs-requires
-from_pairs-requires c =
-    rw (c.in_ok-pairs.ensures, c.pairs.ensures.labels) (IsSet-filter (λ (p : Pair). not (begins_with c.args.front.now p.name)) c.args.set.now c.pairs.ensures.set)
+pub from_labels-requires : goal.from_labels-requires
+from_labels-requires c =
+    rw (c.as_slice.ensures.value, c.in_ok-labels.ensures.labels) (IsSet-filter (λ (p : Pair). not (begins_with c.args.front.now p.name)) c.args.set.now c.in_ok-labels.ensures.set)
