@@ -28,31 +28,49 @@ const CASES: [(&str, &str, &str, Option<&str>); 23] = [
     ("node-1", "node-1", "y", Some("y")),
 ];
 
+/// What a template writes at the match, and what `[$0]` does, by one matcher.
+fn both_written(
+    alloc: Global,
+    pattern: &Pattern,
+    text: &str,
+    template: &str,
+) -> Result<Option<(Name, Name)>, NoMemory> {
+    let first = pattern.filling(alloc, template)?;
+    let second = pattern.filling(alloc, "[$0]")?;
+    let mut matching = pattern.matching();
+    matching.fill_both(alloc, text, &first, &second)
+}
+
+/// Whether a matcher that is kept finds a match where the pattern is to.
+fn is_matched(
+    alloc: Global,
+    pattern: &Pattern,
+    text: &str,
+    wanted: bool,
+) -> Result<bool, NoMemory> {
+    let mut matching = pattern.matching();
+    let found = matching.expand(alloc, text, "$0")?;
+    let again = matching.full_match(alloc, text)?;
+    Ok(again == wanted && found.is_some() == wanted)
+}
+
 fn is_written(alloc: Global, case: &(&str, &str, &str, Option<&str>)) -> Result<bool, NoMemory> {
     let (pattern, text, template, wanted) = *case;
     let Ok(pattern) = Pattern::build(alloc, pattern) else {
         return Ok(false);
     };
-    let found = pattern.expand(alloc, text, template)?;
-    let first = pattern.filling(alloc, template)?;
-    let second = pattern.filling(alloc, "[$0]")?;
-    let mut matching = pattern.matching();
-    let both = matching.fill_both(alloc, text, &first, &second)?;
-    let again = matching.expand(alloc, text, template)?;
-    if again != found
-        || matching.full_match(alloc, text)? != wanted.is_some()
-        || pattern.full_match(alloc, text)? != wanted.is_some()
-        || pattern.as_str().len() > 9
-    {
+    if !is_matched(alloc, &pattern, text, wanted.is_some())? {
         return Ok(false);
     }
+    let found = pattern.expand(alloc, text, template)?;
+    let both = both_written(alloc, &pattern, text, template)?;
     match (found, both, wanted) {
         (Some(found), Some((one, other)), Some(wanted)) => Ok(
             found.as_str() == wanted
                 && one.as_str() == wanted
-                && other.as_str().len() == text.len() + 2,
+                && other.as_str().len() == text.len().saturating_add(2),
         ),
-        (None, None, None) => Ok(true),
+        (None, None, None) => Ok(!pattern.full_match(alloc, text)?),
         _ => Ok(false),
     }
 }
