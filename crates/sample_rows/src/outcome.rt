@@ -170,6 +170,3 @@ pub fn rows<L: Ledger>(
     }
     of_bytes(alloc, rules, metric, target, body_of(reply), steps)
 }
-
-#[cfg(test)]
-mod tests;

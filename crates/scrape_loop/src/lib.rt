@@ -14,6 +14,3 @@ mod walk;
 
 pub use appender_book::Book;
 pub use life_state::LifeState;
-
-#[cfg(test)]
-mod tests;

@@ -1,4 +1,0 @@
-use Rattle.scrape_loop.proofs.tests.gives.Given as goal
-
-abbrev pub ghosts-told : goal.ghosts-told
-ghosts-told a = record { name = a.blank.name; parts = a.blank.parts }

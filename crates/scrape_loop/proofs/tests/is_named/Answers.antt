@@ -1,7 +1,0 @@
-use Rattle.std.proofs.Common.{◌∙◌, List, ℕ, Bor}
-use Rattle.label_set.specs.SetText.{metric_label}
-use Rattle.sample_rows.proofs.NamedLemmas.{lent-bears}
-use Rattle.scrape_loop.proofs.tests.is_named.Goals as goal
-
-pub returns : goal.returns
-returns c = c.is_some.ensures ∙ lent-bears (λ (v : Bor (List ℕ)). v.now) c.get.result c.args.set.now metric_label c.get.ensures
