@@ -167,7 +167,7 @@ fn each_put_of_a_long_output_may_fail(rt: HostRuntime) -> Result<(), Fail> {
         assert!(rt; call == 0 || put < ran.out.bytes().len());
         put = ran.out.bytes().len();
     }
-    let short = whole.out.bytes().len() - 1;
+    let short = whole.out.bytes().len().saturating_sub(1);
     let ran = run_over(alloc, words.as_slice(), &mut shelf, short, &[])?;
     assert_eq!(rt; ran.status, 7);
     let ran = run_over(alloc, words.as_slice(), &mut shelf, ROOM, &[3])?;
