@@ -6,6 +6,8 @@
 
 pub mod moments;
 pub mod schedule;
+pub mod seats;
 
 pub use moments::{Interval, Moment, Planned};
 pub use schedule::{InFlight, Scanned, Schedule};
+pub use seats::{Seat, Seats};
