@@ -1,5 +1,5 @@
 -- The report samples of a scrape ("Jobs and instances" of the Prometheus documentation, automatically generated labels and time series).
-use Rattle.std.specs.Prelude.{ℕ, ℤ, Bool, List, [], ◌∷◌, codes, Some, if◌then◌else◌}
+use Rattle.std.specs.Prelude.{ℕ, ℤ, Bool, List, [], ◌∷◌, codes, map, Some, if◌then◌else◌}
 use Rattle.std.specs.Fmt.{decimal}
 use Rattle.label_set.specs.declared.texts.Pair.{Pair}
 use Rattle.label_set.specs.Sets.{with_label}
@@ -34,12 +34,18 @@ report_entry life target m r value = record { life = life; kind = kind.Report; s
 abbrev pub up_text : Bool → List ℕ
 up_text up = if up then decimal 1 else decimal 0
 
--- the five reports of a scrape that started at m, in their order; the duration is in seconds with three decimals
+-- the reports, in their order
+abbrev pub report_order : List Report
+report_order = Up ∷ Duration ∷ Scraped ∷ Left ∷ Added ∷ []
+
+-- what a report of a scrape says; the duration is in seconds with three decimals
+abbrev pub report_value : ReportCounts → Report → List ℕ
+report_value c Up = up_text c.up
+report_value c Duration = seconds3 (number c.took)
+report_value c Scraped = decimal c.scraped
+report_value c Left = decimal c.left
+report_value c Added = decimal c.added
+
+-- the five reports of a scrape that started at m, in their order
 abbrev pub report_entries : ℕ → List Pair → ℤ → ReportCounts → List Entry
-report_entries life target m c =
-    report_entry life target m Up (up_text c.up)
-    ∷ report_entry life target m Duration (seconds3 (number c.took))
-    ∷ report_entry life target m Scraped (decimal c.scraped)
-    ∷ report_entry life target m Left (decimal c.left)
-    ∷ report_entry life target m Added (decimal c.added)
-    ∷ []
+report_entries life target m c = map (λ (r : Report). report_entry life target m r (report_value c r)) report_order

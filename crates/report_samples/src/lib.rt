@@ -1,13 +1,18 @@
 //! The entries of a book, and the five report samples that each scrape of a target adds to it: `up`, how long the fetch took, and three counts.
 //! A report's series has the target's labels and the report's name as `__name__`.
+//! A series that has ended gets a stale marker, the series of a report too; a `Closing` is what the ending of a life needs to know.
 //! Contracts see an entry as the record of its life, kind, set, moment and value, and label sets and values as their lists;
-//! `specs/Reports.antt` says what the reports are.
+//! `specs/Reports.antt` says what the reports are, and `specs/Markers.antt` what the markers are.
 #![tactic(auto)]
 
+pub mod closing;
 pub mod entries;
+pub mod markers;
 pub mod report_sets;
 pub mod scrape_reports;
 
+pub use closing::Closing;
 pub use entries::{Entry, EntryList, Kind};
+pub use markers::stale_entry;
 pub use report_sets::ReportSets;
 pub use scrape_reports::{Report, ReportCounts, report_set, reports};

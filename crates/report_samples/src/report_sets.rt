@@ -1,5 +1,6 @@
 //! The sets of a target's reports.
 ghost use Rattle.std.specs.Prelude.{◌≡◌, pos, ◌≤ℤ◌, IfOk};
+ghost use Rattle.report_samples.specs.Markers as markers;
 ghost use Rattle.report_samples.specs.Reports as spec;
 
 use crate::entries::{Entry, EntryList, Kind};
@@ -119,6 +120,37 @@ impl ReportSets {
         let added = self.entry(life, moment, Report::Added, added)?;
         Ok(EntryList {
             items: five(alloc, up, took, scraped, left, added)?,
+        })
+    }
+
+    /// The stale marker of a report's series.
+    fn marker(&self, life: u64, moment: i64, report: Report) -> Result<Entry, NoMemory>
+        ensures { IfOk result (λ e. e ≡ markers.report_marker life self.now moment report) }
+    {
+        Ok(Entry {
+            life,
+            kind: Kind::ReportStale,
+            series: self.set(report).copy()?,
+            moment,
+            value: None,
+        })
+    }
+
+    /// The stale markers of the five reports at a moment, appended by a life, in the order of `Report`.
+    ///
+    /// # Errors
+    ///
+    /// Only want of memory refuses.
+    pub fn markers(&self, alloc: Global, life: u64, moment: i64) -> Result<EntryList, NoMemory>
+        ensures { IfOk result (λ l. l ≡ markers.report_markers life self.now moment) }
+    {
+        let up = self.marker(life, moment, Report::Up)?;
+        let duration = self.marker(life, moment, Report::Duration)?;
+        let scraped = self.marker(life, moment, Report::Scraped)?;
+        let left = self.marker(life, moment, Report::Left)?;
+        let added = self.marker(life, moment, Report::Added)?;
+        Ok(EntryList {
+            items: five(alloc, up, duration, scraped, left, added)?,
         })
     }
 }

@@ -1,4 +1,5 @@
 use super::*;
+use crate::markers::stale_entry;
 use std::test::Fail;
 
 /// The reports of a good scrape, and of one that wasn't made.
@@ -12,6 +13,15 @@ const REPORTS: &str = r#"9 3 Report up{instance="a:1",job="j"} 1
 -5 4 Report scrape_samples_scraped{instance="a:1",job="j"} 0
 -5 4 Report scrape_samples_post_metric_relabeling{instance="a:1",job="j"} 0
 -5 4 Report scrape_series_added{instance="a:1",job="j"} 0
+"#;
+
+/// The stale markers of the series of the labels alone, and of the reports.
+const MARKERS: &str = r#"12 7 Stale {instance="a:1",job="j"}
+12 7 ReportStale up{instance="a:1",job="j"}
+12 7 ReportStale scrape_duration_seconds{instance="a:1",job="j"}
+12 7 ReportStale scrape_samples_scraped{instance="a:1",job="j"}
+12 7 ReportStale scrape_samples_post_metric_relabeling{instance="a:1",job="j"}
+12 7 ReportStale scrape_series_added{instance="a:1",job="j"}
 "#;
 
 /// The labels of the target `a:1` of a job `j`.
@@ -81,5 +91,17 @@ fn sets_of_reports(rt: HostRuntime) -> Result<(), Fail> {
         assert_eq!(rt; set.get("instance"), Some("a:1"));
         assert_eq!(rt; set.len(), 3);
     }
+    Ok(())
+}
+
+#[test]
+fn stale_markers(rt: HostRuntime) -> Result<(), Fail> {
+    let alloc = rt.alloc();
+    let target = target(alloc)?;
+    let mut text = Vec::new(alloc);
+    print(alloc, &mut text, &stale_entry(7, 12, &target)?)?;
+    let sets = ReportSets::of(alloc, target)?;
+    printed(alloc, &mut text, &sets.markers(alloc, 7, 12)?)?;
+    assert!(rt; text.as_slice() == MARKERS.as_bytes());
     Ok(())
 }
