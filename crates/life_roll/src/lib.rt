@@ -4,10 +4,12 @@
 //! `specs/Schedules.antt` says what scans, changes and closing make of it.
 #![tactic(auto)]
 
+pub mod job_names;
 pub mod moments;
 pub mod schedule;
 pub mod seats;
 
+pub use job_names::JobNames;
 pub use moments::{Interval, Moment, Planned};
 pub use schedule::{InFlight, Scanned, Schedule};
 pub use seats::{Seat, Seats};
