@@ -5,3 +5,4 @@ pub mod RuleLemmas
 pub mod JobLemmas
 pub mod ReadLemmas
 pub mod PatternLemmas
+pub mod BoundLemmas
