@@ -61,7 +61,7 @@ minute = grind arith
 ten_seconds : IsInterval (pos 10000)
 ten_seconds = grind arith
 
-abbrev HasBounds : Base → Type 0
+abbrev pub HasBounds : Base → Type 0
 HasBounds base = IsInterval base.interval × IsInterval base.timeout
 
 global_bounded : (d : Data) → HasBounds (global_base d)
@@ -70,7 +70,7 @@ global_bounded d =
     let interval = interval_bounded (pos 60000) d minute in
     (interval, timeout_bounded (pos 10000) (interval_or (pos 60000) d) d ten_seconds interval)
 
-base_bounded : (d : Data) → HasBounds (base_of d)
+pub base_bounded : (d : Data) → HasBounds (base_of d)
 unfolding base_of
 base_bounded d = global_bounded (unwrap_or (get (codes "global") d) null)
 

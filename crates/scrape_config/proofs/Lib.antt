@@ -6,3 +6,6 @@ pub mod JobLemmas
 pub mod ReadLemmas
 pub mod PatternLemmas
 pub mod BoundLemmas
+pub mod OrderLemmas
+pub mod LabelLemmas
+pub mod SoundLemmas
