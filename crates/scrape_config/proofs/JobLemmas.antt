@@ -50,7 +50,7 @@ list_fine place d clean =
 
 -- a job without faults has rules of which no field is refused
 module _ (base : Base) (place : List ℕ) (d : Data) (clean : job_faults base place d ≡ []) where
-  job_field-clean : (key : List ℕ) (e : Data) → get key d ≡ Some e → job_field_faults (job_field (interval_in base d) key) (field_place place key) e ≡ []
+  pub job_field-clean : (key : List ℕ) (e : Data) → get key d ≡ Some e → job_field_faults (job_field (interval_in base d) key) (field_place place key) e ≡ []
   unfolding job_faults
   job_field-clean key e is =
       let ms = of_shape-clean place (as_object d) (job_members_faults (interval_in base d) place owed_by_job) clean in

@@ -5,3 +5,7 @@ pub mod RuleLemmas
 pub mod JobLemmas
 pub mod ReadLemmas
 pub mod PatternLemmas
+pub mod BoundLemmas
+pub mod OrderLemmas
+pub mod LabelLemmas
+pub mod SoundLemmas

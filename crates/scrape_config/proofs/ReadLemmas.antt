@@ -1,5 +1,6 @@
 -- The two sides of the test for UTF-8, and causes that say less.
-use Rattle.std.proofs.Common.{◌≡◌, ℕ, List, true, false, None, IsUtf8, ⊎_elim, refl}
+use Rattle.std.proofs.Common.{◌≡◌, ℕ, List, true, false, None, IsUtf8, ⊎_elim, refl, sym, subst}
+use Rattle.std.specs.Prelude.{Result, Ok, Err, IfOk}
 use Rattle.std.proofs.lemmas.Bool.{cases_Bool}
 use Rattle.std.proofs.lemmas.Str.{IsUtf8-from_is_utf8, is_utf8-from_IsUtf8}
 use Rattle.std.specs.Str.{is_utf8}
@@ -33,3 +34,8 @@ module _ (P Q : List ℕ → Type 0) (weaker : (place : List ℕ) → P place �
   pub rule_cause-weaker : (error : ConfError) → IsRuleCause P error → IsRuleCause Q error
   rule_cause-weaker (Bad fault) h = rule_at-weaker fault h
   rule_cause-weaker NoMemory h = h
+
+-- what holds of the one value that a call may give holds of what it gives
+pub kept_by : {A E : Type 0} (P : A → Type 0) (a : A) → P a → (r : Result A E) → IfOk r (λ b. b ≡ a) → IfOk r P
+kept_by P a p (Ok b) e = subst P (sym e) p
+kept_by P a p (Err error) e = tt

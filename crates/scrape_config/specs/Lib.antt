@@ -1,5 +1,6 @@
 pub mod Defaults
 pub mod Lists
 pub mod Values
+pub mod Bounds
 pub mod Reading
 pub mod Settings

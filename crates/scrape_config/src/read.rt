@@ -6,6 +6,8 @@ ghost use Rattle.config_fields.specs.Places.{field_place, item_place};
 ghost use Rattle.scrape_config.specs.Lists.{conf_faults, job_faults, jobs_walk};
 ghost use Rattle.scrape_config.specs.Values.{conf_of, job_of, jobs_of, built};
 ghost use Rattle.scrape_config.specs.Reading as spec;
+ghost use Rattle.scrape_config.specs.Bounds.{IsBounded, HasLabelNames, IsSound};
+ghost use Rattle.scrape_config.specs.declared.conf.Job.{Job};
 
 use crate::conf::{Conf, GroupList, Job, JobList};
 use crate::defaults::{Base, base_of, list_under};
@@ -156,6 +158,8 @@ pub fn read_conf(alloc: Global, bytes: &[u8]) -> Result<Conf, ConfError>
     ensures refused { IfErr result (λ e. spec.IsCause (spec.reading bytes.now) e) }
     ensures whole { IfOk result (λ c. spec.whole_reading bytes.now ≡ Ok c) }
     ensures first { IfErr result (λ e. spec.IsWholeCause (spec.whole_reading bytes.now) e) }
+    ensures bounded { IfOk result (λ c. All (λ (j : Job). IsBounded j.conf) c.jobs) }
+    ensures sound { IfOk result (λ c. All IsSound c.jobs) }
 {
     let Some(value) = json_of(alloc, bytes)? else {
         return Err(ConfError::Bad(ConfFault::NotJson));
@@ -171,6 +175,7 @@ pub fn read_conf(alloc: Global, bytes: &[u8]) -> Result<Conf, ConfError>
 pub fn read_groups(alloc: Global, bytes: &[u8], file: &str) -> Result<GroupList, ConfError>
     ensures read { IfOk result (λ g. spec.groups_reading file.now bytes.now ≡ Ok g) }
     ensures refused { IfErr result (λ e. spec.IsGroupsCause (spec.groups_reading file.now bytes.now) e) }
+    ensures sound { IfOk result (λ g. All HasLabelNames g) }
 {
     let Some(value) = json_of(alloc, bytes)? else {
         return Err(ConfError::Bad(ConfFault::NotJson));
