@@ -1,9 +1,10 @@
 -- The book, and the entries that a scrape appends ("Staleness" of the Prometheus documentation; "Configuration", scrape_config: honor_timestamps).
-use Rattle.std.specs.Prelude.{ℕ, ℤ, pos, false, List, ◌++◌, map, length, Some, None, unwrap_or}
+use Rattle.std.specs.Prelude.{ℕ, ℤ, pos, false, List, ◌++◌, map, length, Some, unwrap_or}
 use Rattle.label_set.specs.declared.texts.Pair.{Pair}
 use Rattle.report_samples.specs.declared.entries.Kind.TheVariants as kind
 use Rattle.report_samples.specs.declared.entries.Entry.{Entry}
 use Rattle.report_samples.specs.declared.scrape_reports.ReportCounts.{ReportCounts}
+use Rattle.report_samples.specs.Markers.{stale_entry}
 use Rattle.report_samples.specs.Reports.{report_entries}
 use Rattle.sample_rows.specs.declared.scrape.Sample.{Sample}
 use Rattle.sample_rows.specs.declared.scrape.Scrape.{Scrape}
@@ -18,10 +19,6 @@ pub record BookView : Type 0 where
 -- the sample of a row of a scrape that started at m: at its own timestamp, or at m
 abbrev pub sample_entry : ℕ → ℤ → Sample → Entry
 sample_entry life m r = record { life = life; kind = kind.Scraped; series = r.set; moment = unwrap_or r.stamp m; value = Some r.value }
-
--- the stale marker of a set at m
-abbrev pub stale_entry : ℕ → ℤ → List Pair → Entry
-stale_entry life m x = record { life = life; kind = kind.Stale; series = x; moment = m; value = None }
 
 -- how many sets of a scrape the last good one didn't have; a bad scrape has no sets
 abbrev pub added_count : List (List Pair) → Scrape → ℕ

@@ -1,3 +1,4 @@
 pub mod Sets
 pub mod Tracked
 pub mod Entries
+pub mod Closings

@@ -13,12 +13,13 @@ use Rattle.sample_rows.specs.Outcomes.{outcome}
 use Rattle.scrape_loop.specs.Sets.{rising}
 
 -- what contracts see of a life's state: its number, its target's labels, the sets that its last counted scrape tracked,
--- and all sets of its last good one
+-- all sets of its last good one, and whether a scrape of it counted, a forced one too
 pub record LifeView : Type 0 where
   pub life : ℕ
   pub target : List Pair
   pub tracked : List (List Pair)
   pub known : List (List Pair)
+  pub scraped : Bool
 
 -- the fault, where the scrape isn't good
 abbrev pub fault_of : Scrape → Option ScrapeFault
@@ -68,15 +69,15 @@ known_after known (Bad f scraped left) = known
 
 -- the state after a scrape, good or not, with the sets that it tracks and all its sets
 abbrev pub settled : LifeView → Bool → List (List Pair) → List (List Pair) → LifeView
-settled l good tracked all = record l { tracked = tracked; known = if good then all else l.known }
+settled l good tracked all = record l { tracked = tracked; known = if good then all else l.known; scraped = true }
 
 -- the state of a life of which nothing was scraped yet
 abbrev pub fresh : ℕ → List Pair → LifeView
-fresh life target = record { life = life; target = target; tracked = []; known = [] }
+fresh life target = record { life = life; target = target; tracked = []; known = []; scraped = false }
 
 -- the state after a scrape that counts, good or bad: it tracks what that scrape tracks
 abbrev pub after_scrape : LifeView → Scrape → LifeView
-after_scrape l s = record l { tracked = tracked_sets s; known = known_after l.known s }
+after_scrape l s = record l { tracked = tracked_sets s; known = known_after l.known s; scraped = true }
 
 -- what a scrape of the life's target comes to, by the job's rules, the reply and how many milliseconds it took
 abbrev pub outcome_for : LifeView → RowRules → List RuleConf → Reply → ℤ → Scrape

@@ -1,21 +1,22 @@
 //! What the scrapes of one life leave for the next.
-ghost use Rattle.std.specs.Prelude.{◌≡◌, ◌≤◌, ◌+◌, [], ◌++◌, is_none, length, pos, ◌≤ℤ◌, false, IfOk, OnOk, OnErr};
+ghost use Rattle.std.specs.Prelude.{◌≡◌, ◌≤◌, ◌+◌, [], ◌++◌, is_none, length, pos, ◌≤ℤ◌, false, true, IfOk, OnOk, OnErr};
 ghost use Rattle.label_conflict.specs.Merging.{bears};
 ghost use Rattle.label_set.specs.SetText.{metric_label};
 ghost use Rattle.sample_rows.specs.Outcomes.{runs, forced};
+ghost use Rattle.scrape_loop.specs.Closings.{closing_of};
 ghost use Rattle.scrape_loop.specs.Entries.{entries_of, forced_entries};
 ghost use Rattle.scrape_loop.specs.Sets.{IsRising};
 ghost use Rattle.scrape_loop.specs.Tracked as spec;
 
 use crate::appender_book::Book;
-use crate::rising::RisingSets;
+use crate::rising::{RisingSets, copy_of};
 use crate::scrape_entries::{counts_of, push_samples, push_stale};
 use crate::scrape_sets::{ScrapeSets, fault_in, into_samples, sets_of};
 use crate::target_labels::TargetLabels;
 use label_set::{LabelSet, NoMemory, SetList, Steps};
 use outside::Reply;
 use relabel::Rules;
-use report_samples::EntryList;
+use report_samples::{Closing, EntryList};
 use sample_rows::{RowRules, Scrape, ScrapeFault, rows};
 use std::alloc::Global;
 use std::marker::Model;
@@ -31,6 +32,8 @@ pub struct LifeState {
     tracked: SetList,
     /// All sets of the last good scrape, rising.
     known: SetList,
+    /// Whether a scrape of it counted, a forced one too.
+    scraped: bool,
 }
 
 impl Model for LifeState {
@@ -39,7 +42,7 @@ impl Model for LifeState {
 
     ghost Value = { LifeView };
 
-    ghost view = { λ s. record { life = s.life; target = s.target; tracked = s.tracked; known = s.known } };
+    ghost view = { λ s. record { life = s.life; target = s.target; tracked = s.tracked; known = s.known; scraped = s.scraped } };
 
     ghost invariant = { λ s. IsRising s.tracked × IsRising s.known };
 }
@@ -60,6 +63,7 @@ impl LifeState {
             target: TargetLabels::of(alloc, target)?,
             tracked: none.list(alloc)?,
             known: none.list(alloc)?,
+            scraped: false,
         })
     }
 
@@ -85,6 +89,40 @@ impl LifeState {
         ensures rising { IsRising self.now.known }
     {
         self.known.as_slice()
+    }
+
+    /// Whether a scrape of the life counted, a forced one too.
+    pub fn scraped(&self) -> bool
+        ensures { result ≡ self.now.scraped }
+    {
+        self.scraped
+    }
+
+    /// What the life leaves behind where it is closed at a moment, with its next scrape planned at another one and this scrape interval.
+    /// It shares the labels of the target and of the sets.
+    ///
+    /// # Errors
+    ///
+    /// Only want of memory refuses.
+    pub fn closing(
+        &self,
+        alloc: Global,
+        planned: i64,
+        closed: i64,
+        interval: i64,
+    ) -> Result<Closing, NoMemory>
+        ensures closing { IfOk result (λ c. c ≡ closing_of self.now planned closed interval) }
+        ensures rising { IfOk result (λ c. IsRising c.tracked) }
+    {
+        Ok(Closing {
+            life: self.life,
+            target: self.target().copy()?,
+            tracked: copy_of(alloc, self.tracked())?,
+            scraped: self.scraped,
+            planned,
+            closed,
+            interval,
+        })
     }
 
     /// The entries of a scrape that started at a moment, by its sets and the milliseconds that it took.
@@ -122,6 +160,7 @@ impl LifeState {
     {
         let ScrapeSets { tracked, all } = sets;
         self.tracked = tracked;
+        self.scraped = true;
         if fault.is_none() {
             self.known = all;
         }
@@ -193,9 +232,10 @@ impl LifeState {
     /// Makes a forced scrape the last counted one: it tracks nothing, and the sets of the last good scrape stay known. It takes no memory.
     pub fn force(&mut self)
         ensures state { self.new ≡ spec.after_scrape self.old forced }
-        ensures none_tracked { self.new ≡ record self.old { tracked = [] } }
+        ensures none_tracked { self.new ≡ record self.old { tracked = []; scraped = true } }
     {
         clear(&mut self.tracked);
+        self.scraped = true;
     }
 }
 

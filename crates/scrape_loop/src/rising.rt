@@ -55,3 +55,16 @@ impl RisingSets {
         Ok(SetList { items })
     }
 }
+
+/// A list of the same sets, which share their labels.
+pub fn copy_of(alloc: Global, sets: &[LabelSet]) -> Result<SetList, NoMemory>
+    ensures { IfOk result (λ l. l ≡ sets.now) }
+{
+    let mut items = Vec::with_capacity(alloc, sets.len())?;
+    for set in sets {
+        let copy = set.copy()?;
+        items.reserve(1)?;
+        items.push_reserved(copy);
+    }
+    Ok(SetList { items })
+}

@@ -1,12 +1,13 @@
 //! The entries of a scrape.
-ghost use Rattle.std.specs.Prelude.{◌≡◌, ◌++◌, map, IfOk, OnOk};
+ghost use Rattle.std.specs.Prelude.{◌≡◌, ◌++◌, map, OnOk};
+ghost use Rattle.report_samples.specs.Markers.{stale_entry};
 ghost use Rattle.scrape_loop.specs.Entries as spec;
 ghost use Rattle.scrape_loop.specs.Sets.{IsRising, gone, unless_first};
 ghost use Rattle.scrape_loop.specs.Tracked.{all_sets};
 
 use crate::walk::{begins_with, count_without, from_set};
 use label_set::{LabelSet, NoMemory};
-use report_samples::{Entry, Kind, ReportCounts};
+use report_samples::{Entry, Kind, ReportCounts, stale_entry};
 use sample_rows::{Sample, Scrape};
 
 fn sample_entry(life: u64, moment: i64, sample: Sample) -> Entry
@@ -19,18 +20,6 @@ fn sample_entry(life: u64, moment: i64, sample: Sample) -> Entry
         moment: sample.stamp.unwrap_or(moment),
         value: Some(sample.value),
     }
-}
-
-fn stale_entry(life: u64, moment: i64, set: &LabelSet) -> Result<Entry, NoMemory>
-    ensures { IfOk result (λ e. e ≡ spec.stale_entry life moment set.now) }
-{
-    Ok(Entry {
-        life,
-        kind: Kind::Stale,
-        series: set.copy()?,
-        moment,
-        value: None,
-    })
 }
 
 /// Adds the samples of a scrape that started at a moment.
@@ -58,7 +47,7 @@ fn push_if_gone(
     now: &[LabelSet],
     set: &LabelSet,
 ) -> Result<(), NoMemory>
-    ensures { OnOk result (entries.new.items ≡ entries.old.items ++ map (spec.stale_entry life moment) (unless_first set.now now.now)) }
+    ensures { OnOk result (entries.new.items ≡ entries.old.items ++ map (stale_entry life moment) (unless_first set.now now.now)) }
 {
     if begins_with(now, set) {
         return Ok(());
@@ -79,7 +68,7 @@ pub fn push_stale(
 ) -> Result<(), NoMemory>
     requires before { IsRising before.now }
     requires now { IsRising now.now }
-    ensures { OnOk result (entries.new.items ≡ entries.old.items ++ map (spec.stale_entry life moment) (gone before.now now.now)) }
+    ensures { OnOk result (entries.new.items ≡ entries.old.items ++ map (stale_entry life moment) (gone before.now now.now)) }
 {
     let mut rest = now;
     for set in before {

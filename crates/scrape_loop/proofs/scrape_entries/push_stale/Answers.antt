@@ -3,7 +3,7 @@ use Rattle.std.proofs.lemmas.Int.{to_z-of_z}
 use Rattle.std.proofs.lemmas.List.{map-append, take_all}
 use Rattle.label_set.specs.declared.texts.Pair.{Pair}
 use Rattle.report_samples.specs.declared.entries.Entry.{Entry}
-use Rattle.scrape_loop.specs.Entries.{stale_entry}
+use Rattle.report_samples.specs.Markers.{stale_entry}
 use Rattle.scrape_loop.specs.Sets.{from_set, gone, unless_first}
 use Rattle.scrape_loop.proofs.WalkLemmas.{Walks, walk-start, walk-step}
 use Rattle.scrape_loop.proofs.scrape_entries.push_stale.Goals as goal

@@ -1,5 +1,5 @@
 use Rattle.std.proofs.Common.{◌≡◌, ◌++◌, map, take, drop}
-use Rattle.scrape_loop.specs.Entries.{stale_entry}
+use Rattle.report_samples.specs.Markers.{stale_entry}
 use Rattle.scrape_loop.specs.Sets.{gone}
 use Rattle.scrape_loop.proofs.WalkLemmas.{Walks}
 use Rattle.scrape_loop.proofs.scrape_entries.push_stale.Given as goal
