@@ -9,3 +9,4 @@ pub mod BoundLemmas
 pub mod OrderLemmas
 pub mod LabelLemmas
 pub mod SoundLemmas
+pub mod SettingLemmas

@@ -16,3 +16,4 @@ pub use conf::{Conf, Group, GroupList, Job, JobConf, JobList, Param, ParamList, 
 pub use config_fields::ConfFault;
 pub use fault::ConfError;
 pub use read::{read_conf, read_groups};
+pub use settings::comparing_decides;

@@ -1,5 +1,6 @@
 //! Comparing the settings of jobs.
 ghost use Rattle.std.specs.Prelude.{◌≡◌, Decides};
+ghost use Rattle.scrape_config.specs.Settings as spec;
 ghost use Rattle.scrape_config.specs.Settings.{HasSameReach, HasSameLists, Compatible, Same};
 
 use crate::conf::{JobConf, Param};
@@ -90,27 +91,51 @@ fn have_same_lists(a: &JobConf, b: &JobConf) -> bool
         && are_same_rules(a.metric_relabel.as_slice(), b.metric_relabel.as_slice())
 }
 
+/// Whether two jobs are compatible.
+#[tactic(auto, unfolding(crate::specs::Settings::Compatible))]
+fn are_compatible(a: &JobConf, b: &JobConf) -> bool
+    ensures { Decides result (Compatible a.now b.now) }
+{
+    have_same_reach(a, b) && have_same_lists(a, b)
+}
+
+/// Whether two jobs have the same settings.
+#[tactic(auto, unfolding(crate::specs::Settings::Same))]
+fn are_same(a: &JobConf, b: &JobConf) -> bool
+    ensures { Decides result (Same a.now b.now) }
+{
+    are_compatible(a, b)
+        && a.scrape_interval == b.scrape_interval
+        && a.scrape_timeout == b.scrape_timeout
+        && a.limits == b.limits
+}
+
 impl JobConf {
     /// Whether the settings are equal that say how targets are scraped and samples named:
     /// a target's series can go on under the other job. Interval, timeout and limits may differ, groups and files of groups as well.
-    #[tactic(auto, unfolding(crate::specs::Settings::Compatible))]
     pub fn compatible(&self, other: &JobConf) -> bool
-        ensures { Decides result (Compatible self.now other.now) }
+        ensures decides { Decides result (Compatible self.now other.now) }
+        ensures compared { result ≡ spec.is_compatible self.now other.now }
     {
-        have_same_reach(self, other) && have_same_lists(self, other)
+        are_compatible(self, other)
     }
 
     /// Whether all settings are equal. Groups and files of groups are no settings.
-    #[tactic(auto, unfolding(crate::specs::Settings::Same))]
     pub fn same(&self, other: &JobConf) -> bool
-        ensures { Decides result (Same self.now other.now) }
+        ensures decides { Decides result (Same self.now other.now) }
+        ensures compared { result ≡ spec.is_same self.now other.now }
     {
-        self.compatible(other)
-            && self.scrape_interval == other.scrape_interval
-            && self.scrape_timeout == other.scrape_timeout
-            && self.limits == other.limits
+        are_same(self, other)
     }
 }
+
+/// For any two jobs, what `compatible` and `same` answer says what is the same of them, and jobs with the same settings are compatible.
+/// The call does nothing: its contract is the law.
+pub fn comparing_decides()
+    ensures compatible { spec.CompatibleIsDecided }
+    ensures same { spec.SameIsDecided }
+    ensures within { spec.SameIsCompatible }
+{}
 
 #[cfg(test)]
 mod tests;
