@@ -1,3 +1,4 @@
 pub mod DistinctLemmas
 pub mod WalkLemmas
 pub mod RequestLemmas
+pub mod FileLemmas

@@ -6,6 +6,7 @@
 
 mod address;
 mod counts;
+mod files;
 mod kept;
 mod outcomes;
 mod prepare;
@@ -13,7 +14,10 @@ mod requests;
 mod targets;
 mod walk;
 
+pub use counts::listed_within;
+pub use files::{FileGroups, SharedGroups};
 pub use requests::request_of;
 pub use targets::{
     Outcome, RefusedList, RefusedTarget, Target, TargetCause, TargetList, Targets, targets_of,
+    targets_with_files,
 };

@@ -4,6 +4,7 @@ ghost use Rattle.target_set.specs.Listed as spec;
 ghost use Rattle.target_set.specs.Listed.{group_count, group_outcomes, listed_count};
 ghost use Rattle.target_set.specs.Walk as walked;
 
+use crate::files::FileGroups;
 use crate::outcomes::judged;
 use crate::prepare::{prepared, set_of_group};
 use crate::targets::Outcome;
@@ -74,6 +75,46 @@ pub fn outcomes_of<L: Ledger>(
     let mut out = Vec::new(alloc);
     for group in groups {
         push_group(alloc, conf, &mut runner, group, &mut out, steps)?;
+    }
+    Ok(out)
+}
+
+/// Adds what becomes of each target that the groups of a file list.
+fn push_file<L: Ledger>(
+    alloc: Global,
+    conf: &JobConf,
+    rules: &Rules,
+    file: &FileGroups,
+    out: &mut Vec<Outcome>,
+    steps: &mut Steps<L>,
+) -> Result<(), NoMemory>
+    ensures outcomes { OnOk result (out.new.items ≡ out.old.items ++ spec.outcomes_of conf.now rules.now file.now.groups) }
+    ensures steps { OnOk result (steps.new ≡ steps.old + listed_count file.now.groups) }
+    ensures at_least { steps.old ≤ steps.new }
+    ensures at_most { steps.new ≤ steps.old + listed_count file.now.groups }
+{
+    let mut more = outcomes_of(alloc, conf, rules, file.groups.as_slice(), steps)?;
+    out.append(&mut more)?;
+    Ok(())
+}
+
+/// What becomes of each target that a job lists, and then of those that its files list. Each takes one step.
+#[tactic(auto, using(crate::proofs::FileLemmas::files_walked, crate::proofs::FileLemmas::files_left, crate::proofs::FileLemmas::files_rest))]
+pub fn outcomes_with_files<L: Ledger>(
+    alloc: Global,
+    conf: &JobConf,
+    rules: &Rules,
+    files: &[FileGroups],
+    steps: &mut Steps<L>,
+) -> Result<Vec<Outcome>, NoMemory>
+    ensures outcomes { IfOk result (λ v. v.items ≡ spec.outcomes_of conf.now rules.now (spec.listed_groups conf.now files.now)) }
+    ensures steps { OnOk result (steps.new ≡ steps.old + listed_count (spec.listed_groups conf.now files.now)) }
+    ensures at_least { steps.old ≤ steps.new }
+    ensures at_most { steps.new ≤ steps.old + listed_count (spec.listed_groups conf.now files.now) }
+{
+    let mut out = outcomes_of(alloc, conf, rules, conf.groups.as_slice(), steps)?;
+    for file in files {
+        push_file(alloc, conf, rules, file, &mut out, steps)?;
     }
     Ok(out)
 }
