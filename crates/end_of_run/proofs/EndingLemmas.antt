@@ -128,7 +128,7 @@ one_added c (e ∷ es) n one = by_test (is_of c.life e) refl (one_added c es)
   where
     by_test : (b : Bool) → is_of c.life e ≡ b → (ending_of c.life es ≡ None → IsOneEach es → IsOneEach (es ++ untaken c ∷ [])) → IsOneEach ((e ∷ es) ++ untaken c ∷ [])
     by_test true h rest = let no : Some e ≡ None = sym (found-here c.life e es h) ∙ n in absurd cc
-    by_test false h rest = 
+    by_test false h rest =
         (none_added e.closing.life c es one.0 (turned e.closing.life c.life h), rest (sym (found-more c.life e es h) ∙ n) one.1)
 
 -- an ending that was taken is not due again
