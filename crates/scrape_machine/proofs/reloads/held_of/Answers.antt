@@ -1,0 +1,26 @@
+use Rattle.std.proofs.Common.{◌≡◌, ℤ, ◌∙◌, ap, ap₂, arith, length, List, get_or}
+use Rattle.std.specs.List.{list_any}
+use Rattle.std.proofs.lemmas.List.{take_all}
+use Rattle.scrape_machine.specs.declared.acts.Fate.{Fate}
+use Rattle.scrape_machine.specs.declared.lives.Life.{Life}
+use Rattle.scrape_machine.specs.Plans.{after_each, sits}
+use Rattle.scrape_machine.proofs.HeldLemmas.{held_more}
+use Rattle.scrape_machine.proofs.reloads.held_of.Goals as goal
+
+pub loop-fate-preserved : goal.loop-fate-preserved
+loop-fate-preserved c =
+    let p = c.loop-fate.invariant.place in
+    let n = c.requires in
+    record {
+      place = omega arith;
+      held = λ moment place identity.
+          held_more moment c.args.names.now place identity c.args.fates.now c.args.lives.now c.loop-fate.fate-index c.fate-item.result c.index-lives-place.result _ _
+          c.loop-fate-test.true (omega (arith, p, n, c.loop-fate-test.true)) c.fate-item.is (c.index-lives-place.is ∙ ap (λ i. get_or c.args.lives.now i c.index-lives-place.result) p) (c.loop-fate.invariant.held moment place identity)
+          (c.in_ok-hold.ensures moment place identity);
+    }
+
+pub returns : goal.returns
+returns c = λ moment place identity.
+    c.loop-fate.invariant.held moment place identity
+    ∙ ap₂ (λ (fs : List Fate) (ls : List Life). list_any (sits c.args.names.now place identity) (after_each moment fs ls))
+    (take_all c.loop-fate.fate-index c.args.fates.now (omega (arith, c.loop-fate-test.false))) (take_all c.loop-fate.fate-index c.args.lives.now (omega (arith, c.loop-fate-test.false, c.requires)))

@@ -1,0 +1,11 @@
+use Rattle.std.proofs.Common.{◌≡◌, ◌++◌, ◌+◌, ◌≤◌, map, take, drop, length, List, ℕ}
+use Rattle.std.specs.Prelude.{filter}
+use Rattle.journal_text.specs.Lines.{number}
+use Rattle.scrape_machine.specs.Machine.{starts_in}
+use Rattle.scrape_machine.proofs.scans.count_starts.Given as goal
+
+abbrev pub invariant-loop-life : goal.invariant-loop-life
+invariant-loop-life l = record {
+  few : l.count ≤ l.life-index;
+  count : l.count ≡ length (filter (starts_in l.jobs (number l.moment)) (take l.life-index l.lives));
+}

@@ -1,0 +1,7 @@
+use Rattle.std.proofs.Common.{◌≡◌, ◌++◌, ◌+◌, ◌≤◌, map, take, drop, length, List, ℕ}
+use Rattle.std.specs.List.{flat_map}
+use Rattle.scrape_machine.specs.Machine.{swept_entries}
+use Rattle.scrape_machine.proofs.scans.entries_of.Given as goal
+
+abbrev pub invariant-loop-life : goal.invariant-loop-life
+invariant-loop-life l = l.entries.items ≡ flat_map (swept_entries l.jobs l.moment) (take l.life-index l.lives)

@@ -1,0 +1,117 @@
+//! What a finish does.
+ghost use Rattle.std.specs.Prelude.{◌≡◌, ◌≤◌, ◌++◌, length, slice_get, option_copied, IfOk, OnOk, OnErr};
+ghost use Rattle.journal_text.specs.Lines.{IsMoment};
+ghost use Rattle.scrape_machine.specs.Lives as lives_of;
+ghost use Rattle.scrape_machine.specs.Machine as spec;
+ghost use Rattle.scrape_machine.specs.Settings as settings;
+ghost use Rattle.scrape_loop.specs.Entries.{entries_of};
+ghost use Rattle.scrape_loop.specs.Tracked.{fault_of};
+
+use crate::lives::{Found, Life, Start};
+use label_set::{NoMemory, Steps};
+use life_roll::InFlight;
+use outside::Reply;
+use sample_rows::{RowRules, ScrapeFault};
+use scrape_config::Job;
+use scrape_loop::Book;
+use std::alloc::Global;
+use std::sync::ledger::Ledger;
+
+fn found_flight(ticket: u64, number: u64, flight: Option<InFlight>) -> Found
+    ensures { result ≡ spec.found_flight ticket number flight }
+{
+    match flight {
+        None => Found::Cancelled,
+        Some(flight) => {
+            if flight.ticket == ticket {
+                Found::Counts {
+                    life: number,
+                    moment: flight.moment,
+                }
+            } else {
+                Found::Cancelled
+            }
+        }
+    }
+}
+
+fn found_life(ticket: u64, number: u64, life: Option<&Life>) -> Found
+    ensures { result ≡ spec.found_life ticket number (option_copied life.entry) }
+{
+    match life {
+        None => Found::Cancelled,
+        Some(life) => found_flight(ticket, number, life.schedule.flight),
+    }
+}
+
+fn found_start(lives: &[Life], ticket: u64, start: Option<&Start>) -> Found
+    ensures { result ≡ spec.found_start lives.now ticket (option_copied start.entry) }
+{
+    match start {
+        None => Found::NotStarted,
+        Some(start) => {
+            if start.finished {
+                Found::NotStarted
+            } else {
+                found_life(ticket, start.life, lives.get(start.life as usize))
+            }
+        }
+    }
+}
+
+/// What a finish of a ticket finds.
+pub fn found(lives: &[Life], started: &[Start], ticket: u64) -> Found
+    ensures value { result ≡ spec.found_start lives.now ticket (slice_get started.now ticket) }
+    ensures within { spec.IsWithin (length lives.now) result }
+{
+    found_start(lives, ticket, started.get(ticket as usize))
+}
+
+/// The scrape with a ticket has had its finish.
+pub fn finish(started: &mut [Start], ticket: u64)
+    ensures { started.new ≡ spec.finished (slice_get started.old ticket) started.old ticket }
+{
+    let place = ticket as usize;
+    if place < started.len() {
+        started[place].finished = true;
+    }
+}
+
+/// The settings that rows are judged by.
+fn rules_of(job: &Job) -> RowRules
+    ensures { result ≡ settings.rules_of job.now }
+{
+    RowRules {
+        honor_labels: job.conf.honor_labels,
+        honor_timestamps: job.conf.honor_timestamps,
+        timeout: job.conf.scrape_timeout,
+        limits: job.conf.limits,
+    }
+}
+
+/// Counts a scrape of a life that started at a moment, and ended with a reply after so many milliseconds: its fault, if it isn't good.
+#[tactic(auto, unfolding(crate::specs::Lives::outcome_for))]
+pub fn count<L: Ledger>(
+    alloc: Global,
+    life: &mut Life,
+    moment: i64,
+    reply: &Reply,
+    took: i64,
+    book: &mut Book,
+    steps: &mut Steps<L>,
+) -> Result<Option<ScrapeFault>, NoMemory>
+    requires { IsMoment took }
+    ensures fault { IfOk result (λ f. f ≡ fault_of (lives_of.outcome_for life.old took reply.now)) }
+    ensures life { OnOk result (life.new ≡ lives_of.counted life.old (lives_of.outcome_for life.old took reply.now)) }
+    ensures book { OnOk result (book.new.entries ≡ book.old.entries ++ entries_of life.old.state (lives_of.outcome_for life.old took reply.now) moment took) }
+    ensures err_life { OnErr result (life.new ≡ life.old) }
+    ensures err_book { OnErr result (book.new.entries ≡ book.old.entries) }
+{
+    let rules = rules_of(life.settings.job());
+    let metric = &life.settings.job().metric_rules;
+    let fault = life
+        .state
+        .count(alloc, &rules, metric, moment, reply, took, book, steps)?;
+    life.schedule.land();
+    Ok(fault)
+}
