@@ -1,5 +1,5 @@
 -- What becomes of all targets that a job lists: a scan of the list.
-use Rattle.std.specs.Prelude.{ℕ, ◌+◌, Bool, not, List, [], ◌∷◌, ◌++◌, filter, map, flat_map, length}
+use Rattle.std.specs.Prelude.{ℕ, ◌+◌, ◌-◌, Bool, not, List, [], ◌∷◌, ◌++◌, filter, map, flat_map, length, nat_le, Option, Some, None, if◌then◌else◌}
 use Rattle.std.specs.List.{sum_by}
 use Rattle.std.specs.Ordering.{is_eq}
 use Rattle.label_set.specs.Sets.{set_cmp}
@@ -9,6 +9,7 @@ use Rattle.scrape_limits.specs.Limits.{is_past}
 use Rattle.scrape_config.specs.declared.conf.Group.{Group}
 use Rattle.scrape_config.specs.declared.conf.JobConf.{JobConf}
 use Rattle.target_set.specs.Outcomes.{outcome_of, labels_of}
+use Rattle.target_set.specs.declared.files.FileGroups.{FileGroups}
 use Rattle.target_set.specs.declared.targets.Outcome.{Outcome}
 use Rattle.target_set.specs.declared.targets.Outcome.TheVariants.{Dropped, Refused, Kept}
 use Rattle.target_set.specs.declared.targets.Target.{Target}
@@ -21,6 +22,18 @@ group_count group = length group.targets
 
 abbrev pub listed_count : List Group → ℕ
 listed_count groups = sum_by group_count groups
+
+-- the groups of files, file after file
+abbrev pub files_groups : List FileGroups → List Group
+files_groups files = flat_map (λ (f : FileGroups). f.groups) files
+
+-- the groups of a job: its own, and then those of its files
+abbrev pub listed_groups : JobConf → List FileGroups → List Group
+listed_groups conf files = conf.groups ++ files_groups files
+
+-- a number that is at most most
+abbrev pub within : ℕ → ℕ → Option ℕ
+within most n = if nat_le n most then Some n else None
 
 -- what becomes of each target of a group, and of groups, in their order
 abbrev pub group_outcomes : JobConf → List RuleConf → Group → List Outcome

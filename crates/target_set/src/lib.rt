@@ -6,14 +6,19 @@
 
 mod address;
 mod counts;
+mod files;
 mod kept;
 mod outcomes;
 mod prepare;
 mod requests;
 mod targets;
+mod values;
 mod walk;
 
+pub use counts::listed_within;
+pub use files::{FileGroups, SharedGroups};
 pub use requests::request_of;
 pub use targets::{
     Outcome, RefusedList, RefusedTarget, Target, TargetCause, TargetList, Targets, targets_of,
+    targets_with_files,
 };

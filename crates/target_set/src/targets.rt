@@ -3,8 +3,9 @@ ghost use Rattle.std.specs.Prelude.{◌≡◌, ◌≤◌, ◌+◌, length, IfOk,
 ghost use Rattle.target_set.specs.Listed as spec;
 
 use crate::counts::{dropped_of, refused_of};
+use crate::files::FileGroups;
 use crate::kept::kept_of;
-use crate::walk::outcomes_of;
+use crate::walk::{outcomes_of, outcomes_with_files};
 use label_set::{LabelSet, NoMemory, Steps};
 use relabel::Rules;
 use scrape_config::{Group, JobConf};
@@ -123,7 +124,7 @@ fn sorted_out(alloc: Global, limit: u64, outcomes: &[Outcome]) -> Result<TargetL
 ///
 /// # Errors
 ///
-/// Only want of memory refuses, and groups with a label whose name is no label name.
+/// Only want of memory refuses.
 #[tactic(auto, unfolding(crate::specs::Listed::target_list), using(crate::proofs::WalkLemmas::outcome_count))]
 pub fn targets_of<L: Ledger>(
     alloc: Global,
@@ -139,6 +140,30 @@ pub fn targets_of<L: Ledger>(
     ensures at_most { steps.new ≤ steps.old + spec.listed_count groups.now }
 {
     let outcomes = outcomes_of(alloc, conf, rules, groups, steps)?;
+    sorted_out(alloc, conf.limits.target, outcomes.as_slice())
+}
+
+/// What becomes of the targets that a job lists: those of its own groups, and then those of the groups of its files, file after file,
+/// all of them under one limit, with one place each, and each identity once. The groups are walked where they lie, and not copied.
+///
+/// # Errors
+///
+/// Only want of memory refuses.
+#[tactic(auto, unfolding(crate::specs::Listed::target_list), using(crate::proofs::WalkLemmas::outcome_count))]
+pub fn targets_with_files<L: Ledger>(
+    alloc: Global,
+    conf: &JobConf,
+    rules: &Rules,
+    files: &[FileGroups],
+    steps: &mut Steps<L>,
+) -> Result<TargetList, NoMemory>
+    requires few { spec.listed_count (spec.listed_groups conf.now files.now) ≤ 10000 }
+    ensures targets { IfOk result (λ l. l ≡ spec.target_list conf.now rules.now (spec.listed_groups conf.now files.now)) }
+    ensures steps { IfOk result (λ _. steps.new ≡ steps.old + spec.listed_count (spec.listed_groups conf.now files.now)) }
+    ensures at_least { steps.old ≤ steps.new }
+    ensures at_most { steps.new ≤ steps.old + spec.listed_count (spec.listed_groups conf.now files.now) }
+{
+    let outcomes = outcomes_with_files(alloc, conf, rules, files, steps)?;
     sorted_out(alloc, conf.limits.target, outcomes.as_slice())
 }
 
