@@ -1,14 +1,13 @@
 -- Labels that are lent, seen as pairs.
-use Rattle.std.proofs.Common.{arith, ◌≤◌, ◌≡◌, ℕ, ◌+◌, ◌<◌, List, [], ◌∷◌, ◌++◌, ◌||◌, refl, ap, sym, ◌∙◌, take, drop, get_or, add-one, suc, drop-cons, append_assoc, subst, Option, Some}
+use Rattle.std.proofs.Common.{arith, ◌≡◌, ℕ, ◌+◌, ◌<◌, List, [], ◌∷◌, ◌++◌, ap, sym, ◌∙◌, drop, get_or, add-one, suc, drop-cons, append_assoc, subst, Some}
 use Rattle.std.specs.Prelude.{map, length}
-use Rattle.std.specs.List.{list_any}
 use Rattle.std.specs.List.Sorted.{IsSorted}
 use Rattle.std.proofs.lemmas.List.{get_or-map, length-map}
 use Rattle.std.specs.declared.cmp.Ordering.{Ordering}
 use Rattle.label_set.specs.Lent.{pair_of}
 use Rattle.label_set.specs.declared.texts.Pair.{Pair}
 use Rattle.label_set.specs.declared.labels.Label.{Label}
-use Rattle.label_conflict.specs.Merging.{bears, settled, with_free, free_name}
+use Rattle.label_conflict.specs.Merging.{settled, with_free, free_name}
 
 -- a sort of labels sorts their pairs
 pub sorted_from : (cmp : Pair → Pair → Ordering) (ls : List Label) → IsSorted (λ one other. cmp (pair_of one) (pair_of other)) ls → IsSorted cmp (map pair_of ls)

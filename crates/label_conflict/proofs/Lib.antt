@@ -3,3 +3,4 @@ pub mod OrderLemmas
 pub mod JoinLemmas
 pub mod LentLemmas
 pub mod MergeLemmas
+pub mod NameLemmas

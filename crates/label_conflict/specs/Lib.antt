@@ -1,3 +1,4 @@
 pub mod Orders
 pub mod Merging
 pub mod Laws
+pub mod Names

@@ -1,37 +1,21 @@
 //! Names that no label bears yet.
-ghost use Rattle.std.specs.Prelude.{◌≡◌, ◌++◌, ℕ, List, map, IfOk, Some};
-ghost use Rattle.label_set.specs.Lent.{pair_of};
+ghost use Rattle.std.specs.Prelude.{◌≡◌, ◌++◌, ℕ, List, IfOk, Some};
 ghost use Rattle.label_set.specs.declared.texts.Pair.{Pair};
 ghost use Rattle.label_conflict.specs.Merging as spec;
 ghost use Rattle.label_conflict.specs.Merging.{bears, exported};
 ghost use Rattle.label_conflict.specs.Laws.{HasFreeName};
+ghost use Rattle.label_conflict.specs.Names.{bare};
 
-use label_set::{Label, Name, NoMemory, Pair};
+use crate::names::Names;
+use indexmap::IndexSet;
+use label_set::{Name, NoMemory};
 use std::alloc::Global;
 
-/// Whether one of the labels bears a name.
-pub fn bears_name(labels: &[Label<'_>], name: &str) -> bool
-    ensures { result ≡ bears (map pair_of labels.now) name.now }
+/// Whether one of the labels, or one that was renamed, bears a name.
+fn is_taken(labels: &Names<'_, '_>, renamed: &IndexSet<Name>, name: &Name) -> bool
+    ensures { result ≡ bears (labels.now ++ bare renamed.now.keys) name.now }
 {
-    for label in labels {
-        if label.name == name {
-            return true;
-        }
-    }
-    false
-}
-
-fn is_renamed(renamed: &[Pair], name: &str) -> bool
-    ensures { result ≡ bears renamed.now name.now }
-{
-    renamed.iter().any(|pair| pair.name.as_str() == name)
-}
-
-/// Whether one of the labels, or of those that were renamed, bears a name.
-fn is_taken(labels: &[Label<'_>], renamed: &[Pair], name: &str) -> bool
-    ensures { result ≡ bears (map pair_of labels.now ++ renamed.now) name.now }
-{
-    bears_name(labels, name) || is_renamed(renamed, name)
+    labels.bear(name.as_str()) || renamed.contains(name)
 }
 
 /// A name with `exported_` in front of it.
@@ -46,14 +30,14 @@ fn exported_name(alloc: Global, name: &str) -> Result<Name, NoMemory>
 /// The first of `exported_` in front of a name once, twice, .. that no label bears, nor one that was renamed.
 pub fn free_name(
     alloc: Global,
-    labels: &[Label<'_>],
-    renamed: &[Pair],
+    labels: &Names<'_, '_>,
+    renamed: &IndexSet<Name>,
     name: &str,
 ) -> Result<Name, NoMemory>
-    ensures { IfOk result (λ n. spec.free_name (map pair_of labels.now ++ renamed.now) name.now ≡ Some n) }
+    ensures { IfOk result (λ n. spec.free_name (labels.now ++ bare renamed.now.keys) name.now ≡ Some n) }
 {
     let mut free = exported_name(alloc, name)?;
-    while is_taken(labels, renamed, free.as_str()) {
+    while is_taken(labels, renamed, &free) {
         free = exported_name(alloc, free.as_str())?;
     }
     Ok(free)

@@ -1,5 +1,5 @@
 //! Labels gathered from a line and a target.
-ghost use Rattle.std.specs.Prelude.{◌≡◌, ◌++◌, ◌&&◌, map, filter, IfOk, OnOk};
+ghost use Rattle.std.specs.Prelude.{◌≡◌, ◌++◌, ◌&&◌, map, filter, length, IfOk, OnOk};
 ghost use Rattle.std.specs.List.Sorted.{IsPermutation, IsSorted};
 ghost use Rattle.std.specs.List.{IsDistinct};
 ghost use Rattle.std.specs.Str.{bytes_eq};
@@ -7,10 +7,13 @@ ghost use Rattle.label_set.specs.Lent.{pair_of};
 ghost use Rattle.label_set.specs.Sets.{IsSet};
 ghost use Rattle.label_conflict.specs.Merging as spec;
 ghost use Rattle.label_conflict.specs.Merging.{bears, names_of, name_label, apart_from, settled};
+ghost use Rattle.label_conflict.specs.Names.{under};
 ghost use Rattle.label_conflict.specs.Orders.{by_length};
 
-use crate::free::{bears_name, free_name};
-use label_set::{Label, LabelSet, NoMemory, Pair};
+use crate::free::free_name;
+use crate::names::Names;
+use indexmap::IndexSet;
+use label_set::{Label, LabelSet, Name, NoMemory};
 use std::alloc::Global;
 use std::cmp::Ordering;
 
@@ -60,13 +63,13 @@ pub fn push_valued<'a>(out: &mut Vec<Label<'a>>, labels: &[Label<'a>]) -> Result
 pub fn push_apart<'a>(
     out: &mut Vec<Label<'a>>,
     labels: &[Label<'a>],
-    others: &[Label<'_>],
+    others: &Names<'_, '_>,
 ) -> Result<(), NoMemory>
     ensures { OnOk result (map pair_of out.new.items
-        ≡ map pair_of out.old.items ++ apart_from (map pair_of others.now) (map pair_of labels.now)) }
+        ≡ map pair_of out.old.items ++ apart_from others.now (map pair_of labels.now)) }
 {
     for label in labels {
-        if has_value(*label) && !bears_name(others, label.name) {
+        if has_value(*label) && !others.bear(label.name) {
             out.push(*label)?;
         }
     }
@@ -77,14 +80,14 @@ pub fn push_apart<'a>(
 fn shared_names<'a>(
     alloc: Global,
     labels: &[Label<'a>],
-    others: &[Label<'_>],
+    others: &Names<'_, '_>,
 ) -> Result<Vec<Label<'a>>, NoMemory>
     ensures { IfOk result (λ v. map pair_of v.items
-        ≡ filter (λ p. spec.has_value p && bears (map pair_of others.now) p.name) (map pair_of labels.now)) }
+        ≡ filter (λ p. spec.has_value p && bears others.now p.name) (map pair_of labels.now)) }
 {
     let mut out = Vec::new(alloc);
     for label in labels {
-        if has_value(*label) && bears_name(others, label.name) {
+        if has_value(*label) && others.bear(label.name) {
             out.push(*label)?;
         }
     }
@@ -112,29 +115,47 @@ fn sort_by_length(labels: &mut Vec<Label<'_>>)
 pub fn conflicts<'a>(
     alloc: Global,
     exposed: &[Label<'a>],
-    target: &[Label<'_>],
+    target: &Names<'_, '_>,
 ) -> Result<Vec<Label<'a>>, NoMemory>
     requires { IsDistinct bytes_eq (names_of (map pair_of exposed.now)) }
-    ensures { IfOk result (λ v. map pair_of v.items ≡ spec.conflicts (map pair_of exposed.now) (map pair_of target.now)) }
+    ensures { IfOk result (λ v. map pair_of v.items ≡ spec.conflicts (map pair_of exposed.now) target.now) }
 {
     let mut found = shared_names(alloc, exposed, target)?;
     sort_by_length(&mut found);
     Ok(found)
 }
 
-/// The labels of conflicts, each under a name that is free by then.
-pub fn renamed(
+/// A new name for each conflict, which is free by then.
+pub fn new_names(
     alloc: Global,
-    labels: &[Label<'_>],
+    labels: &Names<'_, '_>,
     conflicts: &[Label<'_>],
-) -> Result<Vec<Pair>, NoMemory>
-    ensures { IfOk result (λ v. settled (map pair_of conflicts.now) (map pair_of labels.now) ≡ map pair_of labels.now ++ v.items) }
+) -> Result<IndexSet<Name>, NoMemory>
+    ensures count { IfOk result (λ s. length s.keys ≡ length conflicts.now) }
+    ensures names { IfOk result (λ s. settled (map pair_of conflicts.now) labels.now ≡ labels.now ++ under s.keys (map pair_of conflicts.now)) }
 {
-    let mut out = Vec::new(alloc);
+    let mut names = IndexSet::new(alloc);
     for place in 0..conflicts.len() {
-        let label = conflicts[place];
-        let name = free_name(alloc, labels, out.as_slice(), label.name)?;
-        out.push(Pair::from_strs(alloc, name.as_str(), label.value)?)?;
+        let name = free_name(alloc, labels, &names, conflicts[place].name)?;
+        let _ = names.insert(name)?;
+    }
+    Ok(names)
+}
+
+/// Labels under new names.
+pub fn renamed<'a>(
+    alloc: Global,
+    names: &'a [Name],
+    labels: &[Label<'a>],
+) -> Result<Vec<Label<'a>>, NoMemory>
+    requires { length names.now ≡ length labels.now }
+    ensures { IfOk result (λ v. map pair_of v.items ≡ under names.now (map pair_of labels.now)) }
+{
+    let mut out = Vec::with_capacity(alloc, labels.len())?;
+    for place in 0..labels.len() {
+        let name = names[place].as_str();
+        let value = labels[place].value;
+        out.push(Label { name, value })?;
     }
     Ok(out)
 }

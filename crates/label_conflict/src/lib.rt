@@ -5,6 +5,7 @@
 
 mod free;
 mod gather;
+mod names;
 mod sample;
 
 pub use free::always_free;

@@ -7,7 +7,8 @@ ghost use Rattle.label_set.specs.SetText.{metric_label};
 ghost use Rattle.label_conflict.specs.Merging.{bears, names_of, name_label, apart_from, settled, joined, merged};
 ghost use Rattle.label_set.specs.Lasts.{with_labels};
 
-use crate::gather::{conflicts, push_all, push_apart, push_name, push_valued, renamed};
+use crate::gather::{conflicts, new_names, push_all, push_apart, push_name, push_valued, renamed};
+use crate::names::Names;
 use label_set::{Label, LabelSet, NoMemory, Pair, lent};
 use std::alloc::Global;
 
@@ -23,7 +24,7 @@ fn honored<'a>(
     let mut labels = Vec::new(alloc);
     push_name(&mut labels, name)?;
     push_valued(&mut labels, exposed)?;
-    push_apart(&mut labels, target, exposed)?;
+    push_apart(&mut labels, target, &Names::of(alloc, exposed)?)?;
     Ok(labels)
 }
 
@@ -33,10 +34,10 @@ fn without_conflicts<'a>(
     name: &'a str,
     exposed: &[Label<'a>],
     target: &'a LabelSet,
-    others: &[Label<'_>],
+    others: &Names<'_, '_>,
 ) -> Result<Vec<Label<'a>>, NoMemory>
     ensures { IfOk result (λ v. map pair_of v.items
-        ≡ name_label name.now ++ (apart_from (map pair_of others.now) (map pair_of exposed.now) ++ target.now)) }
+        ≡ name_label name.now ++ (apart_from others.now (map pair_of exposed.now) ++ target.now)) }
 {
     let mut labels = Vec::new(alloc);
     push_name(&mut labels, name)?;
@@ -53,9 +54,12 @@ fn settled_set(
 ) -> Result<LabelSet, NoMemory>
     ensures { IfOk result (λ s. s ≡ with_labels [] (settled (map pair_of conflicts.now) (map pair_of labels.now))) }
 {
-    let pairs = renamed(alloc, labels, conflicts)?;
     let set = LabelSet::of(alloc, labels)?;
-    let given = lent(alloc, pairs.as_slice())?;
+    if conflicts.is_empty() {
+        return Ok(set);
+    }
+    let names = new_names(alloc, &Names::of(alloc, labels)?, conflicts)?;
+    let given = renamed(alloc, names.as_slice(), conflicts)?;
     set.with_all(alloc, given.as_slice())
 }
 
@@ -115,8 +119,9 @@ pub fn merge_lent(
         let labels = honored(alloc, name, exposed, others.as_slice())?;
         return LabelSet::of(alloc, labels.as_slice());
     }
-    let found = conflicts(alloc, exposed, others.as_slice())?;
-    let labels = without_conflicts(alloc, name, exposed, target, others.as_slice())?;
+    let borne = Names::of(alloc, others.as_slice())?;
+    let found = conflicts(alloc, exposed, &borne)?;
+    let labels = without_conflicts(alloc, name, exposed, target, &borne)?;
     settled_set(alloc, labels.as_slice(), found.as_slice())
 }
 

@@ -1,4 +1,5 @@
 pub mod DistinctLemmas
+pub mod OverlayLemmas
 pub mod WalkLemmas
 pub mod RequestLemmas
-pub mod FileLemmas
+pub mod ValueLemmas

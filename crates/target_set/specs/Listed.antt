@@ -23,9 +23,13 @@ group_count group = length group.targets
 abbrev pub listed_count : List Group → ℕ
 listed_count groups = sum_by group_count groups
 
--- the groups of a job: its own, and then those of its files, file after file
+-- the groups of files, file after file
+abbrev pub files_groups : List FileGroups → List Group
+files_groups files = flat_map (λ (f : FileGroups). f.groups) files
+
+-- the groups of a job: its own, and then those of its files
 abbrev pub listed_groups : JobConf → List FileGroups → List Group
-listed_groups conf files = conf.groups ++ flat_map (λ (f : FileGroups). f.groups) files
+listed_groups conf files = conf.groups ++ files_groups files
 
 -- a number that is at most most
 abbrev pub within : ℕ → ℕ → Option ℕ

@@ -54,17 +54,25 @@ fn left_after(groups: &[Group], mut left: u64) -> Option<u64>
     Some(left)
 }
 
-/// What is left of a number after the targets that a job and its files list are taken off; none where they are more.
-#[tactic(auto, using(crate::proofs::FileLemmas::files_left))]
-fn left_with_files(conf: &JobConf, files: &[FileGroups], most: u64) -> Option<u64>
-    ensures enough { IfSome result (λ r. r + spec.listed_count (spec.listed_groups conf.now files.now) ≡ most) }
-    ensures too_few { IfNone result (most < spec.listed_count (spec.listed_groups conf.now files.now)) }
+/// The same of the groups of files.
+fn left_in_files(files: &[FileGroups], mut left: u64) -> Option<u64>
+    ensures enough { IfSome result (λ r. r + spec.listed_count (spec.files_groups files.now) ≡ left) }
+    ensures too_few { IfNone result (left < spec.listed_count (spec.files_groups files.now)) }
 {
-    let mut left = left_after(conf.groups.as_slice(), most)?;
     for file in files {
         left = left_after(file.groups.as_slice(), left)?;
     }
     Some(left)
+}
+
+/// The same of a job's own groups and those of its files.
+#[tactic(auto, using(crate::proofs::WalkLemmas::listed_counted))]
+fn left_with_files(conf: &JobConf, files: &[FileGroups], most: u64) -> Option<u64>
+    ensures enough { IfSome result (λ r. r + spec.listed_count (spec.listed_groups conf.now files.now) ≡ most) }
+    ensures too_few { IfNone result (most < spec.listed_count (spec.listed_groups conf.now files.now)) }
+{
+    let left = left_after(conf.groups.as_slice(), most)?;
+    left_in_files(files, left)
 }
 
 /// How many targets a job and its files list, where they are at most `most`; `None` exactly where they are more.

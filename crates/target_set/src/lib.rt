@@ -12,6 +12,7 @@ mod outcomes;
 mod prepare;
 mod requests;
 mod targets;
+mod values;
 mod walk;
 
 pub use counts::listed_within;

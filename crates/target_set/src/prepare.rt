@@ -1,10 +1,11 @@
 //! The label set of a listed target before its job's rules.
-ghost use Rattle.std.specs.Prelude.{◌≡◌, ◌++◌, [], codes, IfOk, string_bytes};
+ghost use Rattle.std.specs.Prelude.{◌≡◌, ◌++◌, [], map, IfOk, OnOk, string_bytes};
 ghost use Rattle.label_set.specs.Sets.{with_label};
 ghost use Rattle.target_set.specs.Prepared as spec;
 ghost use Rattle.label_set.specs.Lasts.{with_labels};
+ghost use Rattle.label_set.specs.Lent.{pair_of};
 ghost use Rattle.target_set.specs.Prepared.{address_label, param_prefix};
-ghost use Rattle.target_set.specs.Walk.{group_set, listed_from};
+ghost use Rattle.target_set.specs.Walk as walked;
 
 use label_set::names::are_name_bytes;
 use label_set::{Label, LabelSet, NoMemory, Pair, lent};
@@ -43,8 +44,8 @@ fn all_labelled(alloc: Global, pairs: &[Pair]) -> Result<LabelSet, NoMemory>
 
 /// What each target of a group starts with.
 #[tactic(auto, unfolding(crate::specs::Walk::group_set))]
-pub fn set_of_group(alloc: Global, group: &Group) -> Result<LabelSet, NoMemory>
-    ensures { IfOk result (λ s. s ≡ group_set group.now) }
+fn set_of_group(alloc: Global, group: &Group) -> Result<LabelSet, NoMemory>
+    ensures { IfOk result (λ s. s ≡ walked.group_set group.now) }
 {
     let set = all_labelled(alloc, group.labels.as_slice())?;
     match &group.file {
@@ -63,7 +64,7 @@ fn scheme_text(scheme: Scheme) -> &'static str
 }
 
 /// The name of the label that sets a parameter.
-pub fn param_label(alloc: Global, name: &str) -> Result<String, NoMemory>
+fn param_label(alloc: Global, name: &str) -> Result<String, NoMemory>
     ensures { IfOk result (λ s. string_bytes s ≡ param_prefix ++ name.now) }
 {
     let mut text = String::from_str(alloc, "__param_")?;
@@ -71,53 +72,101 @@ pub fn param_label(alloc: Global, name: &str) -> Result<String, NoMemory>
     Ok(text)
 }
 
-/// The set with the first value of a parameter, where the set has no value for it.
-fn with_first(alloc: Global, set: &LabelSet, param: &Param) -> Result<LabelSet, NoMemory>
-    ensures { IfOk result (λ s. s ≡ spec.with_first set.now param.now.name param.now.values) }
+/// Adds the label of a value that isn't empty.
+fn push_valued(alloc: Global, out: &mut Vec<Pair>, name: &str, value: &str) -> Result<(), NoMemory>
+    ensures { OnOk result (out.new.items ≡ out.old.items ++ walked.valued name.now value.now) }
+{
+    if !value.is_empty() {
+        out.push(Pair::from_strs(alloc, name, value)?)?;
+    }
+    Ok(())
+}
+
+/// Adds the label of the first value of a parameter, where its name can stand in a label's name.
+fn push_first(alloc: Global, out: &mut Vec<Pair>, param: &Param) -> Result<(), NoMemory>
+    ensures { OnOk result (out.new.items ≡ out.old.items ++ walked.first_label param.now.name param.now.values) }
 {
     match param.values.as_slice() {
-        [] => set.copy(),
+        [] => Ok(()),
         [value, ..] => {
             if !are_name_bytes(param.name.as_str().as_bytes()) {
-                return set.copy();
+                return Ok(());
             }
             let name = param_label(alloc, param.name.as_str())?;
-            defaulted(alloc, set, name.as_str(), value.as_str())
+            push_valued(alloc, out, name.as_str(), value.as_str())
         }
     }
 }
 
-fn with_params(alloc: Global, set: LabelSet, params: &[Param]) -> Result<LabelSet, NoMemory>
-    ensures { IfOk result (λ s. s ≡ spec.with_params set params.now) }
+/// Adds the labels of parameters, those of the last parameter first.
+fn push_params(alloc: Global, out: &mut Vec<Pair>, params: &[Param]) -> Result<(), NoMemory>
+    ensures { OnOk result (out.new.items ≡ out.old.items ++ walked.param_labels params.now) }
 {
-    let mut set = set;
-    for param in params {
-        set = with_first(alloc, &set, param)?;
+    let count = params.len();
+    for done in 0..count {
+        push_first(alloc, out, &params[count - 1 - done])?;
     }
-    Ok(set)
+    Ok(())
 }
 
-/// The set with what a job adds where nothing else is set.
-#[tactic(auto, unfolding(crate::specs::Prepared::with_defaults))]
-fn with_defaults(alloc: Global, conf: &JobConf, set: &LabelSet) -> Result<LabelSet, NoMemory>
-    ensures { IfOk result (λ s. s ≡ spec.with_defaults conf.now set.now) }
+/// What a job adds to a target where nothing else is set.
+#[tactic(auto, unfolding(crate::specs::Walk::default_labels))]
+fn default_labels(alloc: Global, conf: &JobConf) -> Result<Vec<Pair>, NoMemory>
+    ensures { IfOk result (λ v. v.items ≡ walked.default_labels conf.now) }
 {
-    let set = defaulted(alloc, set, "job", conf.job_name.as_str())?;
-    let set = defaulted(alloc, &set, "__scheme__", scheme_text(conf.scheme))?;
-    let set = defaulted(alloc, &set, "__metrics_path__", conf.metrics_path.as_str())?;
-    with_params(alloc, set, conf.params.as_slice())
+    let mut out = Vec::new(alloc);
+    push_params(alloc, &mut out, conf.params.as_slice())?;
+    push_valued(
+        alloc,
+        &mut out,
+        "__metrics_path__",
+        conf.metrics_path.as_str(),
+    )?;
+    push_valued(alloc, &mut out, "__scheme__", scheme_text(conf.scheme))?;
+    push_valued(alloc, &mut out, "job", conf.job_name.as_str())?;
+    Ok(out)
 }
 
-/// The set of a target that a group lists, by the set of the group.
-#[tactic(auto, unfolding(crate::specs::Walk::listed_from))]
-pub fn prepared(
-    alloc: Global,
-    conf: &JobConf,
-    base: &LabelSet,
-    text: &str,
-) -> Result<LabelSet, NoMemory>
-    ensures { IfOk result (λ s. s ≡ listed_from conf.now base.now text.now) }
+/// The set of what a job adds.
+#[tactic(auto, unfolding(crate::specs::Walk::default_set))]
+pub fn default_set(alloc: Global, conf: &JobConf) -> Result<LabelSet, NoMemory>
+    ensures { IfOk result (λ s. s ≡ walked.default_set conf.now) }
 {
-    let set = labelled(alloc, base, "__address__", text)?;
-    with_defaults(alloc, conf, &set)
+    let labels = default_labels(alloc, conf)?;
+    all_labelled(alloc, labels.as_slice())
+}
+
+/// The labels of a set.
+fn labels_in(alloc: Global, set: &LabelSet) -> Result<Vec<Label<'_>>, NoMemory>
+    ensures { IfOk result (λ v. map pair_of v.items ≡ set.now) }
+{
+    let mut labels = Vec::with_capacity(alloc, set.len())?;
+    for label in set.labels() {
+        labels.push(label)?;
+    }
+    Ok(labels)
+}
+
+/// The labels of a set put over others.
+fn overlaid(alloc: Global, others: &LabelSet, set: &LabelSet) -> Result<LabelSet, NoMemory>
+    ensures { IfOk result (λ s. s ≡ with_labels others.now set.now) }
+{
+    let labels = labels_in(alloc, set)?;
+    others.with_all(alloc, labels.as_slice())
+}
+
+/// The set of a group's targets: what the group gives them, and what its job adds where the group gives nothing else.
+#[tactic(auto, unfolding(crate::specs::Walk::group_base))]
+pub fn group_base(alloc: Global, defaults: &LabelSet, group: &Group) -> Result<LabelSet, NoMemory>
+    ensures { IfOk result (λ s. s ≡ walked.group_base defaults.now group.now) }
+{
+    let set = set_of_group(alloc, group)?;
+    overlaid(alloc, defaults, &set)
+}
+
+/// The set of a target, by that of its group's targets.
+pub fn addressed(alloc: Global, base: &LabelSet, text: &str) -> Result<LabelSet, NoMemory>
+    ensures { IfOk result (λ s. s ≡ with_label base.now address_label text.now) }
+{
+    labelled(alloc, base, "__address__", text)
 }

@@ -1,19 +1,20 @@
 //! The requests of scrapes.
-ghost use Rattle.std.specs.Prelude.{◌≡◌, ◌++◌, ℕ, List, map, string_bytes, option_map, is_none, is_some, IfOk, OnOk};
+ghost use Rattle.std.specs.Prelude.{◌≡◌, ◌++◌, [], map, string_bytes, option_map, unwrap_or, is_none, is_some, IfOk, OnOk};
 ghost use Rattle.std.specs.List.{filter_map};
 ghost use Rattle.label_set.specs.declared.texts.Pair.{Pair};
 ghost use Rattle.scrape_config.specs.declared.conf.Param.{Param};
 ghost use Rattle.target_set.specs.Outcomes.{cause_of};
 ghost use Rattle.target_set.specs.Requests as spec;
+ghost use Rattle.target_set.specs.Values.{found, pairs_by};
 
 use crate::address::{has_mark, is_spoken, read_url};
-use crate::prepare::param_label;
+use crate::values::{listed_for, listed_values, set_for, set_values};
 use label_set::{LabelSet, Name, NoMemory};
 use outside::{Request, Scheme};
 use scrape_config::{JobConf, Param};
 use scrape_limits::body_limit;
 use std::alloc::Global;
-use std::collections::BTreeSet;
+use std::collections::{BTreeSet, HashMap};
 use url::{ParseResult, Url};
 
 /// The URL of a target; none where it has a cause.
@@ -74,7 +75,7 @@ fn path_in(alloc: Global, identity: &LabelSet) -> Result<String, NoMemory>
 
 /// The name of the parameter that a label of a name sets.
 #[tactic(auto, unfolding(crate::specs::Requests::param_name, crate::specs::Outcomes::begins_with))]
-fn param_name(name: &str) -> Option<&str>
+pub fn param_name(name: &str) -> Option<&str>
     ensures { option_map (λ n. n.now) result ≡ spec.param_name name.now }
 {
     name.strip_prefix("__param_")
@@ -116,29 +117,6 @@ fn query_names(
     Ok(names)
 }
 
-/// The values that are listed for a name.
-fn listed_values<'a>(params: &'a [Param], name: &str) -> &'a [Name]
-    ensures { result.now ≡ spec.listed_values params.now name.now }
-{
-    match params.iter().find(|p| p.name.as_str() == name) {
-        Some(param) => param.values.as_slice(),
-        None => &[],
-    }
-}
-
-/// The value of the label that sets a parameter.
-#[tactic(auto, unfolding(crate::specs::Requests::set_value))]
-fn set_value<'a>(
-    alloc: Global,
-    identity: &'a LabelSet,
-    name: &str,
-) -> Result<Option<&'a str>, NoMemory>
-    ensures { IfOk result (λ o. option_map (λ v. v.now) o ≡ spec.set_value identity.now name.now) }
-{
-    let label = param_label(alloc, name)?;
-    Ok(identity.get(label.as_str()))
-}
-
 /// Adds a pair of a name and each value.
 fn push_values<'a>(
     pairs: &mut Vec<(&'a str, &'a str)>,
@@ -173,6 +151,29 @@ fn push_name<'a>(
     }
 }
 
+/// The pairs of some names.
+fn pairs_by<'a>(
+    alloc: Global,
+    names: &'a BTreeSet<Name>,
+    listed: &HashMap<&'a str, &'a [Name]>,
+    set: &HashMap<&'a str, &'a str>,
+) -> Result<Vec<(&'a str, &'a str)>, NoMemory>
+    ensures { IfOk result (λ v. map spec.texts v.items
+        ≡ pairs_by (λ name. found set.now name) (λ name. unwrap_or (found listed.now name) []) names.now.keys) }
+{
+    let mut pairs = Vec::new(alloc);
+    for name in names.iter() {
+        let name = name.as_str();
+        push_name(
+            &mut pairs,
+            name,
+            set_for(set, name),
+            listed_for(listed, name),
+        )?;
+    }
+    Ok(pairs)
+}
+
 /// The pairs of a query.
 fn pairs_under<'a>(
     alloc: Global,
@@ -182,17 +183,9 @@ fn pairs_under<'a>(
 ) -> Result<Vec<(&'a str, &'a str)>, NoMemory>
     ensures { IfOk result (λ v. map spec.texts v.items ≡ spec.pairs_under identity.now params.now names.now.keys) }
 {
-    let mut pairs = Vec::new(alloc);
-    for name in names.iter() {
-        let set = set_value(alloc, identity, name.as_str())?;
-        push_name(
-            &mut pairs,
-            name.as_str(),
-            set,
-            listed_values(params, name.as_str()),
-        )?;
-    }
-    Ok(pairs)
+    let listed = listed_values(alloc, params)?;
+    let set = set_values(alloc, identity)?;
+    pairs_by(alloc, names, &listed, &set)
 }
 
 fn set_page(url: &mut Url, path: &str, pairs: &[(&str, &str)]) -> ParseResult<()>

@@ -124,7 +124,7 @@ fn sorted_out(alloc: Global, limit: u64, outcomes: &[Outcome]) -> Result<TargetL
 ///
 /// # Errors
 ///
-/// Only want of memory refuses, and groups with a label whose name is no label name.
+/// Only want of memory refuses.
 #[tactic(auto, unfolding(crate::specs::Listed::target_list), using(crate::proofs::WalkLemmas::outcome_count))]
 pub fn targets_of<L: Ledger>(
     alloc: Global,

@@ -117,3 +117,35 @@ fn rows_of_both_settings(rt: HostRuntime) -> Result<(), Fail> {
     }
     Ok(())
 }
+
+/// Labels `a0=v` to `a<count-1>=v`.
+fn numbered(alloc: Global, count: u32) -> Result<Vec<Pair>, NoMemory> {
+    let mut pairs = Vec::new(alloc);
+    for number in 0..count {
+        let name = format!(in alloc; "a{number}")?;
+        pairs.push(Pair::from_strs(alloc, name.as_str(), "v")?)?;
+    }
+    Ok(pairs)
+}
+
+/// How many labels the set of `count` labels and a target with the same has.
+fn joined_count(alloc: Global, count: u32, honor: bool) -> Result<usize, NoMemory> {
+    let exposed = numbered(alloc, count)?;
+    let labels = lent(alloc, exposed.as_slice())?;
+    let target = LabelSet::of(alloc, labels.as_slice())?;
+    if !names_differ(&exposed)
+        || bears_name(&exposed, "__name__")
+        || set_bears(&target, "__name__")
+    {
+        return Ok(0);
+    }
+    Ok(merge(alloc, "x", &exposed, &target, honor)?.len())
+}
+
+#[test]
+fn many_labels_conflict(rt: HostRuntime) -> Result<(), Fail> {
+    let alloc = rt.alloc();
+    assert_eq!(rt; joined_count(alloc, 40, false)?, 81);
+    assert_eq!(rt; joined_count(alloc, 40, true)?, 41);
+    Ok(())
+}

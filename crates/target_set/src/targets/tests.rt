@@ -2,6 +2,9 @@ ghost use Rattle.std.specs.Prelude.{◌≡◌, ◌<◌, ◌≤◌, true};
 ghost use Rattle.target_set.specs.Listed as spec;
 
 use super::*;
+use crate::counts::listed_within;
+use crate::files::SharedGroups;
+use label_set::Name;
 use scrape_config::{Job, read_conf, read_groups};
 use std::marker::Brand;
 use std::sync::ledger::Blank;
@@ -134,5 +137,71 @@ fn rows_of_listed_targets(rt: HostRuntime) -> Result<(), Fail> {
     for row in ROWS.lines() {
         assert!(rt; row_gives(alloc, row)?, "{row}");
     }
+    Ok(())
+}
+
+/// A file of the job with groups of a text.
+fn file_of(alloc: Global, file: &str, text: &str) -> Result<FileGroups, Fail> {
+    let Ok(groups) = read_groups(alloc, text.as_bytes(), file) else {
+        return Err(Fail::from("no groups"));
+    };
+    Ok(FileGroups {
+        file: Name::from_str(alloc, file)?,
+        groups: SharedGroups::new(alloc, groups)?,
+    })
+}
+
+fn counted_with_files<L: Ledger>(
+    alloc: Global,
+    blank: Blank,
+    job: &Job,
+    files: &[FileGroups],
+) -> Result<Vec<u8>, NoMemory>
+    requires name { blank.name ≡ L.name }
+    requires parts { blank.parts ≡ L.parts }
+    requires some { 0 < blank.parts }
+    requires few { spec.listed_count (spec.listed_groups job.now.conf files.now) ≤ 10000 }
+{
+    let mut steps = Steps::<L>::open(blank);
+    let list = targets_with_files(alloc, &job.conf, &job.target_rules, files, &mut steps)?;
+    text_of(alloc, &list)
+}
+
+/// How many targets a job and its files list, and what becomes of them.
+fn listed_with_files(alloc: Global, job: &Job, files: &[FileGroups]) -> Result<Vec<u8>, NoMemory> {
+    let Some(_count) = listed_within(&job.conf, files, 10000) else {
+        return Ok(Vec::new(alloc));
+    };
+    counted_with_files::<Brand>(alloc, Blank::new(1), job, files)
+}
+
+/// The targets of the job `j` with the target `a` and of two files that list `b` and `a`, and a bad one.
+const OF_FILES: &str =
+    r#"{__address__="a",__metrics_path__="/metrics",__scheme__="http",instance="a",job="j"} {instance="a",job="j"}; {__address__="b",__metrics_path__="/metrics",__scheme__="http",instance="b",job="j"} {instance="b",job="j"}; 3 BadAddress; dropped 0"#;
+
+#[test]
+fn groups_of_files_come_behind_the_jobs_own(rt: HostRuntime) -> Result<(), Fail> {
+    let alloc = rt.alloc();
+    let text = r#"{"scrape_configs":[{"job_name":"j","static_configs":[{"targets":["a"]}]}]}"#;
+    let Ok(conf) = read_conf(alloc, text.as_bytes()) else {
+        return Err(Fail::from("no configuration"));
+    };
+    let mut files = Vec::new(alloc);
+    files.push(file_of(alloc, "t/a.json", r#"[{"targets":["b"]}]"#)?)?;
+    files.push(file_of(alloc, "t/b.json", r#"[{"targets":["a","/"]}]"#)?)?;
+    let mut shared = Vec::new(alloc);
+    for file in &files {
+        shared.push(FileGroups {
+            file: file.file.copy(alloc)?,
+            groups: file.groups.share()?,
+        })?;
+    }
+    let Some(job) = conf.jobs.as_slice().first() else {
+        return Err(Fail::from("no job"));
+    };
+    assert_eq!(rt; listed_within(&job.conf, shared.as_slice(), 4), Some(4));
+    assert_eq!(rt; listed_within(&job.conf, shared.as_slice(), 3), None);
+    let told = listed_with_files(alloc, job, shared.as_slice())?;
+    assert!(rt; told.as_slice() == OF_FILES.as_bytes());
     Ok(())
 }

@@ -1,4 +1,4 @@
-use Rattle.std.proofs.Common.{◌≡◌, ◌++◌, take}
+use Rattle.std.proofs.Common.{◌≡◌, ◌++◌}
 use Rattle.std.specs.Prelude.{map}
 use Rattle.label_set.specs.Lent.{pair_of}
 use Rattle.label_conflict.proofs.gather.push_all.Given as goal

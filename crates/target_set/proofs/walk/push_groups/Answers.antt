@@ -1,6 +1,6 @@
 use Rattle.std.proofs.Common.{arith}
 use Rattle.target_set.proofs.WalkLemmas.{counted_next}
-use Rattle.target_set.proofs.walk.outcomes_of.Goals as goal
+use Rattle.target_set.proofs.walk.push_groups.Goals as goal
 
 pub returns-in_err-push_group-clause-at_most : goal.returns-in_err-push_group-clause-at_most
 returns-in_err-push_group-clause-at_most g c =
