@@ -69,6 +69,7 @@ impl Endings {
     /// # Errors
     ///
     /// Only want of memory refuses, and only where there is no room; the closing is dropped, and all else stays.
+    #[tactic(auto, using(crate::proofs::EndingLemmas::one_added))]
     pub fn add(&mut self, closing: Closing) -> Result<(), NoMemory>
         requires first { spec.ending_of closing.life self.old.endings ≡ None }
         requires limits { spec.IsInLimits closing }
