@@ -1,1 +1,3 @@
 pub mod SeatLemmas
+pub mod WantLemmas
+pub mod RollLemmas

@@ -1,2 +1,4 @@
 pub mod Schedules
 pub mod Seats
+pub mod Wants
+pub mod Rolls

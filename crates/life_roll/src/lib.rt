@@ -4,10 +4,18 @@
 //! `specs/Schedules.antt` says what scans, changes and closing make of it.
 #![tactic(auto)]
 
+pub mod answers;
+pub mod lives;
 pub mod moments;
+pub mod roll;
 pub mod schedule;
 pub mod seats;
+pub mod wanted;
 
+pub use answers::{Began, Flight, Synced, TickRefusal};
+pub use lives::{Life, Start};
 pub use moments::{Interval, Moment, Planned};
+pub use roll::Roll;
 pub use schedule::{InFlight, Scanned, Schedule};
 pub use seats::{Seat, Seats};
+pub use wanted::{Terms, Wanted, Wishes};
