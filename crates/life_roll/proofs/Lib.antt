@@ -1,3 +1,4 @@
 pub mod SeatLemmas
 pub mod WantLemmas
 pub mod RollLemmas
+pub mod FlightLemmas

@@ -2,3 +2,4 @@ pub mod Schedules
 pub mod Seats
 pub mod Wants
 pub mod Rolls
+pub mod Flights

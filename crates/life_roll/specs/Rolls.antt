@@ -1,13 +1,12 @@
 -- Lives by number and started scrapes by ticket: what the wanted targets, ticks, finishes and cancellations make of them.
 -- That a life is a stretch of time in which a target of a job is scraped, when one stays open, and that a change or a close cancels the
 -- scrape in flight for good, are rules of this project.
-use Rattle.std.specs.Prelude.{◌≡◌, ⊤, ℕ, ◌-◌, ℤ, vec_len, vec_capacity, Bool, true, false, not, ◌&&◌, ◌==◌, List, [], ◌∷◌, ◌++◌, length, map, filter, slice_get, slice_set, nat_lt, Option, Some, None, is_some, option_and_then, Result, Ok, Err, if◌then◌else◌}
+use Rattle.std.specs.Prelude.{◌≡◌, ⊤, ℕ, ◌-◌, ℤ, vec_len, vec_capacity, Bool, false, not, ◌&&◌, List, [], ◌∷◌, ◌++◌, length, map, filter, slice_get, slice_set, nat_lt, Option, Some, None, is_some, Result, Ok, Err, if◌then◌else◌}
 use Rattle.std.specs.List.{list_any}
 use Rattle.std.specs.declared.vec.Vec.{Vec}
 use Rattle.std.specs.Option.{option_map_or}
 use Rattle.journal_text.specs.Lines.{number}
 use Rattle.label_set.specs.declared.texts.Pair.{Pair}
-use Rattle.life_roll.specs.declared.schedule.InFlight.{InFlight}
 use Rattle.life_roll.specs.declared.schedule.Schedule.{Schedule}
 use Rattle.life_roll.specs.declared.seats.Seat.{Seat}
 use Rattle.life_roll.specs.declared.wanted.Terms.{Terms}
@@ -16,10 +15,9 @@ use Rattle.life_roll.specs.declared.lives.Life.{Life}
 use Rattle.life_roll.specs.declared.lives.Start.{Start}
 use Rattle.life_roll.specs.declared.answers.Began.{Began}
 use Rattle.life_roll.specs.declared.answers.Began.TheVariants.{Started, Forced}
-use Rattle.life_roll.specs.declared.answers.Flight.{Flight}
 use Rattle.life_roll.specs.declared.answers.TickRefusal.{TickRefusal}
 use Rattle.life_roll.specs.declared.answers.TickRefusal.TheVariants.{NoLife, Busy, NotDue, NoMemory}
-use Rattle.life_roll.specs.Schedules.{begun_at, is_open, landed, changed_at, closed_at}
+use Rattle.life_roll.specs.Schedules.{begun_at, is_open, changed_at, closed_at}
 use Rattle.life_roll.specs.Seats.{is_seat}
 use Rattle.life_roll.specs.Wants.{seat_of, terms_at}
 
@@ -128,30 +126,3 @@ Tells (Err NoMemory) said = HasStarted said
 abbrev pub starts_of : ℤ → ℕ → Began → List Start
 starts_of m n (Started k) = start_at m n ∷ []
 starts_of m n Forced = []
-
--- Finishes
-
--- the life has the scrape in flight
-abbrev pub is_flight : ℕ → Option InFlight → Bool
-is_flight k None = false
-is_flight k (Some f) = f.ticket == k
-
-abbrev pub flies : ℕ → Option Life → Bool
-flies k None = false
-flies k (Some l) = is_flight k l.schedule.flight
-
--- a started scrape that hasn't had its finish; it is valid where its life still has it in flight
-abbrev pub flight_from : List Life → ℕ → Start → Option Flight
-flight_from ls k s = if s.landed then None else Some (record { life = s.life; moment = s.moment; valid = flies k (slice_get ls s.life) })
-
-abbrev pub flight_of : RollView → ℕ → Option Flight
-flight_of r k = option_and_then (flight_from r.lives k) (slice_get r.started k)
-
--- the scrape with ticket k has had its finish
-abbrev pub finished : ℕ → List Start → List Start
-finished k ss = option_map_or (λ (s : Start). slice_set ss k (record s { landed = true })) (slice_get ss k) ss
-
--- and where it was valid, its life has nothing in flight
-abbrev pub freed : Option Flight → List Life → List Life
-freed None ls = ls
-freed (Some f) ls = if f.valid then rescheduled f.life landed ls else ls

@@ -7,6 +7,7 @@ ghost use Rattle.life_roll.specs.Schedules as schedules;
 ghost use Rattle.life_roll.specs.Seats.{IsSeats, has_seat};
 ghost use Rattle.life_roll.specs.Wants.{found, HasInterval, HaveIntervals};
 ghost use Rattle.life_roll.specs.Rolls as spec;
+ghost use Rattle.life_roll.specs.Flights as flights;
 
 use crate::answers::TickRefusal;
 use crate::moments::Moment;
@@ -168,7 +169,7 @@ pub(crate) fn scan(lives: &mut [Life], life: usize, moment: Moment, ticket: u64,
 
 /// Whether a life has a scrape in flight, by its ticket.
 pub(crate) fn flies(ticket: u64, life: Option<&Life>) -> bool
-    ensures { result ≡ spec.flies ticket (option_copied life.entry) }
+    ensures { result ≡ flights.flies ticket (option_copied life.entry) }
 {
     let Some(life) = life else {
         return false;

@@ -1,10 +1,11 @@
 //! The roll of all lives and started scrapes.
-ghost use Rattle.std.specs.Prelude.{◌≡◌, ◌<◌, ◌≤◌, ◌+◌, ◌++◌, [], length, map, filter, slice_get, None, IfOk, OnOk, OnErr, IsErrOf, IsSome};
+ghost use Rattle.std.specs.Prelude.{◌≡◌, ◌≢◌, ℕ, ◌<◌, ◌≤◌, ◌+◌, ◌==◌, ◌++◌, [], length, map, filter, slice_get, None, option_map, if◌then◌else◌, IfOk, OnOk, OnErr, IsErrOf, IsSome};
 ghost use Rattle.journal_text.specs.Lines.{IsMoment, number};
 ghost use Rattle.life_roll.specs.Schedules.{scanned, landed as freed_schedule};
 ghost use Rattle.life_roll.specs.Wants.{HaveIntervals, terms_at, found};
 ghost use Rattle.life_roll.specs.Rolls.{Tells, room_of};
 ghost use Rattle.life_roll.specs.Rolls as spec;
+ghost use Rattle.life_roll.specs.Flights as flights;
 
 use crate::answers::{Began, Flight, Synced, TickRefusal};
 use crate::lives::{
@@ -133,7 +134,7 @@ fn tick(
 
 /// The started scrape with a ticket, where it hasn't had its finish.
 fn flight_from(lives: &[Life], ticket: u64, start: Start) -> Option<Flight>
-    ensures { result ≡ spec.flight_from lives.now ticket start }
+    ensures { result ≡ flights.flight_from lives.now ticket start }
 {
     if start.landed {
         return None;
@@ -147,7 +148,7 @@ fn flight_from(lives: &[Life], ticket: u64, start: Start) -> Option<Flight>
 
 /// The life of a flight, where it is valid, has nothing in flight.
 fn free_life_of(lives: &mut [Life], flight: Option<Flight>)
-    ensures { lives.new ≡ spec.freed flight lives.old }
+    ensures { lives.new ≡ flights.freed flight lives.old }
 {
     if let Some(flight) = flight {
         if flight.valid {
@@ -158,7 +159,7 @@ fn free_life_of(lives: &mut [Life], flight: Option<Flight>)
 
 /// The scrape with a ticket, where it started, has had its finish.
 fn finish(started: &mut [Start], ticket: usize)
-    ensures { started.new ≡ spec.finished ticket started.old }
+    ensures { started.new ≡ flights.finished ticket started.old }
 {
     if ticket < started.len() {
         started[ticket].landed = true;
@@ -208,6 +209,7 @@ impl Roll {
         ensures closed { IfOk result (λ s. s.closed ≡ length (filter (spec.closes (terms_at wanted.now)) self.old.lives)) }
         ensures begun { IfOk result (λ s. s.begun ≡ length (spec.news_after moment wanted.now self.old.lives)) }
         ensures started { self.new.started ≡ self.old.started }
+        ensures flights { OnOk result ((k : ℕ) → flights.flight_of self.new k ≡ option_map (flights.flight_after (terms_at wanted.now) self.old.lives) (flights.flight_of self.old k)) }
         ensures room { self.new.spare ≡ self.old.spare }
         ensures err { OnErr result (self.new ≡ self.old) }
     {
@@ -223,6 +225,8 @@ impl Roll {
         ensures room { self.old.spare ≤ self.new.spare + 1 }
         ensures err { OnErr result (self.new ≡ self.old) }
         ensures memory { IsErrOf result TickRefusal.NoMemory → self.old.spare ≡ 0 }
+        ensures flight { IfOk result (λ b. flights.IsInFlight self.new moment life b) }
+        ensures others { (k : ℕ) → k ≢ length self.old.started → flights.flight_of self.new k ≡ flights.flight_of self.old k }
     {
         tick(
             &mut self.lives,
@@ -235,7 +239,7 @@ impl Roll {
 
     /// The started scrape with a ticket; `None` exactly where no scrape has it, or it had its finish.
     pub fn flight_of(&self, ticket: u64) -> Option<Flight>
-        ensures { result ≡ spec.flight_of self.now ticket }
+        ensures { result ≡ flights.flight_of self.now ticket }
     {
         let start = self.started.get(ticket as usize).copied()?;
         flight_from(&self.lives, ticket, start)
@@ -243,9 +247,10 @@ impl Roll {
 
     /// The scrape with a ticket has its finish. Where it is valid, its life then has nothing in flight.
     pub fn land(&mut self, ticket: u64)
-        requires { IsSome (spec.flight_of self.old ticket) }
-        ensures started { self.new.started ≡ spec.finished ticket self.old.started }
-        ensures lives { self.new.lives ≡ spec.freed (spec.flight_of self.old ticket) self.old.lives }
+        requires { IsSome (flights.flight_of self.old ticket) }
+        ensures started { self.new.started ≡ flights.finished ticket self.old.started }
+        ensures lives { self.new.lives ≡ flights.freed (flights.flight_of self.old ticket) self.old.lives }
+        ensures flights { (k : ℕ) → flights.flight_of self.new k ≡ (if k == ticket then None else flights.flight_of self.old k) }
         ensures room { self.new.spare ≡ self.old.spare }
     {
         let flight = self.flight_of(ticket);
@@ -257,6 +262,7 @@ impl Roll {
     pub fn cancel(&mut self, life: u64)
         ensures lives { self.new.lives ≡ spec.rescheduled life freed_schedule self.old.lives }
         ensures started { self.new.started ≡ self.old.started }
+        ensures flights { (k : ℕ) → flights.flight_of self.new k ≡ option_map (flights.cancelled life) (flights.flight_of self.old k) }
         ensures room { self.new.spare ≡ self.old.spare }
     {
         free(&mut self.lives, life as usize);
