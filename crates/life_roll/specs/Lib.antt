@@ -3,3 +3,4 @@ pub mod Seats
 pub mod Wants
 pub mod Rolls
 pub mod Flights
+pub mod Counts

@@ -3,6 +3,7 @@ ghost use Rattle.std.specs.Prelude.{◌≡◌, ◌≢◌, ℕ, ◌<◌, ◌≤�
 ghost use Rattle.journal_text.specs.Lines.{IsMoment, number};
 ghost use Rattle.life_roll.specs.Schedules.{scanned, landed as freed_schedule};
 ghost use Rattle.life_roll.specs.Wants.{HaveIntervals, terms_at, found};
+ghost use Rattle.life_roll.specs.Counts.{AreDifferent, HaveOneEach, AreOpen};
 ghost use Rattle.life_roll.specs.Rolls.{Tells, room_of};
 ghost use Rattle.life_roll.specs.Rolls as spec;
 ghost use Rattle.life_roll.specs.Flights as flights;
@@ -208,6 +209,7 @@ impl Roll {
         ensures lives { OnOk result (self.new.lives ≡ spec.lives_after moment wanted.now self.old.lives) }
         ensures closed { IfOk result (λ s. s.closed ≡ length (filter (spec.closes (terms_at wanted.now)) self.old.lives)) }
         ensures begun { IfOk result (λ s. s.begun ≡ length (spec.news_after moment wanted.now self.old.lives)) }
+        ensures single { AreDifferent wanted.now → HaveOneEach self.old.lives → OnOk result (AreOpen wanted.now self.new.lives) }
         ensures started { self.new.started ≡ self.old.started }
         ensures flights { OnOk result ((k : ℕ) → flights.flight_of self.new k ≡ option_map (flights.flight_after (terms_at wanted.now) self.old.lives) (flights.flight_of self.old k)) }
         ensures room { self.new.spare ≡ self.old.spare }
