@@ -19,3 +19,6 @@ pub use roll::Roll;
 pub use schedule::{InFlight, Scanned, Schedule};
 pub use seats::{Seat, Seats};
 pub use wanted::{Terms, Wanted, Wishes};
+
+#[cfg(test)]
+mod tests;
