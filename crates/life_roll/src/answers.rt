@@ -1,6 +1,5 @@
 //! What a roll answers.
 
-use label_set::NoMemory;
 use std::alloc::AllocError;
 
 /// How many lives the wanted targets closed and began.
@@ -50,17 +49,6 @@ impl From<AllocError> for TickRefusal {
     ghost from_gives = { λ _ refusal. refusal ≡ variants.NoMemory };
 
     fn from(_: AllocError) -> TickRefusal {
-        TickRefusal::NoMemory
-    }
-}
-
-impl From<NoMemory> for TickRefusal {
-    ghost use Rattle.std.specs.Prelude.{◌≡◌};
-    ghost use Rattle.life_roll.specs.declared.answers.TickRefusal.TheVariants as variants;
-
-    ghost from_gives = { λ _ refusal. refusal ≡ variants.NoMemory };
-
-    fn from(_: NoMemory) -> TickRefusal {
         TickRefusal::NoMemory
     }
 }

@@ -2,6 +2,9 @@
 //! of a job is scraped; its planned moments stay whole intervals apart, and at most one scrape of it is in flight.
 //! Contracts see a schedule as the record of its interval, its next planned moment, its scrape in flight and the moment at which it was closed;
 //! `specs/Schedules.antt` says what scans, changes and closing make of it.
+//! A roll keeps all lives by number and all started scrapes by ticket; contracts see both lists. `specs/Rolls.antt` says which lives the wanted
+//! targets close, change and begin, and what a tick answers; `specs/Flights.antt` says which scrapes are in flight after each call, and
+//! `specs/Counts.antt` that each wanted target has one open life.
 #![tactic(auto)]
 
 pub mod answers;

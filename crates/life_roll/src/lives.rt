@@ -42,15 +42,15 @@ fn stays(terms: Option<Terms>) -> bool
     }
 }
 
-/// The schedule of a life whose target is wanted on these terms at a moment, if it is.
-fn schedule_after(moment: Moment, terms: Option<Terms>, schedule: Schedule) -> Schedule
-    ensures { result ≡ spec.schedule_after moment terms schedule }
+/// The schedule of a life after the wanted targets are looked at, at a moment.
+fn schedule_after(moment: Moment, wishes: &Wishes, life: &Life) -> Schedule
+    ensures { result ≡ (spec.life_after moment (found wishes.now) life.now).schedule }
 {
-    let mut after = schedule;
-    if !schedule.is_open() {
+    let mut after = life.schedule;
+    if !after.is_open() {
         return after;
     }
-    match terms {
+    match wishes.get(&life.seat) {
         None => after.close(moment),
         Some(terms) => {
             if !terms.compatible {
@@ -88,7 +88,7 @@ pub(crate) fn open_seats(
 {
     let mut seats = Seats::new(alloc);
     for life in lives {
-        if schedule_after(moment, wishes.get(&life.seat), life.schedule).is_open() {
+        if schedule_after(moment, wishes, life).is_open() {
             seats.put(life.seat.copy()?)?;
         }
     }
@@ -136,7 +136,7 @@ pub(crate) fn sync_all(lives: &mut [Life], moment: Moment, wishes: &Wishes)
     ensures { lives.new ≡ map (spec.life_after moment (found wishes.now)) lives.old }
 {
     for life in lives.iter_mut() {
-        life.schedule = schedule_after(moment, wishes.get(&life.seat), life.schedule);
+        life.schedule = schedule_after(moment, wishes, life);
     }
 }
 

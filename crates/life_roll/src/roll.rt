@@ -196,6 +196,13 @@ impl Roll {
         &self.lives
     }
 
+    /// The ticket of the next scrape that starts.
+    pub fn next_ticket(&self) -> u64
+        ensures { result ≡ length self.now.started }
+    {
+        self.started.len() as u64
+    }
+
     /// Compares the open lives with the wanted targets: those stay open that are wanted on compatible terms, the others close at the moment,
     /// and each wanted target without an open life begins one. `NoMemory` comes also where 2^32 lives close or begin at once.
     pub fn sync(

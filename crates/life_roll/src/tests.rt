@@ -70,6 +70,7 @@ fn a_life_closes_and_another_begins(rt: HostRuntime) {
     };
     assert_eq!(rt; changed, Ok(one));
     assert_eq!(rt; roll.lives().len(), 2);
+    assert_eq!(rt; roll.next_ticket(), 1);
     assert_eq!(rt; roll.begin(120000, 0, false), Err(TickRefusal::NoLife));
     assert_eq!(rt; roll.begin(60010, 1, false), Ok(Began::Started(1)));
 }

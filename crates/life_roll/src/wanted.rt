@@ -1,6 +1,7 @@
 //! What is wanted of targets, looked up by hash.
 ghost use Rattle.std.specs.Prelude.{◌≡◌, None, Some, IfOk, OnOk, if◌then◌else◌};
 ghost use Rattle.std.specs.Option.{option_or, option_copied};
+ghost use Rattle.value_text.specs.Numbers.{number};
 ghost use Rattle.life_roll.specs.Wants as spec;
 
 use crate::moments::Interval;
@@ -51,7 +52,7 @@ impl Wanted {
     /// The scrape interval.
     pub fn interval(&self) -> Interval
         requires { spec.HasInterval self.now }
-        ensures { result ≡ (spec.terms_of self.now).interval }
+        ensures { result ≡ number self.now.interval }
     {
         Interval::new(to_number(self.interval))
     }
