@@ -1,2 +1,6 @@
 pub mod SeatLemmas
 pub mod NameLemmas
+pub mod WantLemmas
+pub mod RollLemmas
+pub mod FlightLemmas
+pub mod CountLemmas

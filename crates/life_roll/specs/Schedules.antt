@@ -1,8 +1,7 @@
 -- When the target of a life is scraped ("Configuration" of the Prometheus documentation, scrape_config: scrape_interval, target_limit;
 -- how planned moments move, and that a change or a close cancels the scrape in flight, are rules of this project).
-use Rattle.std.specs.Prelude.{ℕ, ℤ, ◌+◌, ◌-◌, ◌%◌, Bool, not, ◌&&◌, nat_lt, min, Option, Some, None, is_some, if◌then◌else◌}
+use Rattle.std.specs.Prelude.{ℕ, ℤ, ◌+◌, ◌-◌, ◌%◌, Bool, not, ◌&&◌, nat_lt, min, Some, None, is_some, if◌then◌else◌}
 use Rattle.journal_text.specs.Lines.{number}
-use Rattle.life_roll.specs.declared.schedule.InFlight.{InFlight}
 use Rattle.life_roll.specs.declared.schedule.Schedule.{Schedule}
 use Rattle.life_roll.specs.declared.schedule.Scanned.{Scanned}
 use Rattle.life_roll.specs.declared.schedule.Scanned.TheVariants.{Nothing, Started, Forced}

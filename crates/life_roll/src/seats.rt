@@ -19,6 +19,18 @@ pub struct Seats {
     pub set: IndexSet<Seat>,
 }
 
+impl Seat {
+    /// The same target of the job once more, which shares the labels.
+    pub fn copy(&self) -> Result<Seat, NoMemory>
+        ensures { IfOk result (λ s. s ≡ self.now) }
+    {
+        Ok(Seat {
+            job: self.job,
+            identity: self.identity.copy()?,
+        })
+    }
+}
+
 impl Seats {
     /// No targets.
     pub fn new(alloc: Global) -> Seats
