@@ -68,7 +68,6 @@ news_more : (m : ℤ) (job : ℕ) (identity : List Pair) (w : Wanted) (news : Li
     open_count (map (begun_life m) (cond r (w ∷ news) news)) job identity ≡ cond b 0 (cond q 1 0 + wanted)
 news_more m job identity w news wanted q r b e f h = by q r b e f h
   where
-
     one : (q : Bool) → is_seat job identity (seat_of w) ≡ q →
         open_count (map (begun_life m) (w ∷ news)) job identity ≡ cond q 1 0 + open_count (map (begun_life m) news) job identity
     one q e =

@@ -104,7 +104,6 @@ pub landed_flights : (r : RollView) (t k : ℕ) →
     option_and_then (flight_from (freed (flight_of r t) r.lives) k) (slice_get (finished t r.started) k) ≡ cond (eqb k t) None (flight_of r k)
 landed_flights r t k = by (eqb k t) refl
   where
-
     by : (b : Bool) → eqb k t ≡ b → option_and_then (flight_from (freed (flight_of r t) r.lives) k) (slice_get (finished t r.started) k) ≡ cond b None (flight_of r k)
     by true e =
         ap (λ i. option_and_then (flight_from (freed (flight_of r t) r.lives) k) (slice_get (finished t r.started) i)) (eqb-true k t e)

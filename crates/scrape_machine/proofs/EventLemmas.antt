@@ -148,13 +148,13 @@ module _ (jobs : List InForce) (ls : List Life) (ss : List Start) (m : ℤ) wher
       closed_count (world jobs ls ss) (Load m text) ≡ closed_by m news (world jobs ls ss)
   load_closed text news h =
       ap (λ ps. length (filter closes ps)) (locals_reloaded (world jobs ls ss) (Load m text) m (new_jobs jobs (Load m text)) (λ n l. refl) 0 ls
-          ∙ ap (λ o. map (reload_local m jobs o) ls) h)
+      ∙ ap (λ o. map (reload_local m jobs o) ls) h)
 
   update_closed : (name file text : List ℕ) (news : List InForce) → new_jobs jobs (Targets m name file text) ≡ Some news →
       closed_count (world jobs ls ss) (Targets m name file text) ≡ closed_by m news (world jobs ls ss)
   update_closed name file text news h =
       ap (λ ps. length (filter closes ps)) (locals_reloaded (world jobs ls ss) (Targets m name file text) m (new_jobs jobs (Targets m name file text)) (λ n l. refl) 0 ls
-          ∙ ap (λ o. map (reload_local m jobs o) ls) h)
+      ∙ ap (λ o. map (reload_local m jobs o) ls) h)
 
   born : Option (List InForce) → ℕ
   born o = length (begun_with (number m) (kept o) o)

@@ -53,7 +53,6 @@ start_found ls k j m (Some s) h = by_finish s.finished h
         let P : ℕ → Type 0 = λ n. FliesSince (slice_get ls n) m in
         subst P q.1 q.0
 
-
 module _ (jobs : List InForce) (ls : List Life) (ss : List Start) (k : ℕ) (took : ℤ) (r : Reply) where
   -- a finish that finds no life
   missed_local : (a : Answer) (f : Found) → IsMissed a f → (n : ℕ) → finish_local n took r f ≡ Nothing

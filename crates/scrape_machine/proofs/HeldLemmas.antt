@@ -36,8 +36,8 @@ pub held_more : (m : ℤ) (names : List (List ℕ)) (place : ℕ) (identity : Li
 held_more m names place identity fs ls i f l old new hf hl af al ho hn =
     hn ∙ ap (λ b. sits names place identity (life_after (local_of m f) l) || b) ho
     ∙ sym (ap (list_any (sits names place identity)) (after_more m fs ls i f l hf hl af al)
-        ∙ list_any-append (sits names place identity) (after_each m (take i fs) (take i ls)) (life_after (local_of m f) l ∷ [])
-        ∙ or_comm (list_any (sits names place identity) (after_each m (take i fs) (take i ls))) (sits names place identity (life_after (local_of m f) l)))
+    ∙ list_any-append (sits names place identity) (after_each m (take i fs) (take i ls)) (life_after (local_of m f) l ∷ [])
+    ∙ or_comm (list_any (sits names place identity) (after_each m (take i fs) (take i ls))) (sits names place identity (life_after (local_of m f) l)))
 
 length-after : (m : ℤ) (fs : List Fate) (ls : List Life) → length (after_each m fs ls) ≡ length ls
 length-after m [] ls = refl

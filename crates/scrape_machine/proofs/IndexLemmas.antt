@@ -24,7 +24,6 @@ any_more f xs i x lt at =
     ap (list_any f) (take_more xs i x lt ∙ ap (λ y. take i xs ++ y ∷ []) (sym at))
     ∙ list_any-append f (take i xs) (x ∷ []) ∙ or_comm (list_any f (take i xs)) (f x)
 
-
 pub indexed_more : (ts : List Target) (i : ℕ) (t : Target) (keys more : List (List Pair)) (s : List Pair) → i < length ts → t ≡ get_or ts i t →
     IsIndexed (take i ts) keys → s ≡ t.identity → more ≡ insert_key (λ (x y : List Pair). is_eq (set_cmp x y)) keys s → IsIndexed (take (i + 1) ts) more
 indexed_more ts i t keys more s lt at h hs hm = λ (identity : List Pair).

@@ -49,4 +49,3 @@ no_names_in (x ∷ xs) = All-cons HasNoName (target_of x) (map target_of xs) (no
 pub no_names : (conf : JobConf) (rules : List RuleConf) (gs : List Group) → All HasNoName (target_list conf rules gs).kept
 unfolding target_list sorted_out
 no_names conf rules gs = no_names_in (distinct (flat_map kept_in (outcomes_of conf rules gs)))
-

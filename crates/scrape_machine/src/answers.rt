@@ -6,17 +6,25 @@ use sample_rows::ScrapeFault;
 #[derive(Debug, Drop)]
 pub enum Answer {
     /// A load was taken: so many lives closed, and so many began.
-    Loaded { closed: u32, begun: u32 },
+    Loaded {
+        closed: u32,
+        begun: u32,
+    },
     /// A load or an update was refused for this fault; nothing but the journal changed.
     Refused(ConfFault),
     /// An update was taken: so many lives closed, and so many began.
-    Updated { closed: u32, begun: u32 },
+    Updated {
+        closed: u32,
+        begun: u32,
+    },
     /// An update of a job that isn't configured.
     NoJob,
     /// An update of a file that its job doesn't list.
     NoFile,
     /// A tick started the scrape with this ticket.
-    Started { ticket: u64 },
+    Started {
+        ticket: u64,
+    },
     /// A tick forced a scrape: the job has more targets than its limit, so the scrape counted as failed at once.
     Forced,
     /// A tick before the planned scrape.

@@ -72,8 +72,8 @@ pub struct Settings {
 impl Model for Settings {
     ghost use Rattle.scrape_config.specs.declared.conf.Job.{Job};
     ghost use Rattle.std.specs.List.{list_any};
-ghost use Rattle.scrape_machine.specs.TargetWords.{IsIndexed, HasNoName, is_target};
-ghost use Rattle.scrape_machine.specs.Settings.{settings_of};
+    ghost use Rattle.scrape_machine.specs.TargetWords.{IsIndexed, HasNoName, is_target};
+    ghost use Rattle.scrape_machine.specs.Settings.{settings_of};
 
     ghost Value = { Job };
 

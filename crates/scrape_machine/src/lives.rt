@@ -42,11 +42,19 @@ pub enum Local {
         over: bool,
     },
     /// The finish of its scrape in flight.
-    Answered { took: i64, reply: Reply },
+    Answered {
+        took: i64,
+        reply: Reply,
+    },
     /// The settings of its job change.
-    Change { moment: Moment, settings: Settings },
+    Change {
+        moment: Moment,
+        settings: Settings,
+    },
     /// It is closed.
-    Close { moment: Moment },
+    Close {
+        moment: Moment,
+    },
 }
 
 /// What a finish of a ticket finds.

@@ -19,6 +19,7 @@ use target_set::{FileGroups, SharedGroups, listed_within, targets_with_files};
 
 /// The most targets that a job lists, and that all jobs list together.
 pub const JOB_LIMIT: u64 = 10_000;
+
 const LIMIT: u64 = 100_000;
 
 pub fn is_named(name: &Name, job: &InForce) -> bool
@@ -83,11 +84,7 @@ fn groups_before(
     }
 }
 
-fn kept_file(
-    alloc: Global,
-    before: Option<&InForce>,
-    file: &Name,
-) -> Result<FileGroups, NoMemory>
+fn kept_file(alloc: Global, before: Option<&InForce>, file: &Name) -> Result<FileGroups, NoMemory>
     ensures { IfOk result (λ f. f ≡ spec.kept_file (option_copied before.entry) file.now) }
 {
     Ok(FileGroups {

@@ -144,7 +144,13 @@ pub fn entries_of(
 {
     let mut entries = Vec::new(alloc);
     for life in lives {
-        push_scan(alloc, &mut entries, moment, is_over(names, jobs, life), life)?;
+        push_scan(
+            alloc,
+            &mut entries,
+            moment,
+            is_over(names, jobs, life),
+            life,
+        )?;
     }
     Ok(entries)
 }

@@ -122,12 +122,7 @@ fn crowd_in(alloc: Global, filed: &[Filed]) -> Result<Option<ConfFault>, NoMemor
     }
 }
 
-fn read_update(
-    alloc: Global,
-    job: &Name,
-    file: &Name,
-    text: &[u8],
-) -> Result<Update, UpdateError>
+fn read_update(alloc: Global, job: &Name, file: &Name, text: &[u8]) -> Result<Update, UpdateError>
     ensures read { IfOk result (λ u. groups_reading file.now text.now ≡ Ok u.groups) }
     ensures job { IfOk result (λ u. u.job ≡ job.now) }
     ensures file { IfOk result (λ u. u.file ≡ file.now) }
@@ -159,7 +154,13 @@ fn update_or_crowd(alloc: Global, jobs: &[InForce], update: Update) -> Result<Up
 fn lists(job: &InForce, file: &Name) -> bool
     ensures { result ≡ list_any (bytes_eq file.now) job.now.job.conf.files }
 {
-    job.job.job().conf.files.as_slice().iter().any(|one| file.as_str() == one.as_str())
+    job.job
+        .job()
+        .conf
+        .files
+        .as_slice()
+        .iter()
+        .any(|one| file.as_str() == one.as_str())
 }
 
 /// The update of a file of a job, or why it isn't taken.

@@ -14,4 +14,4 @@ loop-job-preserved c =
     births_more m c.args.first c.args.held.now c.args.names.now c.args.news.now c.loop-job.job-index j c.loop-job.lives.items c.push_born.new.lives.items
     c.loop-job-test.true c.job-item.is c.loop-job.invariant
     (c.in_ok-push_born.ensures
-        ∙ ap (λ o. c.loop-job.lives.items ++ born_all m (c.args.first + length c.loop-job.lives.items) j (filter (λ (t : Target). not (is_seated c.args.held.now t.identity o)) j.kept)) ?)
+    ∙ ap (λ o. c.loop-job.lives.items ++ born_all m (c.args.first + length c.loop-job.lives.items) j (filter (λ (t : Target). not (is_seated c.args.held.now t.identity o)) j.kept)) ?)
