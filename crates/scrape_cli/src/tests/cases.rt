@@ -15,7 +15,6 @@ mod conflicts;
 mod fields;
 mod limits;
 mod relabelling;
-mod reloads;
 mod scripts;
 mod targets;
 mod words;
@@ -29,14 +28,13 @@ use std::str;
 use std::test::Fail;
 
 /// All cases, by subject.
-const TEXTS: [&str; 10] = [
+const TEXTS: [&str; 9] = [
     words::CASES,
     scripts::CASES,
     bodies::CASES,
     targets::CASES,
     conflicts::CASES,
     relabelling::CASES,
-    reloads::CASES,
     limits::CASES,
     checked::CASES,
     fields::CASES,
