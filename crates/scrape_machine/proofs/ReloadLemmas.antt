@@ -166,7 +166,7 @@ unseated_unheld : (held : Seats) (names : List (List ℕ)) (ls : List Life) (j :
 unseated_unheld held names ls j p h at =
     filter_alike _ _ (λ (t : Target). ap not (ap (is_seated held t.identity) at ∙ h p t.identity ∙ any_sits names (name_of j) p at t ls)) j.kept
 
-abbrev HasPlace : List (List ℕ) → InForce → Type 0
+abbrev pub HasPlace : List (List ℕ) → InForce → Type 0
 HasPlace names j = (p : ℕ) × (place_in (name_of j) names ≡ Some p)
 
 pub births_alike : (m n : ℕ) (held : Seats) (names : List (List ℕ)) (ls : List Life) (js : List InForce) → IsHeld held names ls →
