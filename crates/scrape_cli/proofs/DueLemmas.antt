@@ -5,16 +5,15 @@ use Rattle.std.specs.Option.{option_map_or}
 use Rattle.outside.specs.declared.objects.StoredFile.{StoredFile}
 use Rattle.outside.specs.Objects.{file_of, HasFile, LacksFile, HasLongerFile}
 use Rattle.journal_text.specs.declared.events.Event.{Event}
-use Rattle.scrape_config.specs.Reading.{reading, IsRuleAt, IsRefusedPattern}
-use Rattle.scrape_config.specs.declared.conf.Conf.{Conf}
+use Rattle.journal_text.specs.Events.{IsJournal, journal_text}
+use Rattle.journal_text.specs.Faults.{SpellsNone}
+use Rattle.jobs_in_force.specs.Jobs.{loaded}
+use Rattle.jobs_in_force.specs.declared.jobs.Filed.{Filed}
 use Rattle.config_fields.specs.declared.fault.ConfFault.{ConfFault}
-use Rattle.config_fields.specs.declared.fault.ConfFault.TheVariants.{NotJson, Shape, Unknown, Missing, Value, TwiceNamed, TooMany, Rule}
-use Rattle.scrape_core.specs.Built.{listed_targets}
-use Rattle.scrape_cli.specs.Checks.{target_limit, IsFault, IsTaken, fault_message}
-use Rattle.scrape_cli.specs.Scripts.{SpellsTaken, SpellsNoBuilt}
+use Rattle.scrape_cli.specs.Checks.{IsFault, IsConf, fault_message}
 use Rattle.scrape_cli.specs.Words.{Asking, asking, asked_in, file_in, limit_of}
 use Rattle.scrape_cli.specs.Ends.{Call, work_of, Reads, IsOutput, IsAskedFor, WorkEnds, Speaks, IsSaid, Ended, status_at}
-use Rattle.scrape_cli.specs.Laws.{Complete, IsTold, TellsNone, TellsLonger, IsRead, IsSound, IsUncounted, IsFreely, IsClean, IsCrowded, refused_at}
+use Rattle.scrape_cli.specs.Laws.{Complete, IsTold, TellsNone, TellsLonger, IsRead, IsSound, IsUncounted, IsFreely, Spells, refused_at}
 use Rattle.scrape_cli.specs.declared.words.Command.{Command}
 use Rattle.scrape_cli.specs.declared.words.Command.TheVariants.{Replay, Check}
 use Rattle.scrape_cli.specs.declared.refusals.Refusal.{Refusal}
@@ -70,53 +69,11 @@ longer_lacks None name limit t h = t
 longer_lacks (Some fs) name limit t h = longer_none (file_of name fs) limit h t
 
 -- faults of configurations
-no_conf : (said : Result Conf ConfFault) (fault : ConfFault) (P : Conf → Type 0) → said ≡ Err fault → IsOkAnd said P → ⊥
-no_conf (Ok conf) fault P e h = absurd cc
-no_conf (Err f) fault P e h = h
+no_fault : (said : Result (List Filed) ConfFault) (jobs : List Filed) (fault : ConfFault) → said ≡ Ok jobs → said ≡ Err fault → ⊥
+no_fault said jobs fault e h = absurd cc
 
-conf_has : (said : Result Conf ConfFault) (conf : Conf) (P : Conf → Type 0) → said ≡ Ok conf → IsOkAnd said P → P conf
-conf_has (Ok other) conf P e h = let same : other ≡ conf = cc in subst P same h
-conf_has (Err f) conf P e h = absurd h
-
-no_fault : (said : Result Conf ConfFault) (conf : Conf) (fault : ConfFault) → said ≡ Ok conf → said ≡ Err fault → ⊥
-no_fault said conf fault e h = absurd cc
-
-one_fault : (said : Result Conf ConfFault) (fault found : ConfFault) → said ≡ Err fault → said ≡ Err found → found ≡ fault
+one_fault : (said : Result (List Filed) ConfFault) (fault found : ConfFault) → said ≡ Err fault → said ≡ Err found → found ≡ fault
 one_fault said fault found e h = cc
-
-rule_place : (P : List ℕ → Type 0) (fault : ConfFault) → IsRuleAt P fault → ((place : List ℕ) → ¬ P place) → ⊥
-rule_place P NotJson r n = r
-rule_place P (Shape place) r n = r
-rule_place P (Unknown place) r n = r
-rule_place P (Missing place) r n = r
-rule_place P (Value place) r n = r
-rule_place P (TwiceNamed job) r n = r
-rule_place P (TooMany place limit) r n = r
-rule_place P (Rule place) r n = n place r
-
-module _ (bytes : List ℕ) where
-  same_fault : (fault found : ConfFault) → reading bytes ≡ Err fault → IsFault bytes found → found ≡ fault
-  same_fault fault found e (inl (inl h)) = one_fault (reading bytes) fault found e h
-  same_fault fault found e (inl (inr h)) = absurd (no_conf (reading bytes) fault _ e h)
-  same_fault fault found e (inr h) = absurd (no_conf (reading bytes) fault _ e h.1)
-
-  clean_fault : (conf : Conf) (found : ConfFault) → IsClean bytes conf → IsFault bytes found → ⊥
-  clean_fault conf found k (inl (inl h)) = no_fault (reading bytes) conf found k.read h
-  clean_fault conf found k (inl (inr h)) = rule_place (IsRefusedPattern conf) found (conf_has (reading bytes) conf _ k.read h) k.patterns
-  clean_fault conf found k (inr h) =
-      let many = (conf_has (reading bytes) conf _ k.read h.1).1 in
-      let few = k.few in
-      absurd (omega (arith, many, few))
-
-  fault_taken : (conf : Conf) (fault : ConfFault) → reading bytes ≡ Err fault → IsTaken bytes conf → ⊥
-  fault_taken conf fault e t = no_fault (reading bytes) conf fault t.read e
-
-  crowd_taken : (conf other : Conf) → IsCrowded bytes conf → IsTaken bytes other → ⊥
-  crowd_taken conf other k t =
-      let same : other ≡ conf = conf_has (reading bytes) conf (λ z. other ≡ z) k.read (subst (λ z. IsOkAnd z (λ (y : Conf). other ≡ y)) (sym t.read) refl) in
-      let few : listed_targets conf.jobs ≤ target_limit = subst (λ (z : Conf). listed_targets z.jobs ≤ target_limit) same t.few in
-      let many = k.many in
-      absurd (omega (arith, many, few))
 
 module _ (c : Call) where
   asked_file : (a : Asking) → asked_in c.words ≡ Some a → file_in c.words ≡ a.file
@@ -231,25 +188,42 @@ module _ (c : Call) where
     told_asked : asked_in c.words ≡ None → ⊥
     told_asked e = let at = t.asked in absurd cc
 
-  module _ (bytes : List ℕ) (t : IsTold Replay bytes c) (journal : List Event) (s : SpellsTaken bytes journal) (sound : IsSound c) where
+  module _ (bytes : List ℕ) (t : IsTold Replay bytes c) where
     not_checked : (b : List ℕ) → Reads Check b (work_of c) → ⊥
     not_checked b r = let e = told_command Replay bytes t Check b r in absurd cc
 
-    not_left : (b : List ℕ) → Reads Replay b (work_of c) → SpellsNoBuilt b → ⊥
-    not_left b r none =
-        let none_of : SpellsNoBuilt bytes = subst SpellsNoBuilt (told_bytes Replay bytes t Replay b r) none in
-        s.taken (none_of journal s.is_journal s.text)
+    told_none : (b : List ℕ) → Reads Replay b (work_of c) → SpellsNone b → SpellsNone bytes
+    told_none b r none = subst SpellsNone (told_bytes Replay bytes t Replay b r) none
 
-    replayed_due : (end : Result (Unit {0}) Refusal) → WorkEnds end (work_of c) → IsFreely 0 (status_at end)
-    replayed_due (Ok u) w = inl refl
-    replayed_due (Err BadWords) w = absurd (told_asked Replay bytes t w.cause)
-    replayed_due (Err Absent) w = absurd (told_found Replay bytes t w.cause)
-    replayed_due (Err (Config f)) w = absurd (not_checked _ w.cause.1)
-    replayed_due (Err ReadFault) w = absurd (sound.read w.shelf.counted)
-    replayed_due (Err WriteFault) w = absurd (sound.written w.cause.put.counted)
-    replayed_due (Err NoMemory) w = inr refl
-    replayed_due (Err TooLong) w = absurd (told_short Replay bytes t w.cause)
-    replayed_due (Err NotYet) w = absurd (not_left _ w.cause.1 w.cause.2)
+    replayed_due : Spells bytes → IsSound c → (end : Result (Unit {0}) Refusal) → WorkEnds end (work_of c) → IsFreely 0 (status_at end)
+    replayed_due s n (Ok u) w = inl refl
+    replayed_due s n (Err BadWords) w = absurd (told_asked Replay bytes t w.cause)
+    replayed_due s n (Err Absent) w = absurd (told_found Replay bytes t w.cause)
+    replayed_due s n (Err (Config f)) w = absurd (not_checked _ w.cause.1)
+    replayed_due s n (Err ReadFault) w = absurd (n.read w.shelf.counted)
+    replayed_due s n (Err WriteFault) w = absurd (n.written w.cause.put.counted)
+    replayed_due s n (Err NoMemory) w = inr refl
+    replayed_due s n (Err TooLong) w = absurd (told_short Replay bytes t w.cause)
+    replayed_due s n (Err NotYet) w = absurd (told_none _ w.cause.1 w.cause.2 s.0 s.1 s.2)
+
+    -- the output of `replay` is that of a journal
+    told_spelled : (m : Command) (b text : List ℕ) → Reads m b (work_of c) → IsOutput m b text → SpellsNone bytes → ⊥
+    told_spelled Check b text r o none = not_checked b r
+    told_spelled Replay b text r o none = none o.0 o.1.journal (o.1.text ∙ told_bytes Replay bytes t Replay b r)
+
+    asked_spelled : (text : List ℕ) → IsAskedFor text (work_of c) → SpellsNone bytes → ⊥
+    asked_spelled text a none = told_spelled a.command a.bytes text a.reads a.output none
+
+    unspelled_due : SpellsNone bytes → IsRead c → (end : Result (Unit {0}) Refusal) → WorkEnds end (work_of c) → IsFreely 11 (status_at end)
+    unspelled_due s n (Ok u) w = absurd (asked_spelled _ w.prints.asked_for s)
+    unspelled_due s n (Err BadWords) w = absurd (told_asked Replay bytes t w.cause)
+    unspelled_due s n (Err Absent) w = absurd (told_found Replay bytes t w.cause)
+    unspelled_due s n (Err (Config f)) w = absurd (not_checked _ w.cause.1)
+    unspelled_due s n (Err ReadFault) w = absurd (n w.shelf.counted)
+    unspelled_due s n (Err WriteFault) w = absurd (asked_spelled _ w.cause.asked_for s)
+    unspelled_due s n (Err NoMemory) w = inr refl
+    unspelled_due s n (Err TooLong) w = absurd (told_short Replay bytes t w.cause)
+    unspelled_due s n (Err NotYet) w = inl refl
 
   module _ (bytes : List ℕ) (t : IsTold Check bytes c) where
     not_replayed : (b : List ℕ) → Reads Replay b (work_of c) → ⊥
@@ -258,42 +232,42 @@ module _ (c : Call) where
     told_fault : (b : List ℕ) (found : ConfFault) → Reads Check b (work_of c) → IsFault b found → IsFault bytes found
     told_fault b found r h = subst (λ (x : List ℕ). IsFault x found) (told_bytes Check bytes t Check b r) h
 
-    -- the output of `check` is that of a configuration that is taken
-    told_taken : (n : Command) (b text : List ℕ) → Reads n b (work_of c) → IsOutput n b text → ((conf : Conf) → IsTaken bytes conf → ⊥) → ⊥
-    told_taken Replay b text r o none = not_replayed b r
-    told_taken Check b text r o none = none o.0 (subst (λ (x : List ℕ). IsTaken x o.0) (told_bytes Check bytes t Check b r) o.1)
+    -- the output of `check` is that of a configuration without a fault
+    told_conf : (n : Command) (b text : List ℕ) → Reads n b (work_of c) → IsOutput n b text → (fault : ConfFault) → IsFault bytes fault → ⊥
+    told_conf Replay b text r o fault h = not_replayed b r
+    told_conf Check b text r o fault h =
+        no_fault (loaded [] bytes) o.0 fault (subst (λ (x : List ℕ). IsConf x o.0) (told_bytes Check bytes t Check b r) o.1) h
 
-    asked_taken : (text : List ℕ) → IsAskedFor text (work_of c) → ((conf : Conf) → IsTaken bytes conf → ⊥) → ⊥
-    asked_taken text a none = told_taken a.command a.bytes text a.reads a.output none
+    asked_conf : (text : List ℕ) → IsAskedFor text (work_of c) → (fault : ConfFault) → IsFault bytes fault → ⊥
+    asked_conf text a fault h = told_conf a.command a.bytes text a.reads a.output fault h
 
-    -- where none is taken, the status is that of a fault
-    refused_due : ((conf : Conf) → IsTaken bytes conf → ⊥) → IsRead c → (end : Result (Unit {0}) Refusal) → WorkEnds end (work_of c) → IsFreely 4 (status_at end)
-    refused_due none n (Ok u) w = absurd (asked_taken _ w.prints.asked_for none)
-    refused_due none n (Err BadWords) w = absurd (told_asked Check bytes t w.cause)
-    refused_due none n (Err Absent) w = absurd (told_found Check bytes t w.cause)
-    refused_due none n (Err (Config f)) w = inl refl
-    refused_due none n (Err ReadFault) w = absurd (n w.shelf.counted)
-    refused_due none n (Err WriteFault) w = absurd (asked_taken _ w.cause.asked_for none)
-    refused_due none n (Err NoMemory) w = inr refl
-    refused_due none n (Err TooLong) w = absurd (told_short Check bytes t w.cause)
-    refused_due none n (Err NotYet) w = absurd (not_replayed _ w.cause.1)
+    refused_due : (fault : ConfFault) → IsFault bytes fault → IsRead c → (end : Result (Unit {0}) Refusal) → WorkEnds end (work_of c) → IsFreely 4 (status_at end)
+    refused_due fault h n (Ok u) w = absurd (asked_conf _ w.prints.asked_for fault h)
+    refused_due fault h n (Err BadWords) w = absurd (told_asked Check bytes t w.cause)
+    refused_due fault h n (Err Absent) w = absurd (told_found Check bytes t w.cause)
+    refused_due fault h n (Err (Config f)) w = inl refl
+    refused_due fault h n (Err ReadFault) w = absurd (n w.shelf.counted)
+    refused_due fault h n (Err WriteFault) w = absurd (asked_conf _ w.cause.asked_for fault h)
+    refused_due fault h n (Err NoMemory) w = inr refl
+    refused_due fault h n (Err TooLong) w = absurd (told_short Check bytes t w.cause)
+    refused_due fault h n (Err NotYet) w = absurd (not_replayed _ w.cause.1)
 
-    checked_due : (conf : Conf) → IsClean bytes conf → IsSound c → (end : Result (Unit {0}) Refusal) → WorkEnds end (work_of c) → IsFreely 0 (status_at end)
-    checked_due conf k n (Ok u) w = inl refl
-    checked_due conf k n (Err BadWords) w = absurd (told_asked Check bytes t w.cause)
-    checked_due conf k n (Err Absent) w = absurd (told_found Check bytes t w.cause)
-    checked_due conf k n (Err (Config f)) w = absurd (clean_fault bytes conf f k (told_fault _ f w.cause.1 w.cause.2))
-    checked_due conf k n (Err ReadFault) w = absurd (n.read w.shelf.counted)
-    checked_due conf k n (Err WriteFault) w = absurd (n.written w.cause.put.counted)
-    checked_due conf k n (Err NoMemory) w = inr refl
-    checked_due conf k n (Err TooLong) w = absurd (told_short Check bytes t w.cause)
-    checked_due conf k n (Err NotYet) w = absurd (not_replayed _ w.cause.1)
+    checked_due : (jobs : List Filed) → IsConf bytes jobs → IsSound c → (end : Result (Unit {0}) Refusal) → WorkEnds end (work_of c) → IsFreely 0 (status_at end)
+    checked_due jobs k n (Ok u) w = inl refl
+    checked_due jobs k n (Err BadWords) w = absurd (told_asked Check bytes t w.cause)
+    checked_due jobs k n (Err Absent) w = absurd (told_found Check bytes t w.cause)
+    checked_due jobs k n (Err (Config f)) w = absurd (no_fault (loaded [] bytes) jobs f k (told_fault _ f w.cause.1 w.cause.2))
+    checked_due jobs k n (Err ReadFault) w = absurd (n.read w.shelf.counted)
+    checked_due jobs k n (Err WriteFault) w = absurd (n.written w.cause.put.counted)
+    checked_due jobs k n (Err NoMemory) w = inr refl
+    checked_due jobs k n (Err TooLong) w = absurd (told_short Check bytes t w.cause)
+    checked_due jobs k n (Err NotYet) w = absurd (not_replayed _ w.cause.1)
 
-    told_due : (fault : ConfFault) → reading bytes ≡ Err fault → (end : Result (Unit {0}) Refusal) → WorkEnds end (work_of c) →
+    told_due : (fault : ConfFault) → IsFault bytes fault → (end : Result (Unit {0}) Refusal) → WorkEnds end (work_of c) →
         Speaks end (file_in c.words) c.err → status_at end ≡ 4 → IsSaid (fault_message fault) c.err
     told_due fault e (Ok u) w s four = absurd (omega (arith, four))
     told_due fault e (Err (Config f)) w s four =
-        let same : f ≡ fault = same_fault bytes fault f e (told_fault _ f w.cause.1 w.cause.2) in
+        let same : f ≡ fault = one_fault (loaded [] bytes) fault f e (told_fault _ f w.cause.1 w.cause.2) in
         subst (λ (z : ConfFault). IsSaid (fault_message z) c.err) same s
     told_due fault e (Err _) w s four = absurd (omega (arith, four))
 
@@ -302,11 +276,11 @@ complete_by status c e = record {
   words = λ none. e.status_is ∙ words_due c e.end e.work_ends none;
   missing = λ some tells read. at_asked (asked_in c.words) refl some (λ a asked. freely 3 (missing_due c a asked tells read e.end e.work_ends));
   longer = λ m asked tells read. freely 9 (longer_due c (asking (file_in c.words) m) asked tells read e.end e.work_ends);
-  replayed = λ bytes journal t s sound. freely 0 (replayed_due c bytes t journal s sound e.end e.work_ends);
-  checked = λ bytes conf t k sound. freely 0 (checked_due c bytes t conf k sound e.end e.work_ends);
-  refused = λ bytes fault t is read. freely 4 (refused_due c bytes t (λ conf taken. fault_taken bytes conf fault is taken) read e.end e.work_ends);
+  replayed = λ bytes t s sound. freely 0 (replayed_due c bytes t s sound e.end e.work_ends);
+  unspelled = λ bytes t s read. freely 11 (unspelled_due c bytes t s read e.end e.work_ends);
+  checked = λ bytes jobs t k sound. freely 0 (checked_due c bytes t jobs k sound e.end e.work_ends);
+  refused = λ bytes fault t is read. freely 4 (refused_due c bytes t fault is read e.end e.work_ends);
   told = λ bytes fault t is four. told_due c bytes t fault is e.end e.work_ends e.speaks (sym e.status_is ∙ four);
-  crowded = λ bytes conf t k read. freely 4 (refused_due c bytes t (λ other taken. crowd_taken bytes conf other k taken) read e.end e.work_ends);
   untold = λ a asked n. at_last a (untold_due c a asked n e.end e.work_ends);
 }
   where

@@ -1,40 +1,18 @@
--- What is said of a configuration.
-use Rattle.std.specs.Prelude.{◌≡◌, ◌⊎◌, ℕ, ⊤, ◌<◌, ◌≤◌, List, [], ◌++◌, codes, All, Ok, IsOkAnd}
+-- What is said of a configuration: what a first load of it says.
+use Rattle.std.specs.Prelude.{◌≡◌, ℕ, List, [], ◌++◌, codes, Ok, Err}
 use Rattle.std.specs.Fmt.{decimal}
-use Rattle.scrape_config.specs.Reading.{reading, HasPatterns, IsRefusal}
-use Rattle.scrape_config.specs.declared.conf.Conf.{Conf}
-use Rattle.scrape_config.specs.declared.fault.ConfError.{ConfError}
-use Rattle.scrape_config.specs.declared.fault.ConfError.TheVariants.{Bad, NoMemory}
-use Rattle.scrape_core.specs.Built.{listed_targets}
+use Rattle.jobs_in_force.specs.Jobs.{loaded}
+use Rattle.jobs_in_force.specs.declared.jobs.Filed.{Filed}
 use Rattle.config_fields.specs.declared.fault.ConfFault.{ConfFault}
 use Rattle.config_fields.specs.declared.fault.ConfFault.TheVariants.{NotJson, Shape, Unknown, Missing, Value, TwiceNamed, TooMany, Rule}
 
--- all jobs together list at most 100,000 targets
-abbrev pub target_limit : ℕ
-target_limit = 100000
-
--- the bytes are read as this configuration, which has no fault
-pub record IsTaken (bytes : List ℕ) (conf : Conf) : Type 0 where
-  pub read : reading bytes ≡ Ok conf
-  pub patterns : All HasPatterns conf.jobs
-  pub few : listed_targets conf.jobs ≤ target_limit
-
--- the fault of too many listed targets, which has an empty place
-abbrev pub crowd : ConfFault
-crowd = TooMany [] target_limit
-
--- the fault is that of too many listed targets, in a configuration whose reading has no fault and whose patterns are read
-abbrev pub IsCrowd : List ℕ → ConfFault → Type 0
-IsCrowd bytes fault = (fault ≡ crowd) × IsOkAnd (reading bytes) (λ conf. All HasPatterns conf.jobs × (target_limit < listed_targets conf.jobs))
+-- the bytes are a configuration without a fault, of these jobs
+abbrev pub IsConf : List ℕ → List Filed → Type 0
+IsConf bytes jobs = loaded [] bytes ≡ Ok jobs
 
 -- the bytes are refused for this fault
 abbrev pub IsFault : List ℕ → ConfFault → Type 0
-IsFault bytes fault = IsRefusal (reading bytes) fault ⊎ IsCrowd bytes fault
-
--- an error of a configuration: its fault, or want of memory
-abbrev pub IsConfError : List ℕ → ConfError → Type 0
-IsConfError bytes (Bad fault) = IsFault bytes fault
-IsConfError bytes NoMemory = ⊤
+IsFault bytes fault = loaded [] bytes ≡ Err fault
 
 -- the line for a configuration without a fault: how many jobs it has
 abbrev pub ok_line : ℕ → List ℕ

@@ -2,11 +2,11 @@
 use Rattle.std.specs.Prelude.{◌≡◌, ℕ, ◌≤◌, ⊤, List, ◌++◌, codes, length, Option, Some, None, IsSome, IsSomeAnd, Result, Ok, Err}
 use Rattle.outside.specs.Objects.{ShelfSeen, SinkSeen, Use, IsUntouched, Rose, HasFile, LacksFile, HasLongerFile, Missed, MetLonger, FailedToRead, Adds, AddsFront, Took, Cut}
 use Rattle.journal_text.specs.declared.events.Event.{Event}
-use Rattle.scrape_config.specs.declared.conf.Conf.{Conf}
-use Rattle.scrape_core.specs.Machine.{book_of}
+use Rattle.journal_text.specs.Faults.{IsJournalOf, SpellsNone}
+use Rattle.jobs_in_force.specs.declared.jobs.Filed.{Filed}
+use Rattle.scrape_machine.specs.Machine.{book_of}
 use Rattle.scrape_cli.specs.Texts.{book_text}
-use Rattle.scrape_cli.specs.Scripts.{SpellsBuilt, SpellsNoBuilt}
-use Rattle.scrape_cli.specs.Checks.{IsTaken, IsFault, ok_line, fault_message}
+use Rattle.scrape_cli.specs.Checks.{IsConf, IsFault, ok_line, fault_message}
 use Rattle.scrape_cli.specs.Words.{Asking, asking, asked_in, file_in, limit_of}
 use Rattle.scrape_cli.specs.declared.words.Command.{Command}
 use Rattle.scrape_cli.specs.declared.words.Command.TheVariants.{Replay, Check}
@@ -44,8 +44,8 @@ pub record Reads (command : Command) (bytes : List ℕ) (w : Work) : Type 0 wher
 
 -- what a command prints for the bytes of its file: the book of the journal that they spell, or the number of jobs
 abbrev pub IsOutput : Command → List ℕ → List ℕ → Type 0
-IsOutput Replay bytes text = (journal : List Event) × SpellsBuilt bytes journal × (text ≡ book_text (book_of journal))
-IsOutput Check bytes text = (conf : Conf) × IsTaken bytes conf × (text ≡ ok_line (length conf.jobs))
+IsOutput Replay bytes text = (journal : List Event) × IsJournalOf bytes journal × (text ≡ book_text (book_of journal))
+IsOutput Check bytes text = (jobs : List Filed) × IsConf bytes jobs × (text ≡ ok_line (length jobs))
 
 -- this is the text that the words ask for
 pub record IsAskedFor (text : List ℕ) (w : Work) : Type 0 where
@@ -97,7 +97,7 @@ IsCause ReadFault w = IsSome w.asked
 IsCause WriteFault w = PrintsFront w
 IsCause NoMemory w = IsSome w.asked
 IsCause TooLong w = IsSomeAnd w.asked (λ a. HasLongerFile w.shelf.before a.file (limit_of a.command))
-IsCause NotYet w = (bytes : List ℕ) × Reads Replay bytes w × SpellsNoBuilt bytes
+IsCause NotYet w = (bytes : List ℕ) × Reads Replay bytes w × SpellsNone bytes
 
 -- what it leaves of the shelf: one count risen, of three refusals, and nothing else changed
 abbrev pub LeavesShelf : Refusal → Use ShelfSeen → Type 0

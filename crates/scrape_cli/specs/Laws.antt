@@ -2,13 +2,12 @@
 use Rattle.std.specs.Prelude.{◌≡◌, ◌≢◌, ◌⊎◌, ℕ, ◌<◌, ◌≤◌, List, length, Some, None, IsSome, IsSomeAnd, Ok, Err}
 use Rattle.outside.specs.Objects.{IsUntouched, Rose, file_of, LacksFile, HasLongerFile, Missed, MetLonger, FailedToRead}
 use Rattle.journal_text.specs.declared.events.Event.{Event}
-use Rattle.scrape_config.specs.Reading.{reading, IsRefusedPattern}
-use Rattle.scrape_config.specs.declared.conf.Conf.{Conf}
+use Rattle.journal_text.specs.Events.{IsJournal, journal_text}
+use Rattle.journal_text.specs.Faults.{SpellsNone}
+use Rattle.jobs_in_force.specs.declared.jobs.Filed.{Filed}
 use Rattle.config_fields.specs.declared.fault.ConfFault.{ConfFault}
-use Rattle.scrape_core.specs.Built.{listed_targets}
-use Rattle.scrape_cli.specs.Checks.{target_limit, IsFault, fault_message}
+use Rattle.scrape_cli.specs.Checks.{IsConf, IsFault, fault_message}
 use Rattle.scrape_cli.specs.Ends.{Call, work_of, Ended, Reads, Prints, PrintsFront, IsSaid, message_of, status_of}
-use Rattle.scrape_cli.specs.Scripts.{SpellsTaken, SpellsNoBuilt}
 use Rattle.scrape_cli.specs.Words.{Asking, asking, asked_in, file_in, limit_of}
 use Rattle.scrape_cli.specs.declared.words.Command.{Command}
 use Rattle.scrape_cli.specs.declared.words.Command.TheVariants.{Replay, Check}
@@ -24,7 +23,7 @@ pub record Causes (c : Call) : Type 0 where
   pub read_fault : Ended 6 c → FailedToRead c.shelf
   pub front : Ended 7 c → PrintsFront (work_of c)
   pub too_long : Ended 9 c → MetLonger c.shelf × IsSomeAnd (asked_in c.words) (λ a. HasLongerFile c.shelf.before a.file (limit_of a.command))
-  pub not_yet : Ended 11 c → (bytes : List ℕ) × Reads Replay bytes (work_of c) × SpellsNoBuilt bytes
+  pub not_yet : Ended 11 c → (bytes : List ℕ) × Reads Replay bytes (work_of c) × SpellsNone bytes
   pub said : (r : Refusal) → status_of r ≢ 4 → Ended (status_of r) c → IsSaid (message_of (file_in c.words) r) c.err
 
 -- a call ends with one of these statuses
@@ -61,16 +60,9 @@ pub record IsUncounted (c : Call) : Type 0 where
 abbrev pub IsFreely : ℕ → ℕ → Type 0
 IsFreely due status = (status ≡ due) ⊎ (status ≡ 8)
 
--- a configuration without a fault, that lists few targets and has no pattern that may be refused
-pub record IsClean (bytes : List ℕ) (conf : Conf) : Type 0 where
-  pub read : reading bytes ≡ Ok conf
-  pub few : listed_targets conf.jobs ≤ target_limit
-  pub patterns : (place : List ℕ) → ¬ IsRefusedPattern conf place
-
--- a configuration without a fault that the text alone shows, which lists too many targets
-pub record IsCrowded (bytes : List ℕ) (conf : Conf) : Type 0 where
-  pub read : reading bytes ≡ Ok conf
-  pub many : target_limit < listed_targets conf.jobs
+-- the bytes spell a journal
+abbrev pub Spells : List ℕ → Type 0
+Spells bytes = (journal : List Event) × IsJournal journal × (journal_text journal ≡ bytes)
 
 -- the status for a file whose content a command refuses
 abbrev pub refused_at : Command → ℕ
@@ -83,11 +75,11 @@ pub record Complete (status : ℕ) (c : Call) : Type 0 where
   pub words : asked_in c.words ≡ None → status ≡ 2
   pub missing : IsSome (asked_in c.words) → TellsNone c → IsRead c → IsFreely 3 status
   pub longer : (m : Command) → asked_in c.words ≡ Some (asking (file_in c.words) m) → TellsLonger m c → IsRead c → IsFreely 9 status
-  pub replayed : (bytes : List ℕ) (journal : List Event) → IsTold Replay bytes c → SpellsTaken bytes journal → IsSound c → IsFreely 0 status
-  pub checked : (bytes : List ℕ) (conf : Conf) → IsTold Check bytes c → IsClean bytes conf → IsSound c → IsFreely 0 status
-  pub refused : (bytes : List ℕ) (fault : ConfFault) → IsTold Check bytes c → reading bytes ≡ Err fault → IsRead c → IsFreely 4 status
-  pub told : (bytes : List ℕ) (fault : ConfFault) → IsTold Check bytes c → reading bytes ≡ Err fault → status ≡ 4 → IsSaid (fault_message fault) c.err
-  pub crowded : (bytes : List ℕ) (conf : Conf) → IsTold Check bytes c → IsCrowded bytes conf → IsRead c → IsFreely 4 status
+  pub replayed : (bytes : List ℕ) → IsTold Replay bytes c → Spells bytes → IsSound c → IsFreely 0 status
+  pub unspelled : (bytes : List ℕ) → IsTold Replay bytes c → SpellsNone bytes → IsRead c → IsFreely 11 status
+  pub checked : (bytes : List ℕ) (jobs : List Filed) → IsTold Check bytes c → IsConf bytes jobs → IsSound c → IsFreely 0 status
+  pub refused : (bytes : List ℕ) (fault : ConfFault) → IsTold Check bytes c → IsFault bytes fault → IsRead c → IsFreely 4 status
+  pub told : (bytes : List ℕ) (fault : ConfFault) → IsTold Check bytes c → IsFault bytes fault → status ≡ 4 → IsSaid (fault_message fault) c.err
   pub untold : (a : Asking) → asked_in c.words ≡ Some a → IsUncounted c → IsFreely 0 status ⊎ (status ≡ refused_at a.command)
 
 -- no count of any object fell

@@ -1,7 +1,6 @@
 pub mod Words
 pub mod Texts
 pub mod Flows
-pub mod Scripts
 pub mod Checks
 pub mod Ends
 pub mod Laws

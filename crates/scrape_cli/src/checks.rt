@@ -1,46 +1,25 @@
 //! Checking a configuration.
-ghost use Rattle.std.specs.Prelude.{◌≡◌, length, IfOk, IfErr, OnOk, IsErrOf};
+ghost use Rattle.std.specs.Prelude.{◌≡◌, [], IfOk, IfErr, OnOk, IsErrOf};
 ghost use Rattle.outside.specs.Objects.{used, Took, Cut, IsUntouched};
+ghost use Rattle.jobs_in_force.specs.Jobs.{IsLoadCause, loaded};
 ghost use Rattle.scrape_cli.specs.Checks as spec;
 
 use crate::printing::PrintError;
 use itoa::Buffer;
-use label_set::{Name, NoMemory};
+use jobs_in_force::jobs::{Filed, InForce};
+use jobs_in_force::loads::load_of;
+use label_set::NoMemory;
 use outside::Sink;
-use scrape_config::{Conf, ConfError, ConfFault, read_conf};
-use scrape_core::listed_targets;
+use scrape_config::ConfError;
 use std::alloc::Global;
 
-/// All jobs together list at most so many targets.
-const TARGET_LIMIT: u64 = 100_000;
-
-/// The fault of too many listed targets.
-fn crowd(alloc: Global) -> ConfFault
-    ensures { result ≡ spec.crowd }
+/// The jobs of a configuration, which is to have no fault: what a first load says.
+pub fn conf_of(alloc: Global, bytes: &[u8]) -> Result<Vec<Filed>, ConfError>
+    ensures taken { IfOk result (λ jobs. spec.IsConf bytes.now jobs.items) }
+    ensures fault { IfErr result (λ e. IsLoadCause (loaded [] bytes.now) e) }
 {
-    ConfFault::TooMany {
-        place: Name {
-            text: String::new(alloc),
-        },
-        limit: TARGET_LIMIT,
-    }
-}
-
-/// Reads a configuration, which is to have no fault.
-pub fn conf_of(alloc: Global, bytes: &[u8]) -> Result<Conf, ConfError>
-    ensures taken { IfOk result (λ conf. spec.IsTaken bytes.now conf) }
-    ensures fault { IfErr result (λ e. spec.IsConfError bytes.now e) }
-{
-    match read_conf(alloc, bytes) {
-        Ok(conf) => {
-            if listed_targets(conf.jobs.as_slice()) > TARGET_LIMIT {
-                Err(ConfError::Bad(crowd(alloc)))
-            } else {
-                Ok(conf)
-            }
-        }
-        Err(error) => Err(error),
-    }
+    let none: Vec<InForce> = Vec::new(alloc);
+    load_of(alloc, &none, bytes)
 }
 
 /// The line for a configuration of so many jobs.
@@ -55,13 +34,13 @@ fn ok_line(alloc: Global, jobs: usize) -> Result<Vec<u8>, NoMemory>
     Ok(line)
 }
 
-/// Prints the line for a configuration.
-pub fn print_ok<O: Sink>(alloc: Global, conf: &Conf, out: &mut O) -> Result<(), PrintError>
-    ensures whole { OnOk result (Took (spec.ok_line (length conf.now.jobs)) (used (O.seen out.old) (O.seen out.new))) }
-    ensures cut { IsErrOf result PrintError.WriteFault → Cut (spec.ok_line (length conf.now.jobs)) (used (O.seen out.old) (O.seen out.new)) }
+/// Prints the line for a configuration of so many jobs.
+pub fn print_ok<O: Sink>(alloc: Global, jobs: usize, out: &mut O) -> Result<(), PrintError>
+    ensures whole { OnOk result (Took (spec.ok_line jobs) (used (O.seen out.old) (O.seen out.new))) }
+    ensures cut { IsErrOf result PrintError.WriteFault → Cut (spec.ok_line jobs) (used (O.seen out.old) (O.seen out.new)) }
     ensures kept { IsErrOf result PrintError.NoMemory → IsUntouched (used (O.seen out.old) (O.seen out.new)) }
 {
-    let line = ok_line(alloc, conf.jobs.as_slice().len())?;
+    let line = ok_line(alloc, jobs)?;
     match out.put(line.as_slice()) {
         Ok(()) => Ok(()),
         Err(_) => Err(PrintError::WriteFault),

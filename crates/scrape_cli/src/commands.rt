@@ -8,8 +8,9 @@ ghost use Rattle.scrape_cli.specs.declared.words.Command.TheVariants.{Replay, Ch
 use crate::checks::{conf_of, print_ok};
 use crate::printing::{PrintError, print_book};
 use crate::refusals::Refusal;
-use crate::replays::{ReplayError, replayed};
+use crate::replays::replayed;
 use crate::words::{Asked, Command, limit_of};
+use journal_text::ScriptError;
 use label_set::Blob;
 use outside::{Shelf, ShelfError, Sink};
 use scrape_config::ConfError;
@@ -53,8 +54,8 @@ fn replay<S: Shelf, O: Sink>(
     };
     let core = match replayed(alloc, bytes.as_slice()) {
         Ok(core) => core,
-        Err(ReplayError::NotYet) => return Err(Refusal::NotYet),
-        Err(ReplayError::NoMemory) => return Err(Refusal::NoMemory),
+        Err(ScriptError::Bad(_)) => return Err(Refusal::NotYet),
+        Err(ScriptError::NoMemory) => return Err(Refusal::NoMemory),
     };
     match print_book(alloc, core.book(), out) {
         Ok(()) => Ok(()),
@@ -77,12 +78,12 @@ fn check<S: Shelf, O: Sink>(
         Ok(bytes) => bytes,
         Err(refusal) => return Err(refusal),
     };
-    let conf = match conf_of(alloc, bytes.as_slice()) {
-        Ok(conf) => conf,
+    let jobs = match conf_of(alloc, bytes.as_slice()) {
+        Ok(jobs) => jobs,
         Err(ConfError::Bad(fault)) => return Err(Refusal::Config(fault)),
         Err(ConfError::NoMemory) => return Err(Refusal::NoMemory),
     };
-    match print_ok(alloc, &conf, out) {
+    match print_ok(alloc, jobs.len(), out) {
         Ok(()) => Ok(()),
         Err(PrintError::WriteFault) => Err(Refusal::WriteFault),
         Err(PrintError::NoMemory) => Err(Refusal::NoMemory),

@@ -8,7 +8,7 @@ use crate::texts::push_line;
 use label_set::NoMemory;
 use outside::{Sink, SinkFault};
 use report_samples::Entry;
-use scrape_loop::Book;
+use appender_book::Book;
 use std::alloc::Global;
 
 /// A page is put when it has at least so many bytes.

@@ -91,7 +91,7 @@ fn status_at(end: &Result<(), Refusal>) -> u8
 /// | 6, 7 | reading or writing failed, and was counted |
 /// | 8 | memory ran out |
 /// | 9 | the file is longer than its command takes, and the shelf counted that |
-/// | 11 | `replay`: only where the script isn't spelled from events of the built kinds, or a pattern of its configuration may be refused |
+/// | 11 | `replay`: the file has the text of no journal |
 ///
 /// `ended` is that table; the other clauses are what a reader looks for first, and follow from it.
 pub fn tool<S: Shelf, O: Sink, E: Sink>(

@@ -1,4 +1,1 @@
-pub mod StepLemmas
-pub mod FinishLemmas
-pub mod BuiltLemmas
-pub mod TargetLemmas
+pub mod StateLemmas

@@ -1,13 +1,28 @@
 -- What a core keeps beside its journal.
-use Rattle.std.specs.Prelude.{◌≡◌, ◌≤◌, List, length}
+use Rattle.std.specs.Prelude.{◌≡◌, ◌<◌, ◌^◌, ◌++◌, List, length, filter}
 use Rattle.journal_text.specs.declared.events.Event.{Event}
 use Rattle.report_samples.specs.declared.entries.Entry.{Entry}
-use Rattle.scrape_core.specs.declared.life_roll.Life.{Life}
-use Rattle.scrape_core.specs.declared.life_roll.Start.{Start}
-use Rattle.scrape_core.specs.Machine.{world, world_of, book_of}
+use Rattle.scrape_machine.specs.Machine.{World, world, world_of, book_of, gives, step}
+use Rattle.scrape_core.specs.declared.state.State.{State}
+
+-- the world that a state is
+abbrev pub seen : State → World
+seen s = record { jobs = s.jobs.items; lives = s.lives.items; started = s.started.items; halted = s.halted }
+
+-- the same, where no halt came
+abbrev pub live : State → World
+live s = world s.jobs.items s.lives.items s.started.items
+
+-- lives are counted in 32 bits
+abbrev pub HasFew : State → Type 0
+HasFew s = length s.lives.items < 2 ^ 32
 
 -- the state and the book are those of the journal
-pub record IsKept (es : List Event) (book : List Entry) (lives : List Life) (started : List Start) : Type 0 where
-  pub state : world lives started ≡ world_of es
+pub record IsKept (es : List Event) (book : List Entry) (s : State) : Type 0 where
+  pub state : seen s ≡ world_of es
   pub book_is : book ≡ book_of es
-  pub few : length lives ≤ 100000
+  pub few : HasFew s
+
+-- the entries of an event were appended
+abbrev pub Appends : World → Event → List Entry → List Entry → Type 0
+Appends w e before after = after ≡ before ++ gives w e

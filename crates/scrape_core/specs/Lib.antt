@@ -1,5 +1,1 @@
-pub mod Lives
-pub mod Targets
-pub mod Machine
-pub mod Built
 pub mod Kept

@@ -1,19 +1,19 @@
-//! The decision core of a scrape manager: it takes events one by one (a load, a sweep, a finished fetch) and appends samples, stale markers and report samples to a book.
+//! The decision core of a scrape manager: it takes events one by one (a load of a configuration, an update of a file's targets, a tick, a sweep, a finished
+//! fetch, a halt) and appends samples, stale markers and report samples to a book.
 //! It knows no file, clock, socket or thread: moments and bytes are handed in with the events.
-//! Contracts see a core as its journal, the list of the events that it took; `specs/Machine.antt` says what the answers and the book of a journal are.
+//! Contracts see a core as its journal, the list of the events that it took; `specs/Machine.antt` of the crate `scrape_machine` says what the answers and
+//! the book of a journal are.
 #![tactic(auto)]
 
-mod acts;
-pub mod answers;
-mod births;
+mod changes;
 mod events;
-mod kinds;
-pub mod life_roll;
+mod finishes;
 pub mod machine;
+pub mod state;
+mod turns;
 
-pub use answers::{Answer, is_not_yet};
-pub use kinds::listed_targets;
 pub use machine::Core;
+pub use scrape_machine::Answer;
 
 #[cfg(test)]
 mod tests;

@@ -1,15 +1,24 @@
 //! The core: what a scrape manager has taken so far, and one call that takes an event.
-ghost use Rattle.std.specs.Prelude.{◌≡◌, [], length, pos, true, false, IfOk, OnErr};
+ghost use Rattle.std.specs.Prelude.{◌≡◌, ℕ, List, ◌++◌, [], ◌∷◌, length, pos, IfOk, OnOk, OnErr};
+ghost use Rattle.label_set.specs.declared.texts.Pair.{Pair};
+ghost use Rattle.journal_text.specs.declared.events.Event.{Event};
 ghost use Rattle.journal_text.specs.Events.{IsInLimits, MayFollow, now_of};
-ghost use Rattle.scrape_core.specs.Built as built;
-ghost use Rattle.scrape_core.specs.Machine as spec;
+ghost use Rattle.scrape_machine.specs.Machine as spec;
+ghost use Rattle.scrape_laws.specs.Markers.{MarkerLaw, ReportMarkerLaw};
+ghost use Rattle.scrape_laws.specs.Runs.{ClosedRunsLaw};
+ghost use Rattle.scrape_laws.specs.Late.{LateLaw};
+ghost use Rattle.scrape_laws.specs.Undisturbed.{NothingLaw, UndisturbedLaw, IdleLaw, RefusedLaw};
+ghost use Rattle.scrape_laws.specs.Apart.{ApartLaw, ApartRunsLaw, ReloadLaw};
 
-use crate::answers::Answer;
-use crate::events::on_event;
-use crate::life_roll::{Life, Start};
+use crate::events::take;
+use crate::state::State;
 use journal_text::{Event, Journal};
 use label_set::{NoMemory, Steps};
-use scrape_loop::Book;
+use appender_book::Book;
+use scrape_laws::laws::{
+    closed_runs, late, lives_apart, markers, nothing, reloads, report_markers, undisturbed,
+};
+use scrape_machine::Answer;
 use std::alloc::Global;
 use std::marker::Model;
 use std::sync::ledger::Ledger;
@@ -19,22 +28,20 @@ use std::sync::ledger::Ledger;
 pub struct Core {
     journal: Journal,
     book: Book,
-    lives: Vec<Life>,
-    started: Vec<Start>,
+    state: State,
 }
 
 impl Model for Core {
-    ghost use Rattle.std.specs.Prelude.{◌≡◌, ◌≤◌, List, length};
+    ghost use Rattle.std.specs.Prelude.{◌≡◌, List};
     ghost use Rattle.journal_text.specs.declared.events.Event.{Event};
 
     ghost Value = { List Event };
 
-    ghost use Rattle.scrape_core.specs.Machine.{world, world_of, book_of};
     ghost use Rattle.scrape_core.specs.Kept.{IsKept};
 
     ghost view = { λ c. c.journal.events };
 
-    ghost invariant = { λ c. IsKept c.journal.events c.book.entries c.lives.items c.started.items };
+    ghost invariant = { λ c. IsKept c.journal.events c.book.entries c.state };
 }
 
 impl Core {
@@ -45,15 +52,24 @@ impl Core {
         Ok(Core {
             journal: Journal::new(alloc),
             book: Book::new(alloc)?,
-            lives: Vec::new(alloc),
-            started: Vec::new(alloc),
+            state: State {
+                jobs: Vec::new(alloc),
+                lives: Vec::new(alloc),
+                started: Vec::new(alloc),
+                halted: false,
+            },
         })
     }
 
     /// Takes an event: the answer is the defined one after the journal, which then ends with the event, and the book is that of the new journal.
-    /// `NotYet` comes only where the event isn't of a built kind, or a pattern of its configuration may be refused, and then the journal stays.
-    /// After a refusal the event is dropped and the core as before.
+    /// After a refusal for want of memory the event is dropped and the core as before.
     /// The moment is at least `now`, and the event keeps the limits of a journal's events.
+    ///
+    /// What that means for a dashboard is said by the other clauses, which are laws of `scrape_laws`:
+    /// each closed run of a tracked series in a life has exactly one stale marker, after it, and no marker stands elsewhere (`markers`, `closed_runs`);
+    /// the report markers are those of endings (`report_markers`); a finish that doesn't count adds nothing (`late`);
+    /// an event that is nothing to a life, an idle scan and a refused event leave the life as it is (`nothing`, `undisturbed`, `idle`, `refused`);
+    /// lives that meet the same go alike (`apart`, `runs`), so that a reload doesn't tear the lives that it leaves alone (`reload`).
     pub fn step<L: Ledger>(
         &mut self,
         alloc: Global,
@@ -62,19 +78,33 @@ impl Core {
     ) -> Result<Answer, NoMemory>
         requires limits { IsInLimits event }
         requires order { MayFollow (now_of self.old) event }
-        ensures taken { IfOk result (λ a. built.is_not_yet a ≡ false → built.IsTaken self.old event a self.new) }
-        ensures not_yet { IfOk result (λ a. built.is_not_yet a ≡ true → built.IsLeft self.old event a self.new) }
+        ensures answer { IfOk result (λ a. a ≡ spec.answer (spec.world_of self.old) event) }
+        ensures joined { OnOk result (self.new ≡ self.old ++ event ∷ []) }
         ensures err { OnErr result (self.new ≡ self.old) }
+        ensures markers { MarkerLaw self.new }
+        ensures closed_runs { (n : ℕ) (x : List Pair) → ClosedRunsLaw self.new n x }
+        ensures report_markers { ReportMarkerLaw self.new }
+        ensures late { LateLaw (spec.world_of self.new) }
+        ensures nothing { NothingLaw (spec.world_of self.old) event }
+        ensures undisturbed { UndisturbedLaw self.old event }
+        ensures idle { IdleLaw self.old event }
+        ensures refused { RefusedLaw self.old event }
+        ensures apart { ApartLaw self.old event }
+        ensures runs { (other : List Event) → ApartRunsLaw self.new other }
+        ensures reload { ReloadLaw self.old event }
     {
-        on_event(
-            alloc,
-            &mut self.journal,
-            &mut self.book,
-            &mut self.lives,
-            &mut self.started,
-            event,
-            steps,
-        )
+        markers();
+        closed_runs();
+        report_markers();
+        late();
+        nothing();
+        undisturbed();
+        lives_apart();
+        reloads();
+        self.journal.reserve(1)?;
+        let answer = take(alloc, &mut self.state, &mut self.book, &event, steps)?;
+        self.journal.push(event);
+        Ok(answer)
     }
 
     /// The moment of the last event that carries one, 0 before any, in milliseconds.

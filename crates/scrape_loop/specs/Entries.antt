@@ -1,4 +1,4 @@
--- The book, and the entries that a scrape appends ("Staleness" of the Prometheus documentation; "Configuration", scrape_config: honor_timestamps).
+-- The entries that a scrape appends to the book ("Staleness" of the Prometheus documentation; "Configuration", scrape_config: honor_timestamps).
 use Rattle.std.specs.Prelude.{ℕ, ℤ, pos, false, List, ◌++◌, map, length, Some, unwrap_or}
 use Rattle.label_set.specs.declared.texts.Pair.{Pair}
 use Rattle.report_samples.specs.declared.entries.Kind.TheVariants as kind
@@ -10,11 +10,6 @@ use Rattle.sample_rows.specs.declared.scrape.Sample.{Sample}
 use Rattle.sample_rows.specs.declared.scrape.Scrape.{Scrape}
 use Rattle.scrape_loop.specs.Sets.{gone}
 use Rattle.scrape_loop.specs.Tracked.{LifeView, samples_of, tracked_sets, all_sets, is_good, scraped_of, left_of}
-
--- what contracts see of a book: its entries, and for how many more there is room
-pub record BookView : Type 0 where
-  pub entries : List Entry
-  pub spare : ℕ
 
 -- the sample of a row of a scrape that started at m: at its own timestamp, or at m
 abbrev pub sample_entry : ℕ → ℤ → Sample → Entry

@@ -5,7 +5,6 @@
 //! and `specs/Closings.antt` what a life leaves behind when it is closed.
 #![tactic(auto)]
 
-pub mod appender_book;
 pub mod life_state;
 mod rising;
 mod scrape_entries;
@@ -13,5 +12,4 @@ mod scrape_sets;
 mod target_labels;
 mod walk;
 
-pub use appender_book::Book;
 pub use life_state::LifeState;

@@ -8,11 +8,11 @@ ghost use Rattle.scrape_loop.specs.Entries.{entries_of, forced_entries};
 ghost use Rattle.scrape_loop.specs.Sets.{IsRising};
 ghost use Rattle.scrape_loop.specs.Tracked as spec;
 
-use crate::appender_book::Book;
 use crate::rising::{RisingSets, copy_of};
 use crate::scrape_entries::{counts_of, push_samples, push_stale};
 use crate::scrape_sets::{ScrapeSets, fault_in, into_samples, sets_of};
 use crate::target_labels::TargetLabels;
+use appender_book::Book;
 use label_set::{LabelSet, NoMemory, SetList, Steps};
 use outside::Reply;
 use relabel::Rules;

@@ -3,9 +3,9 @@ use Rattle.std.proofs.Common.{◌≡◌, ℕ, suc, ◌+◌, ◌<◌, Bool, true,
 use Rattle.std.specs.List.{filter}
 use Rattle.std.proofs.lemmas.List.Elements.{filter_more}
 use Rattle.target_set.specs.declared.targets.Target.{Target}
-use Rattle.scrape_machine.specs.declared.jobs.InForce.{InForce}
+use Rattle.jobs_in_force.specs.declared.jobs.InForce.{InForce}
 use Rattle.scrape_machine.specs.declared.lives.Life.{Life}
-use Rattle.scrape_machine.specs.Settings.{settings_of}
+use Rattle.jobs_in_force.specs.Settings.{settings_of}
 use Rattle.scrape_machine.specs.Lives.{born}
 use Rattle.scrape_machine.specs.Machine.{born_all}
 

@@ -10,7 +10,7 @@ use Rattle.scrape_loop.specs.Tracked.{fault_of}
 use Rattle.life_roll.specs.declared.schedule.InFlight.{InFlight}
 use Rattle.scrape_machine.specs.declared.answers.Answer.{Answer}
 use Rattle.scrape_machine.specs.declared.answers.Answer.TheVariants.{Counted}
-use Rattle.scrape_machine.specs.declared.jobs.InForce.{InForce}
+use Rattle.jobs_in_force.specs.declared.jobs.InForce.{InForce}
 use Rattle.scrape_machine.specs.declared.lives.Life.{Life}
 use Rattle.scrape_machine.specs.declared.lives.Start.{Start}
 use Rattle.scrape_machine.specs.declared.lives.Found.{Found}

@@ -1,12 +1,9 @@
-pub mod TargetLemmas
 pub mod StepLemmas
 pub mod OneLemmas
 pub mod ReloadLemmas
 pub mod EventLemmas
 pub mod ScanLemmas
 pub mod FinishLemmas
-pub mod IndexLemmas
 pub mod HeldLemmas
 pub mod BirthLemmas
-pub mod FewLemmas
 pub mod WholeLemmas

@@ -18,13 +18,13 @@ use Rattle.life_roll.specs.declared.seats.Seats.{Seats}
 use Rattle.target_set.specs.declared.targets.Target.{Target}
 use Rattle.scrape_machine.specs.declared.acts.Fate.{Fate}
 use Rattle.scrape_machine.specs.declared.acts.Fate.TheVariants.{Stays, Changes, Closes}
-use Rattle.scrape_machine.specs.declared.jobs.InForce.{InForce}
+use Rattle.jobs_in_force.specs.declared.jobs.InForce.{InForce}
 use Rattle.scrape_machine.specs.declared.lives.Life.{Life}
 use Rattle.scrape_machine.specs.declared.lives.Local.{Local}
 use Rattle.scrape_machine.specs.declared.lives.Local.TheVariants.{Nothing, Change, Close}
 use Rattle.scrape_machine.specs.declared.lives.Verdict.{Verdict}
 use Rattle.scrape_machine.specs.declared.lives.Verdict.TheVariants as verdict
-use Rattle.scrape_machine.specs.Jobs.{job_named, is_named, has_target}
+use Rattle.jobs_in_force.specs.Jobs.{job_named, is_named, has_target}
 use Rattle.scrape_machine.specs.Lives.{is_open, life_after}
 use Rattle.scrape_machine.specs.Machine as spec
 use Rattle.scrape_machine.specs.Machine.{births, born_all, unheld, holds, job_name, reload_local, job_local, verdict_local}

@@ -7,7 +7,7 @@ use Rattle.journal_text.specs.Lines.{number}
 use Rattle.std.proofs.lemmas.List.{take_more, length-take}
 use Rattle.std.proofs.lemmas.List.Filters.{length-filter_more}
 use Rattle.journal_text.specs.declared.events.Event.{Event}
-use Rattle.scrape_machine.specs.declared.jobs.InForce.{InForce}
+use Rattle.jobs_in_force.specs.declared.jobs.InForce.{InForce}
 use Rattle.scrape_machine.specs.declared.lives.Life.{Life}
 use Rattle.scrape_machine.specs.declared.lives.Start.{Start}
 use Rattle.scrape_machine.specs.Lives.{scanned_life, life_after}

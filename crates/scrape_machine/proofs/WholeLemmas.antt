@@ -8,7 +8,7 @@ use Rattle.journal_text.specs.Lines.{number}
 use Rattle.life_roll.specs.declared.seats.Seats.{Seats}
 use Rattle.scrape_machine.specs.declared.acts.Fate.{Fate}
 use Rattle.scrape_machine.specs.declared.acts.Fate.TheVariants.{Stays, Changes, Closes}
-use Rattle.scrape_machine.specs.declared.jobs.InForce.{InForce}
+use Rattle.jobs_in_force.specs.declared.jobs.InForce.{InForce}
 use Rattle.scrape_machine.specs.declared.lives.Life.{Life}
 use Rattle.scrape_machine.specs.declared.lives.Start.{Start}
 use Rattle.scrape_machine.specs.declared.lives.Local.{Local}

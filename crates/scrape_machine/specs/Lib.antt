@@ -1,6 +1,3 @@
-pub mod TargetWords
-pub mod Settings
-pub mod Jobs
 pub mod Lives
 pub mod Machine
 pub mod Plans

@@ -7,6 +7,7 @@ use Rattle.journal_text.specs.Lines.{number}
 use Rattle.outside.specs.declared.replies.Reply.{Reply}
 use Rattle.scrape_config.specs.declared.conf.Job.{Job}
 use Rattle.sample_rows.specs.Outcomes.{outcome, forced}
+use Rattle.sample_rows.specs.declared.scrape.RowRules.{RowRules}
 use Rattle.sample_rows.specs.declared.scrape.Scrape.{Scrape}
 use Rattle.report_samples.specs.declared.closing.Closing.{Closing}
 use Rattle.report_samples.specs.declared.entries.Entry.{Entry}
@@ -17,7 +18,6 @@ use Rattle.scrape_loop.specs.Entries.{entries_of}
 use Rattle.target_set.specs.declared.targets.Target.{Target}
 use Rattle.life_roll.specs.Schedules as schedule
 use Rattle.life_roll.specs.declared.schedule.InFlight.{InFlight}
-use Rattle.scrape_machine.specs.Settings.{settings_of, rules_of}
 use Rattle.scrape_machine.specs.declared.lives.Life.{Life}
 use Rattle.scrape_machine.specs.declared.lives.Local.{Local}
 use Rattle.scrape_machine.specs.declared.lives.Local.TheVariants.{Nothing, Scan, Answered, Change, Close}
@@ -55,6 +55,16 @@ ends m l = closed_ends m l l.schedule.closed
 -- what is kept of a life that was closed at c until its ending
 abbrev pub closing_at : ℤ → Life → Closing
 closing_at c l = closing_of l.state (pos l.schedule.planned) c (pos l.schedule.interval)
+
+-- the settings that the rows of a body are judged by
+abbrev pub rules_of : Job → RowRules
+rules_of s =
+    record {
+      honor_labels = s.conf.honor_labels;
+      honor_timestamps = s.conf.honor_timestamps;
+      timeout = s.conf.scrape_timeout;
+      limits = s.conf.limits;
+    }
 
 -- the outcome of the life's scrape that took so long and got this reply
 unfoldable pub outcome_for : Life → ℤ → Reply → Scrape

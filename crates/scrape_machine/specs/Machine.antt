@@ -16,8 +16,8 @@ use Rattle.report_samples.specs.declared.entries.Entry.{Entry}
 use Rattle.scrape_loop.specs.Tracked.{fault_of}
 use Rattle.target_set.specs.declared.targets.Target.{Target}
 use Rattle.life_roll.specs.declared.schedule.InFlight.{InFlight}
-use Rattle.scrape_machine.specs.declared.jobs.Filed.{Filed}
-use Rattle.scrape_machine.specs.declared.jobs.InForce.{InForce}
+use Rattle.jobs_in_force.specs.declared.jobs.Filed.{Filed}
+use Rattle.jobs_in_force.specs.declared.jobs.InForce.{InForce}
 use Rattle.scrape_machine.specs.declared.lives.Life.{Life}
 use Rattle.scrape_machine.specs.declared.lives.Start.{Start}
 use Rattle.scrape_machine.specs.declared.lives.Found.{Found}
@@ -28,8 +28,8 @@ use Rattle.scrape_machine.specs.declared.lives.Verdict.{Verdict}
 use Rattle.scrape_machine.specs.declared.lives.Verdict.TheVariants.{Apart, Same, Other}
 use Rattle.scrape_machine.specs.declared.answers.Answer.{Answer}
 use Rattle.scrape_machine.specs.declared.answers.Answer.TheVariants.{Loaded, Updated, Refused, NoJob, NoFile, Started, Forced, NotDue, Busy, NoLife, Swept, Counted, Late, NoTicket, Halted}
-use Rattle.scrape_machine.specs.Jobs.{job_named, is_crowded, has_target, in_force, loaded, updated, jobs_updated, Unlisted, UnknownJob, UnknownFile, Faulty}
-use Rattle.scrape_machine.specs.Settings.{settings_of}
+use Rattle.jobs_in_force.specs.Jobs.{job_named, is_crowded, has_target, in_force, loaded, updated, jobs_updated, Unlisted, UnknownJob, UnknownFile, Faulty}
+use Rattle.jobs_in_force.specs.Settings.{settings_of}
 use Rattle.scrape_machine.specs.Lives.{is_open, born, starts, forces, ends, life_after, life_gives, scan_entries, outcome_for}
 
 -- what the past comes to: the configuration in force, the lives by number, the started scrapes by ticket, and whether a halt came

@@ -3,7 +3,6 @@ ghost use Rattle.std.specs.Prelude.{◌≡◌, ◌≤◌, ◌++◌, length, slic
 ghost use Rattle.journal_text.specs.Lines.{IsMoment};
 ghost use Rattle.scrape_machine.specs.Lives as lives_of;
 ghost use Rattle.scrape_machine.specs.Machine as spec;
-ghost use Rattle.scrape_machine.specs.Settings as settings;
 ghost use Rattle.scrape_loop.specs.Entries.{entries_of};
 ghost use Rattle.scrape_loop.specs.Tracked.{fault_of};
 
@@ -13,7 +12,7 @@ use life_roll::InFlight;
 use outside::Reply;
 use sample_rows::{RowRules, ScrapeFault};
 use scrape_config::Job;
-use scrape_loop::Book;
+use appender_book::Book;
 use std::alloc::Global;
 use std::sync::ledger::Ledger;
 
@@ -79,7 +78,7 @@ pub fn finish(started: &mut [Start], ticket: u64)
 
 /// The settings that rows are judged by.
 fn rules_of(job: &Job) -> RowRules
-    ensures { result ≡ settings.rules_of job.now }
+    ensures { result ≡ lives_of.rules_of job.now }
 {
     RowRules {
         honor_labels: job.conf.honor_labels,

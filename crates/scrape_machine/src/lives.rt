@@ -2,7 +2,7 @@
 ghost use Rattle.std.specs.Prelude.{◌≡◌, IfOk};
 ghost use Rattle.scrape_config.specs.declared.conf.Job.{Job};
 
-use crate::jobs::Settings;
+use jobs_in_force::jobs::Settings;
 use label_set::LabelSet;
 use life_roll::{Moment, Schedule};
 use outside::Reply;

@@ -12,11 +12,14 @@
 mod bodies;
 mod checked;
 mod conflicts;
+mod endings;
 mod fields;
 mod limits;
 mod relabelling;
+mod reloads;
 mod scripts;
 mod targets;
+mod updates;
 mod words;
 
 use super::{ROOM, Ran, run_over};
@@ -28,9 +31,12 @@ use std::str;
 use std::test::Fail;
 
 /// All cases, by subject.
-const TEXTS: [&str; 9] = [
+const TEXTS: [&str; 12] = [
     words::CASES,
     scripts::CASES,
+    reloads::CASES,
+    updates::CASES,
+    endings::CASES,
     bodies::CASES,
     targets::CASES,
     conflicts::CASES,

@@ -1,4 +1,4 @@
-//! Scripts: what a scrape appends, series that vanish, and scripts that are not built.
+//! Scripts: what a scrape appends, series that vanish, and scripts that spell no journal.
 
 pub const CASES: &str = r#"
 == journal_without_events
@@ -253,14 +253,14 @@ x 1
 0 0 report scrape_series_added{instance="a:1",job="j"} 1
 -- status 0
 
-== script_of_no_bytes_not_built
+== script_of_no_bytes_spells_no_journal
 $ replay s
 -- file s
 -- err
 scrape: not yet
 -- status 11
 
-== script_without_a_head_not_built
+== script_without_a_head_spells_no_journal
 $ replay s
 -- file s
 x 1
@@ -268,7 +268,7 @@ x 1
 scrape: not yet
 -- status 11
 
-== script_cut_in_its_head_not_built
+== script_cut_in_its_head_spells_no_journal
 $ replay s
 -- file s
 scrape-journal 1
@@ -277,7 +277,7 @@ scrape-journal 1
 scrape: not yet
 -- status 11
 
-== script_cut_in_a_configuration_not_built
+== script_cut_in_a_configuration_spells_no_journal
 $ replay s
 -- file s
 scrape-journal 1
@@ -286,7 +286,7 @@ load 0 76
 scrape: not yet
 -- status 11
 
-== script_cut_in_a_body_not_built
+== script_cut_in_a_body_spells_no_journal
 $ replay s
 -- file s
 scrape-journal 1
@@ -298,7 +298,7 @@ sweep 0
 scrape: not yet
 -- status 11
 
-== script_cut_before_its_last_line_feed_not_built
+== script_cut_before_its_last_line_feed_spells_no_journal
 $ replay s
 -- file s
 scrape-journal 1
@@ -312,7 +312,7 @@ y 2
 scrape: not yet
 -- status 11
 
-== length_with_a_leading_zero_not_built
+== length_with_a_leading_zero_spells_no_journal
 $ replay s
 -- file s
 scrape-journal 1
@@ -323,92 +323,6 @@ body 15 0 200 8
 x 1
 y 2
 
--- err
-scrape: not yet
--- status 11
-
-== second_load_not_built
-$ replay s
--- file s
-scrape-journal 1
-load 0 76
-{"scrape_configs":[{"job_name":"j","static_configs":[{"targets":["a:1"]}]}]}
-sweep 0
-body 15 0 200 8
-x 1
-y 2
-
-load 60000 76
-{"scrape_configs":[{"job_name":"j","static_configs":[{"targets":["a:1"]}]}]}
--- err
-scrape: not yet
--- status 11
-
-== tick_not_built
-$ replay s
--- file s
-scrape-journal 1
-load 0 76
-{"scrape_configs":[{"job_name":"j","static_configs":[{"targets":["a:1"]}]}]}
-sweep 0
-body 15 0 200 8
-x 1
-y 2
-
-tick 60000 0
--- err
-scrape: not yet
--- status 11
-
-== update_of_targets_not_built
-$ replay s
--- file s
-scrape-journal 1
-load 0 76
-{"scrape_configs":[{"job_name":"j","static_configs":[{"targets":["a:1"]}]}]}
-sweep 0
-body 15 0 200 8
-x 1
-y 2
-
-targets 60000 1 1 2
-jf[]
--- err
-scrape: not yet
--- status 11
-
-== halt_not_built
-$ replay s
--- file s
-scrape-journal 1
-load 0 76
-{"scrape_configs":[{"job_name":"j","static_configs":[{"targets":["a:1"]}]}]}
-sweep 0
-body 15 0 200 8
-x 1
-y 2
-
-halt 60000
--- err
-scrape: not yet
--- status 11
-
-== load_with_a_fault_not_built
-$ replay s
--- file s
-scrape-journal 1
-load 0 48
-{"scrape_configs":[{"job_name":"j","colour":1}]}
--- err
-scrape: not yet
--- status 11
-
-== load_with_a_pattern_that_is_none_not_built
-$ replay s
--- file s
-scrape-journal 1
-load 0 90
-{"scrape_configs":[{"job_name":"j","relabel_configs":[{"regex":"(","target_label":"t"}]}]}
 -- err
 scrape: not yet
 -- status 11

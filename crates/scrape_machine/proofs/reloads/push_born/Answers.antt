@@ -3,7 +3,7 @@ use Rattle.journal_text.specs.Lines.{number}
 use Rattle.target_set.specs.declared.targets.Target.{Target}
 use Rattle.scrape_machine.specs.declared.lives.Life.{Life}
 use Rattle.scrape_machine.specs.Plans.{is_seated}
-use Rattle.scrape_machine.specs.Settings.{settings_of}
+use Rattle.jobs_in_force.specs.Settings.{settings_of}
 use Rattle.scrape_machine.specs.Lives.{born}
 use Rattle.scrape_machine.proofs.BirthLemmas.{born_one, born_none}
 use Rattle.scrape_machine.proofs.reloads.push_born.Goals.{then-not-branch+in_ok-life+in_ok-reserve, else-not-branch}

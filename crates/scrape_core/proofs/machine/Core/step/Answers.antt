@@ -1,16 +1,18 @@
-use Rattle.std.proofs.Common.{◌≡◌, List, true, false, subst}
-use Rattle.std.specs.Prelude.{IfOk}
+use Rattle.std.proofs.Common.{◌≡◌, ◌++◌, ◌∷◌, [], ◌∙◌, List, sym, ap, ap₂}
 use Rattle.journal_text.specs.declared.events.Event.{Event}
-use Rattle.scrape_core.specs.Built.{is_not_yet, IsTaken, IsLeft}
-use Rattle.scrape_core.proofs.BuiltLemmas.{if_taken, if_left}
+use Rattle.report_samples.specs.declared.entries.Entry.{Entry}
+use Rattle.scrape_machine.specs.Machine.{step, gives, world_of, book_of}
+use Rattle.scrape_machine.proofs.StepLemmas.{world_push, book_of_push}
 use Rattle.scrape_core.proofs.machine.Core.step.Goals as goal
 
-pub returns-clause-taken : goal.returns-clause-taken
-returns-clause-taken g c =
-    let P : List Event → Type 0 = λ z. IfOk c.on_event.result (λ a. is_not_yet a ≡ false → IsTaken z c.args.event a c.on_event.new.journal.events) in
-    subst P c.self.view_is (if_taken c.on_event.result _ c.args.event _ c.on_event.ensures.step)
-
-pub returns-clause-not_yet : goal.returns-clause-not_yet
-returns-clause-not_yet g c =
-    let P : List Event → Type 0 = λ z. IfOk c.on_event.result (λ a. is_not_yet a ≡ true → IsLeft z c.args.event a c.on_event.new.journal.events) in
-    subst P c.self.view_is (if_left c.on_event.result _ c.args.event _ c.on_event.ensures.step)
+pub invariant_of-self-2 : goal.invariant_of-self-2
+invariant_of-self-2 g c =
+    let es = c.self.inside.journal.events in
+    let e = c.args.event in
+    let joined : c.push.new.self.events ≡ es ++ e ∷ [] = c.push.ensures.joined ∙ ap (λ (z : List Event). z ++ e ∷ []) c.in_ok-reserve.ensures.same in
+    record {
+      state = c.in_ok-answer.ensures.state ∙ ap (λ w. step w e) c.self.invariant.state ∙ sym (world_push es e) ∙ ap world_of (sym joined);
+      book_is = c.in_ok-answer.ensures.book ∙ ap₂ (λ (b : List Entry) w. b ++ gives w e) c.self.invariant.book_is c.self.invariant.state
+      ∙ sym (book_of_push es e) ∙ ap book_of (sym joined);
+      few = c.in_ok-answer.ensures.few;
+    }

@@ -1,0 +1,5 @@
+pub mod EndLemmas
+pub mod WalkLemmas
+pub mod VerdictLemmas
+pub mod IndexLemmas
+pub mod LawLemmas

@@ -1,0 +1,4 @@
+pub mod Books
+pub mod Verdicts
+pub mod Index
+pub mod Laws

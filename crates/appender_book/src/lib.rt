@@ -1,0 +1,15 @@
+//! The book: entries that are only ever appended, each with the verdict of a store, which keeps the samples of a series whose moments rise.
+//! The verdict of an entry is worked out when it is appended, by the last kept entry of its series, and kept beside it.
+//! Contracts see a book as the list of its entries and the spare room; `specs/Verdicts.antt` says what the verdicts are,
+//! and `specs/Index.antt` how the last kept entry of a series is found.
+#![tactic(auto)]
+
+pub mod book;
+mod index;
+pub mod verdicts;
+
+pub use book::Book;
+pub use verdicts::{Verdict, laws_of_verdicts};
+
+#[cfg(test)]
+mod tests;

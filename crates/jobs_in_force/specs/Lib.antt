@@ -1,0 +1,3 @@
+pub mod TargetWords
+pub mod Settings
+pub mod Jobs

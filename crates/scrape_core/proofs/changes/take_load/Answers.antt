@@ -1,0 +1,42 @@
+use Rattle.std.proofs.Common.{◌≡◌, ◌∙◌, List, map, sym, ap, ap₂, subst}
+use Rattle.std.specs.Prelude.{Ok, Err}
+use Rattle.jobs_in_force.specs.declared.jobs.InForce.{InForce}
+use Rattle.jobs_in_force.specs.Jobs.{loaded, in_force, IsLoadCause}
+use Rattle.jobs_in_force.proofs.FewLemmas.{loaded_few}
+use Rattle.scrape_machine.specs.declared.answers.Answer.TheVariants.{Loaded, Refused}
+use Rattle.scrape_machine.specs.Machine.{after_load, closed_by, begun_by, reloaded}
+use Rattle.scrape_machine.proofs.EventLemmas.{load_taken, load_refused, load_answer_taken, load_answer_refused}
+use Rattle.scrape_core.specs.Kept.{live}
+use Rattle.scrape_core.proofs.changes.take_load.Goals as goal
+
+pub in_force_all-requires : goal.in_force_all-requires
+in_force_all-requires g c = loaded_few _ _ c.in-Ok.filed.items c.in-Ok.ensures.taken
+
+pub returns-in_ok-synced-in-Ok-clause-answer : goal.returns-in_ok-synced-in-Ok-clause-answer
+returns-in_ok-synced-in-Ok-clause-answer g c =
+    let s = c.args.state.now in
+    let h = ap₂ loaded (sym c.deref.ensures.value) (sym c.as_slice.ensures) ∙ c.in-Ok.ensures.taken in
+    ap₂ Loaded (c.in_ok-synced-in-Ok.ensures.closed ∙ ap (λ js. closed_by c.args.moment js (live s)) c.in_ok-jobs-in-Ok.ensures)
+    (c.in_ok-synced-in-Ok.ensures.begun ∙ ap (λ js. begun_by c.args.moment js (live s)) c.in_ok-jobs-in-Ok.ensures)
+    ∙ sym (load_answer_taken s.jobs.items s.lives.items s.started.items c.args.moment c.args.text.now c.in-Ok.filed.items h)
+
+pub returns-in_ok-synced-in-Ok-clause-state : goal.returns-in_ok-synced-in-Ok-clause-state
+returns-in_ok-synced-in-Ok-clause-state g c =
+    let s = c.args.state.now in
+    let h = ap₂ loaded (sym c.deref.ensures.value) (sym c.as_slice.ensures) ∙ c.in-Ok.ensures.taken in
+    c.in_ok-synced-in-Ok.ensures.state ∙ ap (λ js. reloaded c.args.moment js (live s)) c.in_ok-jobs-in-Ok.ensures
+    ∙ sym (load_taken s.jobs.items s.lives.items s.started.items c.args.moment c.args.text.now (map in_force c.in-Ok.filed.items) (ap after_load h))
+
+pub returns-in-Err-Bad-clause-answer : goal.returns-in-Err-Bad-clause-answer
+returns-in-Err-Bad-clause-answer g c =
+    let s = c.args.state.now in
+    let h = ap₂ loaded (sym c.deref.ensures.value) (sym c.as_slice.ensures)
+    ∙ subst (IsLoadCause (loaded c.deref.result.now c.as_slice.result.now)) c.in-Err-Bad.field-0-is c.in-Err-Bad.ensures.refused in
+    ap Refused c.in-Err-Bad.fault-is ∙ sym (load_answer_refused s.jobs.items s.lives.items s.started.items c.args.moment c.args.text.now _ h)
+
+pub returns-in-Err-Bad-clause-state : goal.returns-in-Err-Bad-clause-state
+returns-in-Err-Bad-clause-state g c =
+    let s = c.args.state.now in
+    let h = ap₂ loaded (sym c.deref.ensures.value) (sym c.as_slice.ensures)
+    ∙ subst (IsLoadCause (loaded c.deref.result.now c.as_slice.result.now)) c.in-Err-Bad.field-0-is c.in-Err-Bad.ensures.refused in
+    sym (load_refused s.jobs.items s.lives.items s.started.items c.args.moment c.args.text.now (ap after_load h))

@@ -1,0 +1,76 @@
+use Rattle.std.proofs.Common.{◌≡◌, ◌∙◌, List, refl, sym, ap, ap₂, subst}
+use Rattle.std.specs.Prelude.{Ok, Err}
+use Rattle.jobs_in_force.specs.declared.jobs.InForce.{InForce}
+use Rattle.jobs_in_force.specs.Jobs.{updated, jobs_updated, IsUpdateCause, UnknownJob, UnknownFile, Faulty}
+use Rattle.scrape_machine.specs.declared.answers.Answer.TheVariants.{Updated, Refused}
+use Rattle.scrape_machine.specs.Machine.{after_update, closed_by, begun_by, reloaded}
+use Rattle.scrape_machine.proofs.EventLemmas.{update_taken, update_refused, update_answer_taken, update_answer_refused}
+use Rattle.scrape_core.specs.Kept.{live}
+use Rattle.scrape_core.proofs.StateLemmas.{same_update, few_update}
+use Rattle.scrape_core.proofs.changes.take_update.Goals as goal
+
+pub jobs_updated-requires : goal.jobs_updated-requires
+jobs_updated-requires g c =
+    few_update c.deref-in-Ok.result.now c.deref-in-Ok.result.now c.args.job.now _ c.args.file.now _ c.in-Ok.update.groups refl c.in-Ok.ensures.job c.in-Ok.ensures.file
+    c.as_slice.result.now (ap (λ z. updated z c.args.job.now c.args.file.now c.as_slice.result.now) (c.deref-in-Ok.ensures.value ∙ sym c.deref.ensures.value) ∙ c.in-Ok.ensures.taken)
+
+pub returns-in_ok-synced-in-Ok-clause-answer : goal.returns-in_ok-synced-in-Ok-clause-answer
+returns-in_ok-synced-in-Ok-clause-answer g c =
+    let s = c.args.state.now in
+    let h = ap₂ (λ z t. updated z c.args.job.now c.args.file.now t) (sym c.deref.ensures.value) (sym c.as_slice.ensures) ∙ c.in-Ok.ensures.taken in
+    let j = c.in_ok-jobs-in-Ok.ensures
+    ∙ same_update c.deref-in-Ok.result.now s.jobs.items c.args.job.now _ c.args.file.now _ c.in-Ok.update.groups c.deref-in-Ok.ensures.value c.in-Ok.ensures.job c.in-Ok.ensures.file in
+    ap₂ Updated (c.in_ok-synced-in-Ok.ensures.closed ∙ ap (λ js. closed_by c.args.moment js (live s)) j)
+    (c.in_ok-synced-in-Ok.ensures.begun ∙ ap (λ js. begun_by c.args.moment js (live s)) j)
+    ∙ sym (update_answer_taken s.jobs.items s.lives.items s.started.items c.args.moment c.args.job.now c.args.file.now c.args.text.now c.in-Ok.update.groups h)
+
+pub returns-in_ok-synced-in-Ok-clause-state : goal.returns-in_ok-synced-in-Ok-clause-state
+returns-in_ok-synced-in-Ok-clause-state g c =
+    let s = c.args.state.now in
+    let h = ap₂ (λ z t. updated z c.args.job.now c.args.file.now t) (sym c.deref.ensures.value) (sym c.as_slice.ensures) ∙ c.in-Ok.ensures.taken in
+    let j = c.in_ok-jobs-in-Ok.ensures
+    ∙ same_update c.deref-in-Ok.result.now s.jobs.items c.args.job.now _ c.args.file.now _ c.in-Ok.update.groups c.deref-in-Ok.ensures.value c.in-Ok.ensures.job c.in-Ok.ensures.file in
+    c.in_ok-synced-in-Ok.ensures.state ∙ ap (λ js. reloaded c.args.moment js (live s)) j
+    ∙ sym (update_taken s.jobs.items s.lives.items s.started.items c.args.moment c.args.job.now c.args.file.now c.args.text.now _ (ap (after_update s.jobs.items c.args.job.now c.args.file.now) h))
+
+pub returns-in-Err-NoJob-clause-answer : goal.returns-in-Err-NoJob-clause-answer
+returns-in-Err-NoJob-clause-answer g c =
+    let s = c.args.state.now in
+    let h = ap₂ (λ z t. updated z c.args.job.now c.args.file.now t) (sym c.deref.ensures.value) (sym c.as_slice.ensures)
+    ∙ subst (IsUpdateCause (updated c.deref.result.now c.args.job.now c.args.file.now c.as_slice.result.now)) c.in-Err-NoJob.field-0-is c.in-Err-NoJob.ensures.refused in
+    sym (update_answer_refused s.jobs.items s.lives.items s.started.items c.args.moment c.args.job.now c.args.file.now c.args.text.now UnknownJob h)
+
+pub returns-in-Err-NoJob-clause-state : goal.returns-in-Err-NoJob-clause-state
+returns-in-Err-NoJob-clause-state g c =
+    let s = c.args.state.now in
+    let h = ap₂ (λ z t. updated z c.args.job.now c.args.file.now t) (sym c.deref.ensures.value) (sym c.as_slice.ensures)
+    ∙ subst (IsUpdateCause (updated c.deref.result.now c.args.job.now c.args.file.now c.as_slice.result.now)) c.in-Err-NoJob.field-0-is c.in-Err-NoJob.ensures.refused in
+    sym (update_refused s.jobs.items s.lives.items s.started.items c.args.moment c.args.job.now c.args.file.now c.args.text.now (ap (after_update s.jobs.items c.args.job.now c.args.file.now) h))
+
+pub returns-in-Err-NoFile-clause-answer : goal.returns-in-Err-NoFile-clause-answer
+returns-in-Err-NoFile-clause-answer g c =
+    let s = c.args.state.now in
+    let h = ap₂ (λ z t. updated z c.args.job.now c.args.file.now t) (sym c.deref.ensures.value) (sym c.as_slice.ensures)
+    ∙ subst (IsUpdateCause (updated c.deref.result.now c.args.job.now c.args.file.now c.as_slice.result.now)) c.in-Err-NoFile.field-0-is c.in-Err-NoFile.ensures.refused in
+    sym (update_answer_refused s.jobs.items s.lives.items s.started.items c.args.moment c.args.job.now c.args.file.now c.args.text.now UnknownFile h)
+
+pub returns-in-Err-NoFile-clause-state : goal.returns-in-Err-NoFile-clause-state
+returns-in-Err-NoFile-clause-state g c =
+    let s = c.args.state.now in
+    let h = ap₂ (λ z t. updated z c.args.job.now c.args.file.now t) (sym c.deref.ensures.value) (sym c.as_slice.ensures)
+    ∙ subst (IsUpdateCause (updated c.deref.result.now c.args.job.now c.args.file.now c.as_slice.result.now)) c.in-Err-NoFile.field-0-is c.in-Err-NoFile.ensures.refused in
+    sym (update_refused s.jobs.items s.lives.items s.started.items c.args.moment c.args.job.now c.args.file.now c.args.text.now (ap (after_update s.jobs.items c.args.job.now c.args.file.now) h))
+
+pub returns-in-Err-Bad-clause-answer : goal.returns-in-Err-Bad-clause-answer
+returns-in-Err-Bad-clause-answer g c =
+    let s = c.args.state.now in
+    let h = ap₂ (λ z t. updated z c.args.job.now c.args.file.now t) (sym c.deref.ensures.value) (sym c.as_slice.ensures)
+    ∙ subst (IsUpdateCause (updated c.deref.result.now c.args.job.now c.args.file.now c.as_slice.result.now)) c.in-Err-Bad.field-0-is c.in-Err-Bad.ensures.refused in
+    ap Refused c.in-Err-Bad.fault-is ∙ sym (update_answer_refused s.jobs.items s.lives.items s.started.items c.args.moment c.args.job.now c.args.file.now c.args.text.now (Faulty _) h)
+
+pub returns-in-Err-Bad-clause-state : goal.returns-in-Err-Bad-clause-state
+returns-in-Err-Bad-clause-state g c =
+    let s = c.args.state.now in
+    let h = ap₂ (λ z t. updated z c.args.job.now c.args.file.now t) (sym c.deref.ensures.value) (sym c.as_slice.ensures)
+    ∙ subst (IsUpdateCause (updated c.deref.result.now c.args.job.now c.args.file.now c.as_slice.result.now)) c.in-Err-Bad.field-0-is c.in-Err-Bad.ensures.refused in
+    sym (update_refused s.jobs.items s.lives.items s.started.items c.args.moment c.args.job.now c.args.file.now c.args.text.now (ap (after_update s.jobs.items c.args.job.now c.args.file.now) h))

@@ -1,0 +1,25 @@
+use Rattle.std.proofs.Common.{◌≡◌}
+use Rattle.scrape_core.specs.Kept.{live, Appends}
+use Rattle.scrape_core.proofs.StateLemmas.{appends_none, on_ok, load_gives, update_gives, halt_gives, halt_said, halt_left}
+use Rattle.scrape_core.proofs.events.take_live.Goals as goal
+
+pub returns-in-Load-clause-book : goal.returns-in-Load-clause-book
+returns-in-Load-clause-book g c =
+    let s = c.args.state.now in
+    on_ok _ _ (appends_none (live s) c.args.event.now c.args.book.now.entries (load_gives s.jobs.items s.lives.items s.started.items c.args.event.now _ _ c.in-Load.is))
+
+pub returns-in-Targets-clause-book : goal.returns-in-Targets-clause-book
+returns-in-Targets-clause-book g c =
+    let s = c.args.state.now in
+    on_ok _ _ (appends_none (live s) c.args.event.now c.args.book.now.entries (update_gives s.jobs.items s.lives.items s.started.items c.args.event.now _ _ _ _ c.in-Targets.is))
+
+pub returns-in-Halt-clause-answer : goal.returns-in-Halt-clause-answer
+returns-in-Halt-clause-answer g c = let s = c.args.state.now in halt_said s.jobs.items s.lives.items s.started.items c.args.event.now _ c.in-Halt.is
+
+pub returns-in-Halt-clause-state : goal.returns-in-Halt-clause-state
+returns-in-Halt-clause-state g c = let s = c.args.state.now in halt_left s.jobs.items s.lives.items s.started.items c.args.event.now _ c.in-Halt.is
+
+pub returns-in-Halt-clause-book : goal.returns-in-Halt-clause-book
+returns-in-Halt-clause-book g c =
+    let s = c.args.state.now in
+    appends_none (live s) c.args.event.now c.args.book.now.entries (halt_gives s.jobs.items s.lives.items s.started.items c.args.event.now _ c.in-Halt.is)

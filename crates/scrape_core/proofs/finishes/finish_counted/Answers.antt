@@ -1,0 +1,48 @@
+use Rattle.std.proofs.Common.{◌≡◌, ◌++◌, ◌∙◌, List, length, get_or, set, sym, ap, ap₂, rules, SFits, w64, to_z, of_z}
+use Rattle.std.proofs.lemmas.Int.{to_z-of_z}
+use Rattle.std.proofs.lemmas.List.{with_items_is}
+use Rattle.std.specs.Prelude.{slice_get}
+use Rattle.report_samples.specs.declared.entries.Entry.{Entry}
+use Rattle.scrape_loop.specs.Entries.{entries_of}
+use Rattle.scrape_loop.specs.Tracked.{fault_of}
+use Rattle.scrape_machine.specs.declared.answers.Answer.TheVariants.{Counted}
+use Rattle.scrape_machine.specs.declared.lives.Life.{Life}
+use Rattle.scrape_machine.specs.declared.lives.Start.{Start}
+use Rattle.scrape_machine.specs.Lives.{counted, outcome_for}
+use Rattle.scrape_machine.specs.Machine.{world, finished}
+use Rattle.scrape_machine.proofs.FinishLemmas.{counted_answer, counted_world, counted_book}
+use Rattle.scrape_core.proofs.StateLemmas.{length-finished}
+use Rattle.scrape_core.proofs.finishes.finish_counted.Goals as goal
+
+pub returns-clause-answer : goal.returns-clause-answer
+returns-clause-answer g c =
+    let s = c.args.state.now in
+    let d = c.index_mut-one.result.now in
+    let t = to_z-of_z w64 c.args.took c.ranges.took in
+    ap Counted (c.in_ok-fault.ensures.fault ∙ ap₂ (λ (y : Life) z. fault_of (outcome_for y z c.args.reply.now)) c.index_mut-one.ensures.value t)
+    ∙ sym (counted_answer s.jobs.items s.lives.items s.started.items c.args.ticket c.args.took c.args.reply.now c.args.life c.args.moment c.requires.found d)
+
+pub returns-clause-state : goal.returns-clause-state
+returns-clause-state g c =
+    let s = c.args.state.now in
+    let d = c.index_mut-one.result.now in
+    let t = to_z-of_z w64 c.args.took c.ranges.took in
+    let done : c.finish.new.started ≡ finished (slice_get s.started.items c.args.ticket) s.started.items c.args.ticket =
+    c.finish.ensures ∙ ap (λ (ss : List Start). finished (slice_get ss c.args.ticket) ss c.args.ticket) c.deref_mut.ensures.value in
+    let long = ap (λ (ss : List Start). length ss) done ∙ length-finished s.started.items c.args.ticket _ ∙ sym s.started.ok.0 in
+    ap (λ ss. world s.jobs.items (set s.lives.items c.args.life c.count.new.life) ss) (with_items_is s.started c.finish.new.started long)
+    ∙ counted_world s.jobs.items s.lives.items s.started.items c.args.ticket c.args.took c.args.reply.now c.args.life c.args.moment c.requires.found
+    c.finish.new.started d c.count.new.life c.requires.within
+    (c.in_ok-fault.ensures.life ∙ ap₂ (λ (y : Life) z. counted y (outcome_for y z c.args.reply.now)) c.index_mut-one.ensures.value t) done
+
+pub returns-clause-book : goal.returns-clause-book
+returns-clause-book g c =
+    let s = c.args.state.now in
+    let d = c.index_mut-one.result.now in
+    let t = to_z-of_z w64 c.args.took c.ranges.took in
+    let life = get_or s.lives.items c.args.life d in
+    let fits : SFits w64 c.ms.result = search rules in
+    c.in_ok-fault.ensures.book ∙ ap (λ (es : List Entry). c.args.book.now.entries ++ es)
+    (ap₂ (λ (y : Life) z. entries_of y.state (outcome_for y z c.args.reply.now) (to_z w64 (of_z w64 c.ms.result)) z) c.index_mut-one.ensures.value t
+    ∙ ap (λ m. entries_of life.state (outcome_for life c.args.took c.args.reply.now) m c.args.took) (to_z-of_z w64 c.ms.result fits ∙ c.ms.ensures.value)
+    ∙ sym (counted_book s.jobs.items s.lives.items s.started.items c.args.ticket c.args.took c.args.reply.now c.args.life c.args.moment c.requires.found d c.requires.within))

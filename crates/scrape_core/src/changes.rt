@@ -1,0 +1,167 @@
+//! Loads of a configuration and updates of a file's targets.
+ghost use Rattle.std.specs.Prelude.{◌≡◌, ◌≤◌, ◌<◌, ◌+◌, ◌^◌, ◌++◌, [], List, length, filter, vec_len, vec_capacity, Ok, IfOk, OnOk, OnErr};
+ghost use Rattle.journal_text.specs.declared.events.Event.TheVariants.{Load, Targets};
+ghost use Rattle.scrape_machine.specs.Machine as spec;
+ghost use Rattle.scrape_machine.specs.Plans as plan;
+ghost use Rattle.scrape_core.specs.Kept as kept;
+
+use crate::state::State;
+use jobs_in_force::jobs::InForce;
+use jobs_in_force::loads::{in_force_all, load_of};
+use jobs_in_force::updates::{UpdateError, jobs_updated, update_of};
+use label_set::{Blob, Name, NoMemory, Steps};
+use life_roll::Moment;
+use scrape_config::ConfError;
+use scrape_machine::Answer;
+use scrape_machine::acts::{Fate, meet_all};
+use scrape_machine::lives::Life;
+use scrape_machine::reloads::{
+    births_of, count_closed, fates_of, held_of, names_of, verdicts_of,
+};
+use std::alloc::Global;
+use std::sync::ledger::Ledger;
+
+/// The most lives that there can be, plus one.
+const LIVES: u64 = 1 << 32;
+
+/// A change of the configuration in force: what becomes of each life, and the lives that begin.
+#[derive(Drop)]
+pub struct Change {
+    fates: Vec<Fate>,
+    begun: Vec<Life>,
+}
+
+/// How many lives a change closes and begins.
+#[derive(Clone, Copy, Debug)]
+pub struct Synced {
+    pub closed: u32,
+    pub begun: u32,
+}
+
+/// What a change at a moment from some jobs to others comes to; nothing changes yet.
+fn change_to(
+    alloc: Global,
+    moment: Moment,
+    olds: &[InForce],
+    lives: &[Life],
+    news: &[InForce],
+) -> Result<Change, NoMemory>
+    requires { length lives.now < 2 ^ 32 }
+    ensures each { IfOk result (λ c. length c.fates.items ≡ length lives.now) }
+    ensures lives { IfOk result (λ c. plan.after_each moment c.fates.items lives.now ≡ spec.reload_lives moment news.now (spec.world olds.now lives.now [])) }
+    ensures closed { IfOk result (λ c. length (filter plan.closes c.fates.items) ≡ spec.closed_by moment news.now (spec.world olds.now lives.now [])) }
+    ensures begun { IfOk result (λ c. c.begun.items ≡ spec.reload_births moment news.now (spec.world olds.now lives.now [])) }
+{
+    let old_names = names_of(alloc, olds)?;
+    let names = names_of(alloc, news)?;
+    let verdicts = verdicts_of(alloc, &old_names, olds, news)?;
+    let fates = fates_of(alloc, &names, news, &verdicts, lives)?;
+    let held = held_of(alloc, &names, &fates, lives)?;
+    let first = lives.len() as u64;
+    let begun = births_of(alloc, moment, first, &names, news, &held)?;
+    Ok(Change { fates, begun })
+}
+
+/// Adds lives, into room that was made before.
+fn push_lives(lives: &mut Vec<Life>, begun: Vec<Life>)
+    requires { vec_len lives.old + length begun.items ≤ vec_capacity lives.old }
+    ensures { lives.new.items ≡ lives.old.items ++ begun.items }
+{
+    for life in begun {
+        lives.push_reserved(life);
+    }
+}
+
+/// Makes a change at a moment: how many lives close and begin.
+fn reload(
+    alloc: Global,
+    state: &mut State,
+    moment: Moment,
+    jobs: Vec<InForce>,
+) -> Result<Synced, NoMemory>
+    requires { kept.HasFew state.old }
+    ensures closed { IfOk result (λ s. s.closed ≡ spec.closed_by moment jobs.items (kept.live state.old)) }
+    ensures begun { IfOk result (λ s. s.begun ≡ spec.begun_by moment jobs.items (kept.live state.old)) }
+    ensures state { OnOk result (kept.live state.new ≡ spec.reloaded moment jobs.items (kept.live state.old)) }
+    ensures few { OnOk result (kept.HasFew state.new) }
+    ensures same { state.new.halted ≡ state.old.halted }
+    ensures err { OnErr result (kept.live state.new ≡ kept.live state.old) }
+{
+    let change = change_to(alloc, moment, &state.jobs, &state.lives, &jobs)?;
+    let (fates, begun) = (change.fates, change.begun);
+    let first = state.lives.len() as u64;
+    if first.saturating_add(begun.len() as u64) >= LIVES {
+        return Err(NoMemory);
+    }
+    let synced = Synced {
+        closed: count_closed(&fates) as u32,
+        begun: begun.len() as u32,
+    };
+    state.lives.reserve(begun.len())?;
+    meet_all(&mut state.lives, moment, fates);
+    push_lives(&mut state.lives, begun);
+    state.jobs = jobs;
+    Ok(synced)
+}
+
+/// A load of a configuration at a moment.
+pub fn take_load<L: Ledger>(
+    alloc: Global,
+    state: &mut State,
+    moment: Moment,
+    text: &Blob,
+    steps: &mut Steps<L>,
+) -> Result<Answer, NoMemory>
+    requires { kept.HasFew state.old }
+    ensures answer { IfOk result (λ a. a ≡ spec.answer (kept.live state.old) (Load moment text.now)) }
+    ensures state { OnOk result (kept.live state.new ≡ spec.step (kept.live state.old) (Load moment text.now)) }
+    ensures few { OnOk result (kept.HasFew state.new) }
+    ensures same { state.new.halted ≡ state.old.halted }
+    ensures err { OnErr result (kept.live state.new ≡ kept.live state.old) }
+{
+    match load_of(alloc, &state.jobs, text.as_slice()) {
+        Ok(filed) => {
+            let jobs = in_force_all(alloc, filed, steps)?;
+            let synced = reload(alloc, state, moment, jobs)?;
+            Ok(Answer::Loaded {
+                closed: synced.closed,
+                begun: synced.begun,
+            })
+        }
+        Err(ConfError::Bad(fault)) => Ok(Answer::Refused(fault)),
+        Err(ConfError::NoMemory) => Err(NoMemory),
+    }
+}
+
+/// An update of the targets of a job's file at a moment.
+pub fn take_update<L: Ledger>(
+    alloc: Global,
+    state: &mut State,
+    moment: Moment,
+    job: &Name,
+    file: &Name,
+    text: &Blob,
+    steps: &mut Steps<L>,
+) -> Result<Answer, NoMemory>
+    requires { kept.HasFew state.old }
+    ensures answer { IfOk result (λ a. a ≡ spec.answer (kept.live state.old) (Targets moment job.now file.now text.now)) }
+    ensures state { OnOk result (kept.live state.new ≡ spec.step (kept.live state.old) (Targets moment job.now file.now text.now)) }
+    ensures few { OnOk result (kept.HasFew state.new) }
+    ensures same { state.new.halted ≡ state.old.halted }
+    ensures err { OnErr result (kept.live state.new ≡ kept.live state.old) }
+{
+    match update_of(alloc, &state.jobs, job, file, text.as_slice()) {
+        Ok(update) => {
+            let jobs = jobs_updated(alloc, &state.jobs, &update, steps)?;
+            let synced = reload(alloc, state, moment, jobs)?;
+            Ok(Answer::Updated {
+                closed: synced.closed,
+                begun: synced.begun,
+            })
+        }
+        Err(UpdateError::NoJob) => Ok(Answer::NoJob),
+        Err(UpdateError::NoFile) => Ok(Answer::NoFile),
+        Err(UpdateError::Bad(fault)) => Ok(Answer::Refused(fault)),
+        Err(UpdateError::NoMemory) => Err(NoMemory),
+    }
+}

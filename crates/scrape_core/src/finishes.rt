@@ -1,0 +1,84 @@
+//! Finished fetches.
+ghost use Rattle.std.specs.Prelude.{◌≡◌, ◌≤◌, ◌<◌, ◌^◌, ◌++◌, [], length, IfOk, OnOk, OnErr};
+ghost use Rattle.journal_text.specs.declared.events.Event.TheVariants.{Finish};
+ghost use Rattle.journal_text.specs.Lines.{IsMoment};
+ghost use Rattle.scrape_machine.specs.declared.lives.Found.TheVariants.{Counts};
+ghost use Rattle.scrape_machine.specs.Machine as spec;
+ghost use Rattle.scrape_core.specs.Kept as kept;
+
+use crate::state::State;
+use label_set::{NoMemory, Steps};
+use life_roll::Moment;
+use outside::Reply;
+use appender_book::Book;
+use scrape_machine::Answer;
+use scrape_machine::finishes::{count, finish, found};
+use scrape_machine::lives::Found;
+use std::alloc::Global;
+use std::sync::ledger::Ledger;
+
+
+/// A finish that counts, of the scrape of this life that started at a moment.
+fn finish_counted<L: Ledger>(
+    alloc: Global,
+    state: &mut State,
+    book: &mut Book,
+    ticket: u64,
+    took: i64,
+    reply: &Reply,
+    life: u64,
+    moment: Moment,
+    steps: &mut Steps<L>,
+) -> Result<Answer, NoMemory>
+    requires took { IsMoment took }
+    requires few { kept.HasFew state.old }
+    requires found { spec.found (kept.live state.old) ticket ≡ Counts life moment }
+    requires within { life < length state.old.lives.items }
+    ensures answer { IfOk result (λ a. a ≡ spec.answer (kept.live state.old) (Finish ticket took reply.now)) }
+    ensures state { OnOk result (kept.live state.new ≡ spec.step (kept.live state.old) (Finish ticket took reply.now)) }
+    ensures book { OnOk result (kept.Appends (kept.live state.old) (Finish ticket took reply.now) book.old.entries book.new.entries) }
+    ensures few { kept.HasFew state.new }
+    ensures same { state.new.halted ≡ state.old.halted }
+    ensures err { OnErr result (kept.live state.new ≡ kept.live state.old) }
+    ensures err_book { OnErr result (book.new.entries ≡ book.old.entries) }
+{
+    let one = &mut state.lives[life as usize];
+    let fault = count(alloc, one, moment.ms(), reply, took, book, steps)?;
+    finish(&mut state.started, ticket);
+    Ok(Answer::Counted(fault))
+}
+
+/// A finished fetch: it counts where its scrape is in flight.
+pub fn take_finish<L: Ledger>(
+    alloc: Global,
+    state: &mut State,
+    book: &mut Book,
+    ticket: u64,
+    took: i64,
+    reply: &Reply,
+    steps: &mut Steps<L>,
+) -> Result<Answer, NoMemory>
+    requires took { IsMoment took }
+    requires few { kept.HasFew state.old }
+    ensures answer { IfOk result (λ a. a ≡ spec.answer (kept.live state.old) (Finish ticket took reply.now)) }
+    ensures state { OnOk result (kept.live state.new ≡ spec.step (kept.live state.old) (Finish ticket took reply.now)) }
+    ensures book { OnOk result (kept.Appends (kept.live state.old) (Finish ticket took reply.now) book.old.entries book.new.entries) }
+    ensures few { kept.HasFew state.new }
+    ensures same { state.new.halted ≡ state.old.halted }
+    ensures err { OnErr result (kept.live state.new ≡ kept.live state.old) }
+    ensures err_book { OnErr result (book.new.entries ≡ book.old.entries) }
+{
+    match found(&state.lives, &state.started, ticket) {
+        Found::NotStarted => {
+            finish(&mut state.started, ticket);
+            Ok(Answer::NoTicket)
+        }
+        Found::Cancelled => {
+            finish(&mut state.started, ticket);
+            Ok(Answer::Late)
+        }
+        Found::Counts { life, moment } => finish_counted(
+            alloc, state, book, ticket, took, reply, life, moment, steps,
+        ),
+    }
+}

@@ -1,0 +1,17 @@
+pub mod SetLemmas
+pub mod ToldLemmas
+pub mod EntryLemmas
+pub mod LifeLemmas
+pub mod WorldLemmas
+pub mod RunLemmas
+pub mod StretchLemmas
+pub mod LateLemmas
+pub mod FlightLemmas
+pub mod StartLemmas
+pub mod TicketLemmas
+pub mod NothingLemmas
+pub mod UndisturbedLemmas
+pub mod ApartLemmas
+pub mod MeetLemmas
+pub mod OwnLemmas
+pub mod RefusedLemmas

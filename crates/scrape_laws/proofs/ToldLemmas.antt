@@ -1,0 +1,42 @@
+-- What is told of a series, one scrape on and at the ending.
+use Rattle.std.proofs.Common.{◌≡◌, ℕ, ℤ, Bool, true, not, ◌&&◌, List, [], ◌∷◌, ◌++◌, Some, None, refl, sym, ap, ◌∙◌, append_assoc, append-nil}
+use Rattle.label_set.specs.declared.texts.Pair.{Pair}
+use Rattle.report_samples.specs.declared.entries.Entry.{Entry}
+use Rattle.scrape_laws.specs.Scrapes.{LifeScrape, tracks}
+use Rattle.scrape_laws.specs.Markers.{samples, mark_if, told}
+use Rattle.scrape_laws.specs.Runs.{is_any}
+
+-- the last of the scrapes passes the test, or there is none and b
+abbrev pub ends_with : (LifeScrape → Bool) → Bool → List LifeScrape → Bool
+ends_with p b [] = b
+ends_with p b (s ∷ ss) = ends_with p (p s) ss
+
+pub ends_with_push : (p : LifeScrape → Bool) (b : Bool) (ss : List LifeScrape) (s : LifeScrape) → ends_with p b (ss ++ s ∷ []) ≡ p s
+ends_with_push p b [] s = refl
+ends_with_push p b (t ∷ ss) s = ends_with_push p (p t) ss s
+
+pub any_push : (ss : List LifeScrape) (s : LifeScrape) → is_any (ss ++ s ∷ []) ≡ true
+any_push [] s = refl
+any_push (t ∷ ss) s = refl
+
+-- what one scrape adds
+abbrev pub tells : ℕ → List Pair → Bool → LifeScrape → List Entry
+tells n x b s = samples n x s ++ mark_if n x s.moment (b && not (tracks x s))
+
+module _ (n : ℕ) (x : List Pair) where
+  three : (us bs cs ds : List Entry) → us ++ (bs ++ (cs ++ ds)) ≡ (us ++ (bs ++ cs)) ++ ds
+  three us bs cs ds = ap (λ zs. us ++ zs) (sym (append_assoc bs cs ds)) ∙ sym (append_assoc us (bs ++ cs) ds)
+
+  -- one scrape more
+  pub told_more : (b : Bool) (ss : List LifeScrape) (s : LifeScrape) → told n x None b (ss ++ s ∷ []) ≡ told n x None b ss ++ tells n x (ends_with (tracks x) b ss) s
+  told_more b [] s = ap (λ zs. samples n x s ++ zs) (append-nil _)
+  told_more b (t ∷ ss) s =
+      ap (λ zs. samples n x t ++ (mark_if n x t.moment (b && not (tracks x t)) ++ zs)) (told_more (tracks x t) ss s)
+      ∙ three (samples n x t) (mark_if n x t.moment (b && not (tracks x t))) (told n x None (tracks x t) ss) (tells n x (ends_with (tracks x) (tracks x t) ss) s)
+
+  -- at the ending
+  pub told_ended : (m : ℤ) (b : Bool) (ss : List LifeScrape) → told n x (Some m) b ss ≡ told n x None b ss ++ mark_if n x m (ends_with (tracks x) b ss)
+  told_ended m b [] = refl
+  told_ended m b (t ∷ ss) =
+      ap (λ zs. samples n x t ++ (mark_if n x t.moment (b && not (tracks x t)) ++ zs)) (told_ended m (tracks x t) ss)
+      ∙ three (samples n x t) (mark_if n x t.moment (b && not (tracks x t))) (told n x None (tracks x t) ss) (mark_if n x m (ends_with (tracks x) (tracks x t) ss))

@@ -1,7 +1,0 @@
-use Rattle.std.proofs.Common.{◌≡◌, ◌++◌, ◌+◌, ◌≤◌, map, take, drop, length, List, ℕ}
-use Rattle.std.specs.List.{sum_by}
-use Rattle.scrape_machine.specs.Jobs.{count_of}
-use Rattle.scrape_machine.proofs.loads.are_crowd.Given as goal
-
-abbrev pub invariant-loop-one : goal.invariant-loop-one
-invariant-loop-one l = l.left + sum_by count_of (take l.one-index l.filed) ≡ 100000

@@ -1,6 +1,0 @@
-use Rattle.std.proofs.Common.{◌≡◌, ◌++◌, ◌+◌, ◌≤◌, map, take, drop, length, List, ℕ}
-use Rattle.scrape_machine.specs.Jobs.{loaded_job}
-use Rattle.scrape_machine.proofs.loads.filed_by_load.Given as goal
-
-abbrev pub invariant-loop-job : goal.invariant-loop-job
-invariant-loop-job l = l.filed.items ≡ map (loaded_job l.jobs) l.yielded

@@ -1,6 +1,0 @@
-use Rattle.std.proofs.Common.{◌≡◌, ◌++◌, ◌+◌, ◌≤◌, map, take, drop, length, List, ℕ}
-use Rattle.scrape_machine.specs.Jobs.{in_force}
-use Rattle.scrape_machine.proofs.loads.in_force_all.Given as goal
-
-abbrev pub invariant-loop-one : goal.invariant-loop-one
-invariant-loop-one g l = l.jobs.items ≡ map in_force l.yielded
