@@ -6,18 +6,20 @@ use Rattle.outside.specs.declared.objects.StoredFile.{StoredFile}
 use Rattle.outside.specs.Objects.{file_of, HasFile, LacksFile, HasLongerFile}
 use Rattle.journal_text.specs.declared.events.Event.{Event}
 use Rattle.journal_text.specs.Events.{IsJournal, journal_text}
-use Rattle.journal_text.specs.Faults.{SpellsNone}
+use Rattle.journal_text.specs.declared.faults.ScriptFault.{ScriptFault}
+use Rattle.journal_text.specs.Faults.{SpellsNone, IsOnlyFault, IsFault as IsScriptFault}
 use Rattle.jobs_in_force.specs.Jobs.{loaded}
 use Rattle.jobs_in_force.specs.declared.jobs.Filed.{Filed}
 use Rattle.config_fields.specs.declared.fault.ConfFault.{ConfFault}
 use Rattle.scrape_cli.specs.Checks.{IsFault, IsConf, fault_message}
+use Rattle.scrape_cli.specs.Scripts.{fault_message as script_message}
 use Rattle.scrape_cli.specs.Words.{Asking, asking, asked_in, file_in, limit_of}
 use Rattle.scrape_cli.specs.Ends.{Call, work_of, Reads, IsOutput, IsAskedFor, WorkEnds, Speaks, IsSaid, Ended, status_at}
 use Rattle.scrape_cli.specs.Laws.{Complete, IsTold, TellsNone, TellsLonger, IsRead, IsSound, IsUncounted, IsFreely, Spells, refused_at}
 use Rattle.scrape_cli.specs.declared.words.Command.{Command}
 use Rattle.scrape_cli.specs.declared.words.Command.TheVariants.{Replay, Check}
 use Rattle.scrape_cli.specs.declared.refusals.Refusal.{Refusal}
-use Rattle.scrape_cli.specs.declared.refusals.Refusal.TheVariants.{BadWords, Absent, Config, ReadFault, WriteFault, NoMemory, TooLong, NotYet}
+use Rattle.scrape_cli.specs.declared.refusals.Refusal.TheVariants.{BadWords, Absent, Config, Script, ReadFault, WriteFault, NoMemory, TooLong}
 
 some_same : {A : Type 0} (a b : A) → Some a ≡ Some b → a ≡ b
 some_same a b e = cc
@@ -106,11 +108,11 @@ module _ (c : Call) where
   words_due (Err BadWords) w e = refl
   words_due (Err Absent) w e = absurd (some_asked (asked_in c.words) _ e w.cause)
   words_due (Err (Config f)) w e = absurd (read_asked _ _ e w.cause.1)
+  words_due (Err (Script f)) w e = absurd (read_asked _ _ e w.cause.1)
   words_due (Err ReadFault) w e = absurd (is_asked (asked_in c.words) e w.cause)
   words_due (Err WriteFault) w e = absurd (read_asked _ _ e w.cause.asked_for.reads)
   words_due (Err NoMemory) w e = absurd (is_asked (asked_in c.words) e w.cause)
   words_due (Err TooLong) w e = absurd (some_asked (asked_in c.words) _ e w.cause)
-  words_due (Err NotYet) w e = absurd (read_asked _ _ e w.cause.1)
 
   module _ (a : Asking) (asked : asked_in c.words ≡ Some a) where
     not_none : asked_in c.words ≡ None → ⊥
@@ -133,11 +135,11 @@ module _ (c : Call) where
     missing_due t n (Err BadWords) w = absurd (not_none w.cause)
     missing_due t n (Err Absent) w = inl refl
     missing_due t n (Err (Config f)) w = absurd (none_has c.shelf.before.files (file_in c.words) _ t (read_file _ _ w.cause.1))
+    missing_due t n (Err (Script f)) w = absurd (none_has c.shelf.before.files (file_in c.words) _ t (read_file _ _ w.cause.1))
     missing_due t n (Err ReadFault) w = absurd (n w.shelf.counted)
     missing_due t n (Err WriteFault) w = absurd (none_has c.shelf.before.files (file_in c.words) _ t (read_file _ _ w.cause.asked_for.reads))
     missing_due t n (Err NoMemory) w = inr refl
     missing_due t n (Err TooLong) w = absurd (none_longer c.shelf.before.files (file_in c.words) _ t (longer w.cause))
-    missing_due t n (Err NotYet) w = absurd (none_has c.shelf.before.files (file_in c.words) _ t (read_file _ _ w.cause.1))
 
     -- what is read is within the limit of the command that was asked for
     read_short : (m : Command) (b : List ℕ) → Reads m b (work_of c) → length b ≤ limit_of a.command
@@ -151,11 +153,11 @@ module _ (c : Call) where
     longer_due t n (Err BadWords) w = absurd (not_none w.cause)
     longer_due t n (Err Absent) w = absurd (longer_lacks c.shelf.before.files (file_in c.words) _ t (lacks w.cause))
     longer_due t n (Err (Config f)) w = absurd (not_long _ _ t w.cause.1)
+    longer_due t n (Err (Script f)) w = absurd (not_long _ _ t w.cause.1)
     longer_due t n (Err ReadFault) w = absurd (n w.shelf.counted)
     longer_due t n (Err WriteFault) w = absurd (not_long _ _ t w.cause.asked_for.reads)
     longer_due t n (Err NoMemory) w = inr refl
     longer_due t n (Err TooLong) w = inl refl
-    longer_due t n (Err NotYet) w = absurd (not_long _ _ t w.cause.1)
 
     refused_of : (m : Command) (b : List ℕ) → Reads m b (work_of c) → refused_at m ≡ refused_at a.command
     refused_of m b r = ap refused_at (sym (asked_command m b r))
@@ -165,11 +167,11 @@ module _ (c : Call) where
     untold_due n (Err BadWords) w = absurd (not_none w.cause)
     untold_due n (Err Absent) w = absurd (n.found w.shelf.counted)
     untold_due n (Err (Config f)) w = inr (refused_of Check _ w.cause.1)
+    untold_due n (Err (Script f)) w = inr (refused_of Replay _ w.cause.1)
     untold_due n (Err ReadFault) w = absurd (n.sound.read w.shelf.counted)
     untold_due n (Err WriteFault) w = absurd (n.sound.written w.cause.put.counted)
     untold_due n (Err NoMemory) w = inl (inr refl)
     untold_due n (Err TooLong) w = absurd (n.short w.shelf.counted)
-    untold_due n (Err NotYet) w = inr (refused_of Replay _ w.cause.1)
 
   -- a file that is told
   module _ (m : Command) (bytes : List ℕ) (t : IsTold m bytes c) where
@@ -200,11 +202,11 @@ module _ (c : Call) where
     replayed_due s n (Err BadWords) w = absurd (told_asked Replay bytes t w.cause)
     replayed_due s n (Err Absent) w = absurd (told_found Replay bytes t w.cause)
     replayed_due s n (Err (Config f)) w = absurd (not_checked _ w.cause.1)
+    replayed_due s n (Err (Script f)) w = absurd (told_none _ w.cause.1 w.cause.2.none s.0 s.1 s.2)
     replayed_due s n (Err ReadFault) w = absurd (n.read w.shelf.counted)
     replayed_due s n (Err WriteFault) w = absurd (n.written w.cause.put.counted)
     replayed_due s n (Err NoMemory) w = inr refl
     replayed_due s n (Err TooLong) w = absurd (told_short Replay bytes t w.cause)
-    replayed_due s n (Err NotYet) w = absurd (told_none _ w.cause.1 w.cause.2 s.0 s.1 s.2)
 
     -- the output of `replay` is that of a journal
     told_spelled : (m : Command) (b text : List ℕ) → Reads m b (work_of c) → IsOutput m b text → SpellsNone bytes → ⊥
@@ -214,16 +216,24 @@ module _ (c : Call) where
     asked_spelled : (text : List ℕ) → IsAskedFor text (work_of c) → SpellsNone bytes → ⊥
     asked_spelled text a none = told_spelled a.command a.bytes text a.reads a.output none
 
-    unspelled_due : SpellsNone bytes → IsRead c → (end : Result (Unit {0}) Refusal) → WorkEnds end (work_of c) → IsFreely 11 (status_at end)
+    unspelled_due : SpellsNone bytes → IsRead c → (end : Result (Unit {0}) Refusal) → WorkEnds end (work_of c) → IsFreely 5 (status_at end)
     unspelled_due s n (Ok u) w = absurd (asked_spelled _ w.prints.asked_for s)
     unspelled_due s n (Err BadWords) w = absurd (told_asked Replay bytes t w.cause)
     unspelled_due s n (Err Absent) w = absurd (told_found Replay bytes t w.cause)
     unspelled_due s n (Err (Config f)) w = absurd (not_checked _ w.cause.1)
+    unspelled_due s n (Err (Script f)) w = inl refl
     unspelled_due s n (Err ReadFault) w = absurd (n w.shelf.counted)
     unspelled_due s n (Err WriteFault) w = absurd (asked_spelled _ w.cause.asked_for s)
     unspelled_due s n (Err NoMemory) w = inr refl
     unspelled_due s n (Err TooLong) w = absurd (told_short Replay bytes t w.cause)
-    unspelled_due s n (Err NotYet) w = inl refl
+
+    found_due : (fault : ScriptFault) → IsScriptFault bytes fault → (end : Result (Unit {0}) Refusal) → WorkEnds end (work_of c) →
+        Speaks end (file_in c.words) c.err → status_at end ≡ 5 → IsSaid (script_message fault) c.err
+    found_due fault e (Ok u) w s five = absurd (omega (arith, five))
+    found_due fault e (Err (Script f)) w s five =
+        let only : IsOnlyFault bytes f = subst (λ (x : List ℕ). IsOnlyFault x f) (told_bytes Replay bytes t Replay _ w.cause.1) w.cause.2 in
+        subst (λ (z : ScriptFault). IsSaid (script_message z) c.err) (sym (only.only fault e)) s
+    found_due fault e (Err _) w s five = absurd (omega (arith, five))
 
   module _ (bytes : List ℕ) (t : IsTold Check bytes c) where
     not_replayed : (b : List ℕ) → Reads Replay b (work_of c) → ⊥
@@ -246,22 +256,22 @@ module _ (c : Call) where
     refused_due fault h n (Err BadWords) w = absurd (told_asked Check bytes t w.cause)
     refused_due fault h n (Err Absent) w = absurd (told_found Check bytes t w.cause)
     refused_due fault h n (Err (Config f)) w = inl refl
+    refused_due fault h n (Err (Script f)) w = absurd (not_replayed _ w.cause.1)
     refused_due fault h n (Err ReadFault) w = absurd (n w.shelf.counted)
     refused_due fault h n (Err WriteFault) w = absurd (asked_conf _ w.cause.asked_for fault h)
     refused_due fault h n (Err NoMemory) w = inr refl
     refused_due fault h n (Err TooLong) w = absurd (told_short Check bytes t w.cause)
-    refused_due fault h n (Err NotYet) w = absurd (not_replayed _ w.cause.1)
 
     checked_due : (jobs : List Filed) → IsConf bytes jobs → IsSound c → (end : Result (Unit {0}) Refusal) → WorkEnds end (work_of c) → IsFreely 0 (status_at end)
     checked_due jobs k n (Ok u) w = inl refl
     checked_due jobs k n (Err BadWords) w = absurd (told_asked Check bytes t w.cause)
     checked_due jobs k n (Err Absent) w = absurd (told_found Check bytes t w.cause)
     checked_due jobs k n (Err (Config f)) w = absurd (no_fault (loaded [] bytes) jobs f k (told_fault _ f w.cause.1 w.cause.2))
+    checked_due jobs k n (Err (Script f)) w = absurd (not_replayed _ w.cause.1)
     checked_due jobs k n (Err ReadFault) w = absurd (n.read w.shelf.counted)
     checked_due jobs k n (Err WriteFault) w = absurd (n.written w.cause.put.counted)
     checked_due jobs k n (Err NoMemory) w = inr refl
     checked_due jobs k n (Err TooLong) w = absurd (told_short Check bytes t w.cause)
-    checked_due jobs k n (Err NotYet) w = absurd (not_replayed _ w.cause.1)
 
     told_due : (fault : ConfFault) → IsFault bytes fault → (end : Result (Unit {0}) Refusal) → WorkEnds end (work_of c) →
         Speaks end (file_in c.words) c.err → status_at end ≡ 4 → IsSaid (fault_message fault) c.err
@@ -277,7 +287,8 @@ complete_by status c e = record {
   missing = λ some tells read. at_asked (asked_in c.words) refl some (λ a asked. freely 3 (missing_due c a asked tells read e.end e.work_ends));
   longer = λ m asked tells read. freely 9 (longer_due c (asking (file_in c.words) m) asked tells read e.end e.work_ends);
   replayed = λ bytes t s sound. freely 0 (replayed_due c bytes t s sound e.end e.work_ends);
-  unspelled = λ bytes t s read. freely 11 (unspelled_due c bytes t s read e.end e.work_ends);
+  unspelled = λ bytes t s read. freely 5 (unspelled_due c bytes t s read e.end e.work_ends);
+  misspelled = λ bytes fault t is five. found_due c bytes t fault is e.end e.work_ends e.speaks (sym e.status_is ∙ five);
   checked = λ bytes jobs t k sound. freely 0 (checked_due c bytes t jobs k sound e.end e.work_ends);
   refused = λ bytes fault t is read. freely 4 (refused_due c bytes t fault is read e.end e.work_ends);
   told = λ bytes fault t is four. told_due c bytes t fault is e.end e.work_ends e.speaks (sym e.status_is ∙ four);

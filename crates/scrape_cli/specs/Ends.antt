@@ -2,16 +2,18 @@
 use Rattle.std.specs.Prelude.{◌≡◌, ℕ, ◌≤◌, ⊤, List, ◌++◌, codes, length, Option, Some, None, IsSome, IsSomeAnd, Result, Ok, Err}
 use Rattle.outside.specs.Objects.{ShelfSeen, SinkSeen, Use, IsUntouched, Rose, HasFile, LacksFile, HasLongerFile, Missed, MetLonger, FailedToRead, Adds, AddsFront, Took, Cut}
 use Rattle.journal_text.specs.declared.events.Event.{Event}
-use Rattle.journal_text.specs.Faults.{IsJournalOf, SpellsNone}
+use Rattle.journal_text.specs.declared.faults.ScriptFault.{ScriptFault}
+use Rattle.journal_text.specs.Faults.{IsJournalOf, IsOnlyFault}
 use Rattle.jobs_in_force.specs.declared.jobs.Filed.{Filed}
 use Rattle.scrape_machine.specs.Machine.{book_of}
 use Rattle.scrape_cli.specs.Texts.{book_text}
 use Rattle.scrape_cli.specs.Checks.{IsConf, IsFault, ok_line, fault_message}
+use Rattle.scrape_cli.specs.Scripts.{fault_message as script_message}
 use Rattle.scrape_cli.specs.Words.{Asking, asking, asked_in, file_in, limit_of}
 use Rattle.scrape_cli.specs.declared.words.Command.{Command}
 use Rattle.scrape_cli.specs.declared.words.Command.TheVariants.{Replay, Check}
 use Rattle.scrape_cli.specs.declared.refusals.Refusal.{Refusal}
-use Rattle.scrape_cli.specs.declared.refusals.Refusal.TheVariants.{BadWords, Absent, Config, ReadFault, WriteFault, NoMemory, TooLong, NotYet}
+use Rattle.scrape_cli.specs.declared.refusals.Refusal.TheVariants.{BadWords, Absent, Config, Script, ReadFault, WriteFault, NoMemory, TooLong}
 
 -- a call of the program: its words, and what it made of each outside object
 pub record Call : Type 0 where
@@ -71,55 +73,55 @@ abbrev pub status_of : Refusal → ℕ
 status_of BadWords = 2
 status_of Absent = 3
 status_of (Config fault) = 4
+status_of (Script fault) = 5
 status_of ReadFault = 6
 status_of WriteFault = 7
 status_of NoMemory = 8
 status_of TooLong = 9
-status_of NotYet = 11
 
 -- the message of a refusal, for the file that the words name
 abbrev pub message_of : List ℕ → Refusal → List ℕ
 message_of file BadWords = codes "scrape: bad words\n"
 message_of file Absent = codes "scrape: absent " ++ (file ++ codes "\n")
 message_of file (Config fault) = fault_message fault
+message_of file (Script fault) = script_message fault
 message_of file ReadFault = codes "scrape: read fault\n"
 message_of file WriteFault = codes "scrape: write fault\n"
 message_of file NoMemory = codes "scrape: no memory\n"
 message_of file TooLong = codes "scrape: too long " ++ (file ++ codes "\n")
-message_of file NotYet = codes "scrape: not yet\n"
 
 -- the cause of each refusal
 abbrev pub IsCause : Refusal → Work → Type 0
 IsCause BadWords w = w.asked ≡ None
 IsCause Absent w = IsSomeAnd w.asked (λ a. LacksFile w.shelf.before a.file)
 IsCause (Config fault) w = (bytes : List ℕ) × Reads Check bytes w × IsFault bytes fault
+IsCause (Script fault) w = (bytes : List ℕ) × Reads Replay bytes w × IsOnlyFault bytes fault
 IsCause ReadFault w = IsSome w.asked
 IsCause WriteFault w = PrintsFront w
 IsCause NoMemory w = IsSome w.asked
 IsCause TooLong w = IsSomeAnd w.asked (λ a. HasLongerFile w.shelf.before a.file (limit_of a.command))
-IsCause NotYet w = (bytes : List ℕ) × Reads Replay bytes w × SpellsNone bytes
 
 -- what it leaves of the shelf: one count risen, of three refusals, and nothing else changed
 abbrev pub LeavesShelf : Refusal → Use ShelfSeen → Type 0
 LeavesShelf BadWords shelf = IsUntouched shelf
 LeavesShelf Absent shelf = Missed shelf
 LeavesShelf (Config fault) shelf = IsUntouched shelf
+LeavesShelf (Script fault) shelf = IsUntouched shelf
 LeavesShelf ReadFault shelf = FailedToRead shelf
 LeavesShelf WriteFault shelf = IsUntouched shelf
 LeavesShelf NoMemory shelf = IsUntouched shelf
 LeavesShelf TooLong shelf = MetLonger shelf
-LeavesShelf NotYet shelf = IsUntouched shelf
 
 -- and of the output: nothing is added but a front at a write fault, as its cause says
 abbrev pub LeavesOut : Refusal → Use SinkSeen → Type 0
 LeavesOut BadWords out = IsUntouched out
 LeavesOut Absent out = IsUntouched out
 LeavesOut (Config fault) out = IsUntouched out
+LeavesOut (Script fault) out = IsUntouched out
 LeavesOut ReadFault out = IsUntouched out
 LeavesOut WriteFault out = ⊤
 LeavesOut NoMemory out = IsUntouched out
 LeavesOut TooLong out = IsUntouched out
-LeavesOut NotYet out = IsUntouched out
 
 -- the work was refused
 pub record IsRefused (r : Refusal) (w : Work) : Type 0 where

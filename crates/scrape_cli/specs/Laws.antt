@@ -3,10 +3,12 @@ use Rattle.std.specs.Prelude.{◌≡◌, ◌≢◌, ◌⊎◌, ℕ, ◌<◌, ◌
 use Rattle.outside.specs.Objects.{IsUntouched, Rose, file_of, LacksFile, HasLongerFile, Missed, MetLonger, FailedToRead}
 use Rattle.journal_text.specs.declared.events.Event.{Event}
 use Rattle.journal_text.specs.Events.{IsJournal, journal_text}
-use Rattle.journal_text.specs.Faults.{SpellsNone}
+use Rattle.journal_text.specs.declared.faults.ScriptFault.{ScriptFault}
+use Rattle.journal_text.specs.Faults.{SpellsNone, IsOnlyFault, IsFault as IsScriptFault}
 use Rattle.jobs_in_force.specs.declared.jobs.Filed.{Filed}
 use Rattle.config_fields.specs.declared.fault.ConfFault.{ConfFault}
 use Rattle.scrape_cli.specs.Checks.{IsConf, IsFault, fault_message}
+use Rattle.scrape_cli.specs.Scripts.{fault_message as script_message}
 use Rattle.scrape_cli.specs.Ends.{Call, work_of, Ended, Reads, Prints, PrintsFront, IsSaid, message_of, status_of}
 use Rattle.scrape_cli.specs.Words.{Asking, asking, asked_in, file_in, limit_of}
 use Rattle.scrape_cli.specs.declared.words.Command.{Command}
@@ -20,11 +22,11 @@ pub record Causes (c : Call) : Type 0 where
   pub bad_words : Ended 2 c → asked_in c.words ≡ None
   pub absent : Ended 3 c → Missed c.shelf × IsSomeAnd (asked_in c.words) (λ a. LacksFile c.shelf.before a.file)
   pub faulty : Ended 4 c → (fault : ConfFault) × (bytes : List ℕ) × Reads Check bytes (work_of c) × IsFault bytes fault × IsSaid (fault_message fault) c.err
+  pub misspelled : Ended 5 c → (fault : ScriptFault) × (bytes : List ℕ) × Reads Replay bytes (work_of c) × IsOnlyFault bytes fault × IsSaid (script_message fault) c.err
   pub read_fault : Ended 6 c → FailedToRead c.shelf
   pub front : Ended 7 c → PrintsFront (work_of c)
   pub too_long : Ended 9 c → MetLonger c.shelf × IsSomeAnd (asked_in c.words) (λ a. HasLongerFile c.shelf.before a.file (limit_of a.command))
-  pub not_yet : Ended 11 c → (bytes : List ℕ) × Reads Replay bytes (work_of c) × SpellsNone bytes
-  pub said : (r : Refusal) → status_of r ≢ 4 → Ended (status_of r) c → IsSaid (message_of (file_in c.words) r) c.err
+  pub said : (r : Refusal) → status_of r ≢ 4 → status_of r ≢ 5 → Ended (status_of r) c → IsSaid (message_of (file_in c.words) r) c.err
 
 -- a call ends with one of these statuses
 abbrev pub IsStatus : ℕ → Type 0
@@ -66,7 +68,7 @@ Spells bytes = (journal : List Event) × IsJournal journal × (journal_text jour
 
 -- the status for a file whose content a command refuses
 abbrev pub refused_at : Command → ℕ
-refused_at Replay = 11
+refused_at Replay = 5
 refused_at Check = 4
 
 -- which status is due: where the words are others; where the file is told and reading and writing don't fail; where nothing is counted.
@@ -76,7 +78,8 @@ pub record Complete (status : ℕ) (c : Call) : Type 0 where
   pub missing : IsSome (asked_in c.words) → TellsNone c → IsRead c → IsFreely 3 status
   pub longer : (m : Command) → asked_in c.words ≡ Some (asking (file_in c.words) m) → TellsLonger m c → IsRead c → IsFreely 9 status
   pub replayed : (bytes : List ℕ) → IsTold Replay bytes c → Spells bytes → IsSound c → IsFreely 0 status
-  pub unspelled : (bytes : List ℕ) → IsTold Replay bytes c → SpellsNone bytes → IsRead c → IsFreely 11 status
+  pub unspelled : (bytes : List ℕ) → IsTold Replay bytes c → SpellsNone bytes → IsRead c → IsFreely 5 status
+  pub misspelled : (bytes : List ℕ) (fault : ScriptFault) → IsTold Replay bytes c → IsScriptFault bytes fault → status ≡ 5 → IsSaid (script_message fault) c.err
   pub checked : (bytes : List ℕ) (jobs : List Filed) → IsTold Check bytes c → IsConf bytes jobs → IsSound c → IsFreely 0 status
   pub refused : (bytes : List ℕ) (fault : ConfFault) → IsTold Check bytes c → IsFault bytes fault → IsRead c → IsFreely 4 status
   pub told : (bytes : List ℕ) (fault : ConfFault) → IsTold Check bytes c → IsFault bytes fault → status ≡ 4 → IsSaid (fault_message fault) c.err

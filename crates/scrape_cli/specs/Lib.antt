@@ -2,5 +2,6 @@ pub mod Words
 pub mod Texts
 pub mod Flows
 pub mod Checks
+pub mod Scripts
 pub mod Ends
 pub mod Laws

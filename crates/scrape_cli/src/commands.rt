@@ -54,7 +54,7 @@ fn replay<S: Shelf, O: Sink>(
     };
     let core = match replayed(alloc, bytes.as_slice()) {
         Ok(core) => core,
-        Err(ScriptError::Bad(_)) => return Err(Refusal::NotYet),
+        Err(ScriptError::Bad(fault)) => return Err(Refusal::Script(fault)),
         Err(ScriptError::NoMemory) => return Err(Refusal::NoMemory),
     };
     match print_book(alloc, core.book(), out) {

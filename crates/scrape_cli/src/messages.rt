@@ -1,11 +1,14 @@
 //! Messages of refusals.
+ghost use Rattle.std.specs.Fmt.{decimal};
 ghost use Rattle.std.specs.Prelude.{◌≡◌, ◌++◌, codes, OnOk, OnErr};
 ghost use Rattle.outside.specs.Objects.{used, Took, Cut};
 ghost use Rattle.scrape_cli.specs.Checks as checks;
 ghost use Rattle.scrape_cli.specs.Ends.{IsSaid, message_of};
+ghost use Rattle.scrape_cli.specs.Scripts as scripts;
 
 use crate::refusals::Refusal;
 use itoa::Buffer;
+use journal_text::{ScriptCause, ScriptFault};
 use outside::{Sink, SinkFault};
 use scrape_config::ConfFault;
 
@@ -104,6 +107,39 @@ fn say_fault<E: Sink>(err: &mut E, fault: &ConfFault)
     }
 }
 
+fn cause_word(cause: ScriptCause) -> &'static str
+    ensures { result.now ≡ scripts.cause_word cause }
+{
+    match cause {
+        ScriptCause::Header => "Header",
+        ScriptCause::Line => "Line",
+        ScriptCause::Rest => "Rest",
+        ScriptCause::Order => "Order",
+    }
+}
+
+/// Tries a number and a line feed.
+fn say_number<E: Sink>(err: &mut E, number: u64)
+    ensures { IsSaid (decimal number ++ codes "\n") (used (E.seen err.old) (E.seen err.new)) }
+{
+    let mut buffer = Buffer::new();
+    match err.put(buffer.format(number).as_bytes()) {
+        Ok(()) => say_text(err, b"\n"),
+        Err(_) => {}
+    }
+}
+
+/// Tries the message of a script's fault.
+fn say_script<E: Sink>(err: &mut E, fault: &ScriptFault)
+    ensures { IsSaid (scripts.fault_message fault.now) (used (E.seen err.old) (E.seen err.new)) }
+{
+    let word = cause_word(fault.cause).as_bytes();
+    match put_three(err, b"scrape: script ", word, b" at ") {
+        Ok(()) => say_number(err, fault.offset),
+        Err(_) => {}
+    }
+}
+
 /// Tries the message of a refusal.
 pub fn say<E: Sink>(err: &mut E, file: &str, refusal: &Refusal)
     ensures { IsSaid (message_of file.now refusal.now) (used (E.seen err.old) (E.seen err.new)) }
@@ -112,10 +148,10 @@ pub fn say<E: Sink>(err: &mut E, file: &str, refusal: &Refusal)
         Refusal::BadWords => say_text(err, b"scrape: bad words\n"),
         Refusal::Absent => say_three(err, b"scrape: absent ", file.as_bytes(), b"\n"),
         Refusal::Config(fault) => say_fault(err, fault),
+        Refusal::Script(fault) => say_script(err, fault),
         Refusal::ReadFault => say_text(err, b"scrape: read fault\n"),
         Refusal::WriteFault => say_text(err, b"scrape: write fault\n"),
         Refusal::NoMemory => say_text(err, b"scrape: no memory\n"),
         Refusal::TooLong => say_three(err, b"scrape: too long ", file.as_bytes(), b"\n"),
-        Refusal::NotYet => say_text(err, b"scrape: not yet\n"),
     }
 }

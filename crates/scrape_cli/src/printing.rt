@@ -5,10 +5,10 @@ ghost use Rattle.scrape_cli.specs.Flows.{Flows, Stops};
 ghost use Rattle.scrape_cli.specs.Texts as spec;
 
 use crate::texts::push_line;
+use appender_book::Book;
 use label_set::NoMemory;
 use outside::{Sink, SinkFault};
 use report_samples::Entry;
-use appender_book::Book;
 use std::alloc::Global;
 
 /// A page is put when it has at least so many bytes.

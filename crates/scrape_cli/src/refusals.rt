@@ -1,4 +1,5 @@
 //! Why the program didn't do what it was asked for.
+use journal_text::ScriptFault;
 use scrape_config::ConfFault;
 
 /// Why a command ended without its whole output.
@@ -10,6 +11,8 @@ pub enum Refusal {
     Absent,
     /// The configuration has this fault.
     Config(ConfFault),
+    /// The script is the text of no journal, for this fault.
+    Script(ScriptFault),
     /// Reading the file failed.
     ReadFault,
     /// Writing the output failed.
@@ -18,6 +21,4 @@ pub enum Refusal {
     NoMemory,
     /// The file is longer than its limit.
     TooLong,
-    /// The script isn't of events of the built kinds.
-    NotYet,
 }

@@ -63,11 +63,11 @@ fn status_of(refusal: &Refusal) -> u8
         Refusal::BadWords => 2,
         Refusal::Absent => 3,
         Refusal::Config(_) => 4,
+        Refusal::Script(_) => 5,
         Refusal::ReadFault => 6,
         Refusal::WriteFault => 7,
         Refusal::NoMemory => 8,
         Refusal::TooLong => 9,
-        Refusal::NotYet => 11,
     }
 }
 
@@ -88,10 +88,10 @@ fn status_at(end: &Result<(), Refusal>) -> u8
 /// | 2 | exactly where the words are none of the program's |
 /// | 3 | the shelf has no file of the name, and counted that |
 /// | 4 | `check`: the configuration has a fault, which the message names |
+/// | 5 | `replay`: the file has the text of no journal, for the fault that the message names, with its offset |
 /// | 6, 7 | reading or writing failed, and was counted |
 /// | 8 | memory ran out |
 /// | 9 | the file is longer than its command takes, and the shelf counted that |
-/// | 11 | `replay`: the file has the text of no journal |
 ///
 /// `ended` is that table; the other clauses are what a reader looks for first, and follow from it.
 pub fn tool<S: Shelf, O: Sink, E: Sink>(

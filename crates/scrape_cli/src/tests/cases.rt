@@ -10,6 +10,7 @@
 //! In a part a line `\ 0d ff` stands for the bytes that it names, with no line feed behind them; a line `\` alone takes the line feed
 //! before it away.
 mod bodies;
+mod broken;
 mod checked;
 mod conflicts;
 mod endings;
@@ -31,9 +32,10 @@ use std::str;
 use std::test::Fail;
 
 /// All cases, by subject.
-const TEXTS: [&str; 12] = [
+const TEXTS: [&str; 13] = [
     words::CASES,
     scripts::CASES,
+    broken::CASES,
     reloads::CASES,
     updates::CASES,
     endings::CASES,

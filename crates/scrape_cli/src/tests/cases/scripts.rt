@@ -1,4 +1,4 @@
-//! Scripts: what a scrape appends, series that vanish, and scripts that spell no journal.
+//! Scripts: what a scrape appends, and series that vanish.
 
 pub const CASES: &str = r#"
 == journal_without_events
@@ -252,78 +252,4 @@ x 1
 0 0 report scrape_samples_post_metric_relabeling{instance="a:1",job="j"} 1
 0 0 report scrape_series_added{instance="a:1",job="j"} 1
 -- status 0
-
-== script_of_no_bytes_spells_no_journal
-$ replay s
--- file s
--- err
-scrape: not yet
--- status 11
-
-== script_without_a_head_spells_no_journal
-$ replay s
--- file s
-x 1
--- err
-scrape: not yet
--- status 11
-
-== script_cut_in_its_head_spells_no_journal
-$ replay s
--- file s
-scrape-journal 1
-\
--- err
-scrape: not yet
--- status 11
-
-== script_cut_in_a_configuration_spells_no_journal
-$ replay s
--- file s
-scrape-journal 1
-load 0 76
--- err
-scrape: not yet
--- status 11
-
-== script_cut_in_a_body_spells_no_journal
-$ replay s
--- file s
-scrape-journal 1
-load 0 76
-{"scrape_configs":[{"job_name":"j","static_configs":[{"targets":["a:1"]}]}]}
-sweep 0
-\
--- err
-scrape: not yet
--- status 11
-
-== script_cut_before_its_last_line_feed_spells_no_journal
-$ replay s
--- file s
-scrape-journal 1
-load 0 76
-{"scrape_configs":[{"job_name":"j","static_configs":[{"targets":["a:1"]}]}]}
-sweep 0
-body 15 0 200 8
-x 1
-y 2
--- err
-scrape: not yet
--- status 11
-
-== length_with_a_leading_zero_spells_no_journal
-$ replay s
--- file s
-scrape-journal 1
-load 0 076
-{"scrape_configs":[{"job_name":"j","static_configs":[{"targets":["a:1"]}]}]}
-sweep 0
-body 15 0 200 8
-x 1
-y 2
-
--- err
-scrape: not yet
--- status 11
 "#;
