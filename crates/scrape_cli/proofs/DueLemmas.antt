@@ -101,17 +101,17 @@ module _ (c : Call) where
 
   -- the file of a command that was read has the name in the words
   read_file : (m : Command) (b : List ℕ) (r : Reads m b (work_of c)) → HasFile c.shelf.before (file_in c.words) b
-  read_file m b r = subst (λ (n : List ℕ). HasFile c.shelf.before n b) (sym (asked_file (asking r.file m) r.asked)) r.has
+  read_file m b r = subst (λ (n : List ℕ). HasFile c.shelf.before n b) (sym (asked_file (asking r.kept r.file m) r.asked)) r.has
 
-  words_due : (end : Result (Unit {0}) Refusal) → WorkEnds end (work_of c) → asked_in c.words ≡ None → status_at end ≡ 2
+  words_due : (end : Result (Unit {0}) Refusal) → WorkEnds end (work_of c) → asked_in c.words ≡ None → IsFreely 2 (status_at end)
   words_due (Ok u) w e = absurd (read_asked _ _ e w.prints.asked_for.reads)
-  words_due (Err BadWords) w e = refl
+  words_due (Err BadWords) w e = inl refl
   words_due (Err Absent) w e = absurd (some_asked (asked_in c.words) _ e w.cause)
   words_due (Err (Config f)) w e = absurd (read_asked _ _ e w.cause.1)
   words_due (Err (Script f)) w e = absurd (read_asked _ _ e w.cause.1)
   words_due (Err ReadFault) w e = absurd (is_asked (asked_in c.words) e w.cause)
   words_due (Err WriteFault) w e = absurd (read_asked _ _ e w.cause.asked_for.reads)
-  words_due (Err NoMemory) w e = absurd (is_asked (asked_in c.words) e w.cause)
+  words_due (Err NoMemory) w e = inr refl
   words_due (Err TooLong) w e = absurd (some_asked (asked_in c.words) _ e w.cause)
 
   module _ (a : Asking) (asked : asked_in c.words ≡ Some a) where
@@ -119,7 +119,7 @@ module _ (c : Call) where
     not_none e = absurd cc
 
     asked_command : (m : Command) (b : List ℕ) → Reads m b (work_of c) → a.command ≡ m
-    asked_command m b r = ap (λ (z : Asking). z.command) (asked_same a (asking r.file m) asked r.asked)
+    asked_command m b r = ap (λ (z : Asking). z.command) (asked_same a (asking r.kept r.file m) asked r.asked)
 
     lacks : IsSomeAnd (asked_in c.words) (λ z. LacksFile c.shelf.before z.file) → LacksFile c.shelf.before (file_in c.words)
     lacks h = subst (LacksFile c.shelf.before) (sym (asked_file a asked)) (asked_has (λ z. LacksFile c.shelf.before z.file) a asked h)
@@ -176,16 +176,16 @@ module _ (c : Call) where
   -- a file that is told
   module _ (m : Command) (bytes : List ℕ) (t : IsTold m bytes c) where
     told_command : (n : Command) (b : List ℕ) → Reads n b (work_of c) → m ≡ n
-    told_command n b r = asked_command (asking (file_in c.words) m) t.asked n b r
+    told_command n b r = asked_command (asking t.kept (file_in c.words) m) t.asked n b r
 
     told_bytes : (n : Command) (b : List ℕ) → Reads n b (work_of c) → b ≡ bytes
     told_bytes n b r = same_file c.shelf.before.files (file_in c.words) bytes b t.file (read_file n b r)
 
     told_found : IsSomeAnd (asked_in c.words) (λ z. LacksFile c.shelf.before z.file) → ⊥
-    told_found h = not_lacking c.shelf.before.files (file_in c.words) bytes t.file (lacks (asking (file_in c.words) m) t.asked h)
+    told_found h = not_lacking c.shelf.before.files (file_in c.words) bytes t.file (lacks (asking t.kept (file_in c.words) m) t.asked h)
 
     told_short : IsSomeAnd (asked_in c.words) (λ z. HasLongerFile c.shelf.before z.file (limit_of z.command)) → ⊥
-    told_short h = not_longer c.shelf.before.files (file_in c.words) bytes (limit_of m) t.file (longer (asking (file_in c.words) m) t.asked h) t.short
+    told_short h = not_longer c.shelf.before.files (file_in c.words) bytes (limit_of m) t.file (longer (asking t.kept (file_in c.words) m) t.asked h) t.short
 
     told_asked : asked_in c.words ≡ None → ⊥
     told_asked e = let at = t.asked in absurd cc
@@ -209,7 +209,7 @@ module _ (c : Call) where
     replayed_due s n (Err TooLong) w = absurd (told_short Replay bytes t w.cause)
 
     -- the output of `replay` is that of a journal
-    told_spelled : (m : Command) (b text : List ℕ) → Reads m b (work_of c) → IsOutput m b text → SpellsNone bytes → ⊥
+    told_spelled : (m : Command) (b text : List ℕ) (r : Reads m b (work_of c)) → IsOutput m r.kept b text → SpellsNone bytes → ⊥
     told_spelled Check b text r o none = not_checked b r
     told_spelled Replay b text r o none = none o.0 o.1.journal (o.1.text ∙ told_bytes Replay bytes t Replay b r)
 
@@ -243,7 +243,7 @@ module _ (c : Call) where
     told_fault b found r h = subst (λ (x : List ℕ). IsFault x found) (told_bytes Check bytes t Check b r) h
 
     -- the output of `check` is that of a configuration without a fault
-    told_conf : (n : Command) (b text : List ℕ) → Reads n b (work_of c) → IsOutput n b text → (fault : ConfFault) → IsFault bytes fault → ⊥
+    told_conf : (n : Command) (b text : List ℕ) (r : Reads n b (work_of c)) → IsOutput n r.kept b text → (fault : ConfFault) → IsFault bytes fault → ⊥
     told_conf Replay b text r o fault h = not_replayed b r
     told_conf Check b text r o fault h =
         no_fault (loaded [] bytes) o.0 fault (subst (λ (x : List ℕ). IsConf x o.0) (told_bytes Check bytes t Check b r) o.1) h
@@ -283,9 +283,9 @@ module _ (c : Call) where
 
 pub complete_by : (status : ℕ) (c : Call) → Ended status c → Complete status c
 complete_by status c e = record {
-  words = λ none. e.status_is ∙ words_due c e.end e.work_ends none;
+  words = λ none. freely 2 (words_due c e.end e.work_ends none);
   missing = λ some tells read. at_asked (asked_in c.words) refl some (λ a asked. freely 3 (missing_due c a asked tells read e.end e.work_ends));
-  longer = λ m asked tells read. freely 9 (longer_due c (asking (file_in c.words) m) asked tells read e.end e.work_ends);
+  longer = λ a asked tells read. freely 9 (longer_due c a asked tells read e.end e.work_ends);
   replayed = λ bytes t s sound. freely 0 (replayed_due c bytes t s sound e.end e.work_ends);
   unspelled = λ bytes t s read. freely 5 (unspelled_due c bytes t s read e.end e.work_ends);
   misspelled = λ bytes fault t is five. found_due c bytes t fault is e.end e.work_ends e.speaks (sym e.status_is ∙ five);

@@ -1,12 +1,6 @@
 -- Text that goes on behind text.
-use Rattle.std.proofs.Common.{◌≡◌, ℕ, ◌+◌, ◌<◌, ◌≤◌, List, [], ◌∷◌, ◌++◌, length, take, drop, get_or, subst, refl, sym, ap, ◌∙◌, arith, append_assoc, append-nil}
-use Rattle.std.specs.Prelude.{Option, Some, None, IfSome, slice_get, Result, Ok, Err, OnOk, OnErr}
-use Rattle.std.specs.List.{flat_map}
-use Rattle.std.proofs.lemmas.List.{take_more, take-append-drop, take_all}
-use Rattle.std.proofs.lemmas.Option.{slice_get-get_or, slice_get_within, get_or_from_slice_get}
-use Rattle.std.proofs.lemmas.Grind.{flat_map-append}
-use Rattle.report_samples.specs.declared.entries.Entry.{Entry}
-use Rattle.scrape_cli.specs.Texts.{entry_line}
+use Rattle.std.proofs.Common.{◌≡◌, ℕ, List, [], ◌++◌, subst, refl, sym, ap, ◌∙◌, arith, append_assoc, append-nil}
+use Rattle.std.specs.Prelude.{Option, Some, None, IfSome, Result, Ok, Err, OnOk, OnErr}
 use Rattle.outside.specs.Objects.{SinkSeen, Use, used, Adds, Took, Cut, Rose}
 use Rattle.scrape_cli.specs.Ends.{IsSaid}
 use Rattle.scrape_cli.specs.Flows.{Flows, Stops}
@@ -75,32 +69,7 @@ stops_cut p s u g = record { front = (g.front, g.rest, g.whole, g.put); counted 
 pub flows_took : (p : List ℕ) (s u : SinkSeen) → Flows p [] [] (used s u) → Took p (used s u)
 flows_took p s u f = subst (λ z. Took z (used s u)) (sym (append-nil f.front) ∙ sym f.whole) f.put
 
--- a place within a list has an item
-pub none_past : {X : Type 0} (xs : List X) (i : ℕ) → slice_get xs i ≡ None → i < length xs → ⊥
-none_past [] i e lt = omega arith
-none_past (x ∷ xs) i e lt = let q : None ≡ Some (get_or (x ∷ xs) i x) = sym e ∙ slice_get-get_or (x ∷ xs) i x lt in absurd (cc)
-
--- the text of one more entry
-pub book_more : (xs : List Entry) (i : ℕ) (e : Entry) → slice_get xs i ≡ Some e →
-    flat_map entry_line (take (i + 1) xs) ≡ flat_map entry_line (take i xs) ++ entry_line e
-book_more xs i e at =
-    ap (flat_map entry_line) (take_more xs i e (slice_get_within xs i e at))
-    ∙ (flat_map-append entry_line (take i xs) (get_or xs i e ∷ [])
-    ∙ ap (λ z. flat_map entry_line (take i xs) ++ z) (append-nil (entry_line (get_or xs i e)) ∙ ap entry_line (get_or_from_slice_get xs i e e at)))
-
--- and of those behind it
-book_rest : (xs : List Entry) (n : ℕ) → flat_map entry_line (take n xs) ++ flat_map entry_line (drop n xs) ≡ flat_map entry_line xs
-book_rest xs n = sym (flat_map-append entry_line (take n xs) (drop n xs)) ∙ ap (flat_map entry_line) (take-append-drop n xs)
-
--- a put that fails within the text of a book
-pub cut_book : (xs : List Entry) (i : ℕ) (e : Entry) (b : List ℕ) (s t u : SinkSeen) → slice_get xs i ≡ Some e →
-    Flows (flat_map entry_line (take i xs)) [] b (used s t) → Stops (entry_line e) b (used t u) → Cut (flat_map entry_line xs) (used s u)
-cut_book xs i e b s t u at f g =
-    let one : Stops (flat_map entry_line (take i xs) ++ entry_line e) [] (used s u) = stops_after (flat_map entry_line (take i xs)) (entry_line e) [] b s t u f g in
-    let P : List ℕ → Type 0 = λ z. Stops z [] (used s u) in
-    stops_cut (flat_map entry_line xs) s u
-    (subst P (book_rest xs (i + 1)) (stops_more (flat_map entry_line (take (i + 1) xs)) (flat_map entry_line (drop (i + 1) xs)) [] s u (subst P (sym (book_more xs i e at)) one)))
-
+-- facts of a result, passed on
 pub on_err_map : {A E : Type 0} (r : Result A E) (P Q : Type 0) → (P → Q) → OnErr r P → OnErr r Q
 on_err_map (Ok a) P Q f h = tt
 on_err_map (Err e) P Q f h = f h
@@ -108,30 +77,6 @@ on_err_map (Err e) P Q f h = f h
 pub on_ok_both : {A E : Type 0} (r : Result A E) (P Q R : Type 0) → (P → Q → R) → OnOk r P → OnOk r Q → OnOk r R
 on_ok_both (Ok a) P Q R f h k = f h k
 on_ok_both (Err e) P Q R f h k = tt
-
--- a put that fails behind the last line
-pub cut_end : (xs : List Entry) (n : ℕ) (b : List ℕ) (s t u : SinkSeen) → length xs ≤ n →
-    Flows (flat_map entry_line (take n xs)) [] b (used s t) → Stops [] b (used t u) → Cut (flat_map entry_line xs) (used s u)
-cut_end xs n b s t u h f g =
-    let P : List ℕ → Type 0 = λ z. Stops z [] (used s u) in
-    let one : Stops (flat_map entry_line (take n xs) ++ []) [] (used s u) = stops_after (flat_map entry_line (take n xs)) [] [] b s t u f g in
-    stops_cut (flat_map entry_line xs) s u
-    (subst P (append-nil (flat_map entry_line (take n xs)) ∙ ap (flat_map entry_line) (take_all n xs h)) one)
-
--- all was put behind the last line
-pub took_end : (xs : List Entry) (n : ℕ) (b d : List ℕ) (s t u : SinkSeen) → length xs ≤ n →
-    Flows (flat_map entry_line (take n xs)) [] b (used s t) → Flows [] b d (used t u) → d ≡ [] → Took (flat_map entry_line xs) (used s u)
-took_end xs n b d s t u h f k none =
-    let g : Flows [] b [] (used t u) = subst (λ z. Flows [] b z (used t u)) none k in
-    subst (λ z. Took z (used s u)) (append-nil (flat_map entry_line (take n xs)) ∙ ap (flat_map entry_line) (take_all n xs h))
-    (flows_took (flat_map entry_line (take n xs) ++ []) s u (flows_more (flat_map entry_line (take n xs)) [] [] b [] s t u f g))
-
--- one more entry
-pub flows_entry : (xs : List Entry) (i : ℕ) (e : Entry) (b c : List ℕ) (s t u : SinkSeen) → slice_get xs i ≡ Some e →
-    Flows (flat_map entry_line (take i xs)) [] b (used s t) → Flows (entry_line e) b c (used t u) → Flows (flat_map entry_line (take (i + 1) xs)) [] c (used s u)
-flows_entry xs i e b c s t u at f g =
-    let P : List ℕ → Type 0 = λ z. Flows z [] c (used s u) in
-    subst P (sym (book_more xs i e at)) (flows_more (flat_map entry_line (take i xs)) (entry_line e) [] b c s t u f g)
 
 -- texts one behind the other, of which the first or the second is cut
 pub cut_more : (p q : List ℕ) (u : Use SinkSeen) → Cut p u → Cut (p ++ q) u

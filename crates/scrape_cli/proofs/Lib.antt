@@ -1,4 +1,6 @@
 pub mod FlowLemmas
+pub mod BookLemmas
 pub mod ScriptLemmas
 pub mod EndLemmas
 pub mod DueLemmas
+pub mod WordLemmas

@@ -1,12 +1,12 @@
 -- How a call of the program ends: the one table of its refusals.
-use Rattle.std.specs.Prelude.{◌≡◌, ℕ, ◌≤◌, ⊤, List, ◌++◌, codes, length, Option, Some, None, IsSome, IsSomeAnd, Result, Ok, Err}
+use Rattle.std.specs.Prelude.{◌≡◌, ℕ, ◌≤◌, Bool, ⊤, List, ◌++◌, codes, length, Option, Some, None, IsSome, IsSomeAnd, Result, Ok, Err}
 use Rattle.outside.specs.Objects.{ShelfSeen, SinkSeen, Use, IsUntouched, Rose, HasFile, LacksFile, HasLongerFile, Missed, MetLonger, FailedToRead, Adds, AddsFront, Took, Cut}
 use Rattle.journal_text.specs.declared.events.Event.{Event}
 use Rattle.journal_text.specs.declared.faults.ScriptFault.{ScriptFault}
 use Rattle.journal_text.specs.Faults.{IsJournalOf, IsOnlyFault}
 use Rattle.jobs_in_force.specs.declared.jobs.Filed.{Filed}
 use Rattle.scrape_machine.specs.Machine.{book_of}
-use Rattle.scrape_cli.specs.Texts.{book_text}
+use Rattle.scrape_cli.specs.Texts.{printed}
 use Rattle.scrape_cli.specs.Checks.{IsConf, IsFault, ok_line, fault_message}
 use Rattle.scrape_cli.specs.Scripts.{fault_message as script_message}
 use Rattle.scrape_cli.specs.Words.{Asking, asking, asked_in, file_in, limit_of}
@@ -40,21 +40,22 @@ work_of c = work (asked_in c.words) c.shelf c.out
 -- this command was asked for, and its file has these bytes (where the shelf tells its files), within the limit
 pub record Reads (command : Command) (bytes : List ℕ) (w : Work) : Type 0 where
   pub file : List ℕ
-  pub asked : w.asked ≡ Some (asking file command)
+  pub kept : Bool
+  pub asked : w.asked ≡ Some (asking kept file command)
   pub has : HasFile w.shelf.before file bytes
   pub short : length bytes ≤ limit_of command
 
--- what a command prints for the bytes of its file: the book of the journal that they spell, or the number of jobs
-abbrev pub IsOutput : Command → List ℕ → List ℕ → Type 0
-IsOutput Replay bytes text = (journal : List Event) × IsJournalOf bytes journal × (text ≡ book_text (book_of journal))
-IsOutput Check bytes text = (jobs : List Filed) × IsConf bytes jobs × (text ≡ ok_line (length jobs))
+-- what a command prints for the bytes of its file: the book of the journal that they spell, with verdicts or without, or the number of jobs
+abbrev pub IsOutput : Command → Bool → List ℕ → List ℕ → Type 0
+IsOutput Replay kept bytes text = (journal : List Event) × IsJournalOf bytes journal × (text ≡ printed kept (book_of journal))
+IsOutput Check kept bytes text = (jobs : List Filed) × IsConf bytes jobs × (text ≡ ok_line (length jobs))
 
 -- this is the text that the words ask for
 pub record IsAskedFor (text : List ℕ) (w : Work) : Type 0 where
   pub command : Command
   pub bytes : List ℕ
   pub reads : Reads command bytes w
-  pub output : IsOutput command bytes text
+  pub output : IsOutput command reads.kept bytes text
 
 -- the text that the words ask for was added to the output, every byte of it
 pub record Prints (w : Work) : Type 0 where
@@ -98,7 +99,7 @@ IsCause (Config fault) w = (bytes : List ℕ) × Reads Check bytes w × IsFault 
 IsCause (Script fault) w = (bytes : List ℕ) × Reads Replay bytes w × IsOnlyFault bytes fault
 IsCause ReadFault w = IsSome w.asked
 IsCause WriteFault w = PrintsFront w
-IsCause NoMemory w = IsSome w.asked
+IsCause NoMemory w = ⊤
 IsCause TooLong w = IsSomeAnd w.asked (λ a. HasLongerFile w.shelf.before a.file (limit_of a.command))
 
 -- what it leaves of the shelf: one count risen, of three refusals, and nothing else changed

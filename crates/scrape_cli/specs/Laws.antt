@@ -1,5 +1,5 @@
 -- What follows of a call that ended.
-use Rattle.std.specs.Prelude.{◌≡◌, ◌≢◌, ◌⊎◌, ℕ, ◌<◌, ◌≤◌, List, length, Some, None, IsSome, IsSomeAnd, Ok, Err}
+use Rattle.std.specs.Prelude.{◌≡◌, ◌≢◌, ◌⊎◌, ℕ, ◌<◌, ◌≤◌, Bool, List, length, Some, None, IsSome, IsSomeAnd, Ok, Err}
 use Rattle.outside.specs.Objects.{IsUntouched, Rose, file_of, LacksFile, HasLongerFile, Missed, MetLonger, FailedToRead}
 use Rattle.journal_text.specs.declared.events.Event.{Event}
 use Rattle.journal_text.specs.Events.{IsJournal, journal_text}
@@ -34,7 +34,8 @@ IsStatus status = (status ≡ 0) ⊎ ((r : Refusal) × (status ≡ status_of r))
 
 -- what the words ask for is this, of a file that the shelf tells, within the limit
 pub record IsTold (command : Command) (bytes : List ℕ) (c : Call) : Type 0 where
-  pub asked : asked_in c.words ≡ Some (asking (file_in c.words) command)
+  pub kept : Bool
+  pub asked : asked_in c.words ≡ Some (asking kept (file_in c.words) command)
   pub file : IsSomeAnd c.shelf.before.files (λ files. file_of (file_in c.words) files ≡ Some bytes)
   pub short : length bytes ≤ limit_of command
 
@@ -74,9 +75,9 @@ refused_at Check = 4
 -- which status is due: where the words are others; where the file is told and reading and writing don't fail; where nothing is counted.
 -- Want of memory alone may stand in its place
 pub record Complete (status : ℕ) (c : Call) : Type 0 where
-  pub words : asked_in c.words ≡ None → status ≡ 2
+  pub words : asked_in c.words ≡ None → IsFreely 2 status
   pub missing : IsSome (asked_in c.words) → TellsNone c → IsRead c → IsFreely 3 status
-  pub longer : (m : Command) → asked_in c.words ≡ Some (asking (file_in c.words) m) → TellsLonger m c → IsRead c → IsFreely 9 status
+  pub longer : (a : Asking) → asked_in c.words ≡ Some a → TellsLonger a.command c → IsRead c → IsFreely 9 status
   pub replayed : (bytes : List ℕ) → IsTold Replay bytes c → Spells bytes → IsSound c → IsFreely 0 status
   pub unspelled : (bytes : List ℕ) → IsTold Replay bytes c → SpellsNone bytes → IsRead c → IsFreely 5 status
   pub misspelled : (bytes : List ℕ) (fault : ScriptFault) → IsTold Replay bytes c → IsScriptFault bytes fault → status ≡ 5 → IsSaid (script_message fault) c.err

@@ -1,3 +1,4 @@
+pub mod Arguments
 pub mod Words
 pub mod Texts
 pub mod Flows

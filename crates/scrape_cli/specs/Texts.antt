@@ -1,6 +1,10 @@
 -- The printed book: one line for each entry.
-use Rattle.std.specs.Prelude.{◌≡◌, ◌≤◌, List, [], ◌++◌, ℕ, length, flat_map, slice_get, codes, Option, Some, None}
+use Rattle.std.specs.Prelude.{◌≡◌, ◌≤◌, Bool, true, false, List, [], ◌∷◌, ◌++◌, ℕ, length, flat_map, slice_get, codes, Option, Some, None}
 use Rattle.std.specs.Fmt.{decimal, signed_decimal}
+use Rattle.std.specs.Option.{option_map_or}
+use Rattle.appender_book.specs.Verdicts.{verdict_at, verdict_behind}
+use Rattle.appender_book.specs.declared.verdicts.Verdict.{Verdict}
+use Rattle.appender_book.specs.declared.verdicts.Verdict.TheVariants.{Kept, OutOfOrder, Duplicate, Same}
 use Rattle.label_set.specs.SetText.{set_text}
 use Rattle.report_samples.specs.declared.entries.Kind.{Kind}
 use Rattle.report_samples.specs.declared.entries.Kind.TheVariants.{Scraped, Stale, Report, ReportStale}
@@ -33,6 +37,36 @@ entry_line e = entry_head e ++ entry_tail e
 -- the lines of a book
 abbrev pub book_text : List Entry → List ℕ
 book_text entries = flat_map entry_line entries
+
+-- the verdict and a blank, in front of a line
+abbrev pub verdict_mark : Verdict → List ℕ
+verdict_mark Kept = codes "kept "
+verdict_mark OutOfOrder = codes "outoforder "
+verdict_mark Duplicate = codes "duplicate "
+verdict_mark Same = codes "same "
+
+-- the line of an entry with the verdict in front, where it stands behind these, of which the last comes first
+abbrev pub kept_line : List Entry → Entry → List ℕ
+kept_line earlier e = verdict_mark (verdict_behind earlier e) ++ entry_line e
+
+-- such lines of entries that stand behind these
+unfoldable pub kept_behind : List Entry → List Entry → List ℕ
+kept_behind earlier [] = []
+kept_behind earlier (e ∷ entries) = kept_line earlier e ++ kept_behind (e ∷ earlier) entries
+
+-- the lines of a book with the verdicts in front
+abbrev pub kept_text : List Entry → List ℕ
+kept_text entries = kept_behind [] entries
+
+-- what is printed of a book, with verdicts or without
+abbrev pub printed : Bool → List Entry → List ℕ
+printed false entries = book_text entries
+printed true entries = kept_text entries
+
+-- what stands in front of the line at a place
+abbrev pub mark_at : Bool → List Entry → ℕ → List ℕ
+mark_at false entries place = []
+mark_at true entries place = option_map_or verdict_mark (verdict_at entries place) []
 
 -- no line of these entries is longer than so many bytes
 abbrev pub AreWithin : ℕ → List Entry → Type 0

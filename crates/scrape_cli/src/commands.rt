@@ -1,5 +1,5 @@
 //! The commands of the program.
-ghost use Rattle.std.specs.Prelude.{◌≡◌, ◌≤◌, length, Some, IfOk, IfErr, OnOk};
+ghost use Rattle.std.specs.Prelude.{◌≡◌, ◌≤◌, Bool, length, Some, IfOk, IfErr, OnOk};
 ghost use Rattle.outside.specs.Objects.{SinkSeen, used, HasFile, IsUntouched};
 ghost use Rattle.scrape_cli.specs.Ends.{work, WorkEnds, IsRefused};
 ghost use Rattle.scrape_cli.specs.Words as words;
@@ -26,8 +26,8 @@ fn read_file<S: Shelf>(
     ensures has { IfOk result (λ bytes. HasFile (S.seen shelf.old) file.now bytes) }
     ensures short { IfOk result (λ bytes. length bytes ≤ words.limit_of command) }
     ensures untouched { OnOk result (IsUntouched (used (S.seen shelf.old) (S.seen shelf.new))) }
-    ensures refused { (out : SinkSeen) → IfErr result (λ r. IsRefused r
-        (work (Some (words.asking file.now command)) (used (S.seen shelf.old) (S.seen shelf.new)) (used out out))) }
+    ensures refused { (kept : Bool) (out : SinkSeen) → IfErr result (λ r. IsRefused r
+        (work (Some (words.asking kept file.now command)) (used (S.seen shelf.old) (S.seen shelf.new)) (used out out))) }
 {
     match shelf.read_file(alloc, file, limit_of(command)) {
         Ok(bytes) => Ok(bytes),
@@ -38,15 +38,16 @@ fn read_file<S: Shelf>(
     }
 }
 
-/// Replays a script and prints the book of its journal.
+/// Replays a script and prints the book of its journal, each line with its verdict where that is wanted.
 fn replay<S: Shelf, O: Sink>(
     alloc: Global,
+    kept: bool,
     script: &str,
     shelf: &mut S,
     out: &mut O,
 ) -> Result<(), Refusal>
     ensures { WorkEnds result
-        (work (Some (words.asking script.now Replay)) (used (S.seen shelf.old) (S.seen shelf.new)) (used (O.seen out.old) (O.seen out.new))) }
+        (work (Some (words.asking kept script.now Replay)) (used (S.seen shelf.old) (S.seen shelf.new)) (used (O.seen out.old) (O.seen out.new))) }
 {
     let bytes = match read_file(alloc, Command::Replay, script, shelf) {
         Ok(bytes) => bytes,
@@ -57,7 +58,7 @@ fn replay<S: Shelf, O: Sink>(
         Err(ScriptError::Bad(fault)) => return Err(Refusal::Script(fault)),
         Err(ScriptError::NoMemory) => return Err(Refusal::NoMemory),
     };
-    match print_book(alloc, core.book(), out) {
+    match print_book(alloc, kept, core.book(), out) {
         Ok(()) => Ok(()),
         Err(PrintError::WriteFault) => Err(Refusal::WriteFault),
         Err(PrintError::NoMemory) => Err(Refusal::NoMemory),
@@ -71,8 +72,8 @@ fn check<S: Shelf, O: Sink>(
     shelf: &mut S,
     out: &mut O,
 ) -> Result<(), Refusal>
-    ensures { WorkEnds result
-        (work (Some (words.asking file.now Check)) (used (S.seen shelf.old) (S.seen shelf.new)) (used (O.seen out.old) (O.seen out.new))) }
+    ensures { (kept : Bool) → WorkEnds result
+        (work (Some (words.asking kept file.now Check)) (used (S.seen shelf.old) (S.seen shelf.new)) (used (O.seen out.old) (O.seen out.new))) }
 {
     let bytes = match read_file(alloc, Command::Check, file, shelf) {
         Ok(bytes) => bytes,
@@ -101,7 +102,7 @@ pub fn perform<S: Shelf, O: Sink>(
         (work (Some asked.now) (used (S.seen shelf.old) (S.seen shelf.new)) (used (O.seen out.old) (O.seen out.new))) }
 {
     match asked.command {
-        Command::Replay => replay(alloc, asked.file, shelf, out),
+        Command::Replay => replay(alloc, asked.kept, asked.file, shelf, out),
         Command::Check => check(alloc, asked.file, shelf, out),
     }
 }

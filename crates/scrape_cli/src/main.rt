@@ -5,6 +5,7 @@
 //! `specs/Checks.antt` what is said of a configuration, and `specs/Texts.antt` how a book is printed.
 #![tactic(auto)]
 
+mod arguments;
 mod checks;
 mod commands;
 mod messages;

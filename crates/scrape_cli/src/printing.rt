@@ -4,7 +4,7 @@ ghost use Rattle.outside.specs.Objects.{used, Took, Cut, IsUntouched};
 ghost use Rattle.scrape_cli.specs.Flows.{Flows, Stops};
 ghost use Rattle.scrape_cli.specs.Texts as spec;
 
-use crate::texts::push_line;
+use crate::texts::{push_line, push_marked, verdict_mark};
 use appender_book::Book;
 use label_set::NoMemory;
 use outside::{Sink, SinkFault};
@@ -13,6 +13,9 @@ use std::alloc::Global;
 
 /// A page is put when it has at least so many bytes.
 const PAGE: usize = 65_536;
+
+/// What stands in front of a line has at most so many bytes.
+const MARK: usize = 11;
 
 /// Why a book was not printed.
 #[derive(Clone, Copy, PartialEq, Eq, Debug)]
@@ -77,51 +80,72 @@ fn make_room<O: Sink>(page: &mut Vec<u8>, out: &mut O) -> Result<(), SinkFault>
     }
 }
 
-/// Writes a line on a page that has room for it.
-fn write_line(page: &mut Vec<u8>, entry: &Entry)
-    requires { vec_len page.old + length (spec.entry_line entry.now) ≤ vec_capacity page.old }
-    ensures written { page.new.items ≡ page.old.items ++ spec.entry_line entry.now }
+/// What stands in front of the line at a place: the verdict and a blank, where that is wanted.
+fn mark_at(kept: bool, book: &Book, place: usize) -> &'static str
+    ensures mark { result.now ≡ spec.mark_at kept book.now.entries place }
+    ensures short { length result.now ≤ MARK }
+{
+    if !kept {
+        return "";
+    }
+    match book.verdict(place) {
+        Some(verdict) => verdict_mark(verdict),
+        None => "",
+    }
+}
+
+/// Writes a line behind its mark on a page that has room for both.
+fn write_line(page: &mut Vec<u8>, mark: &str, entry: &Entry)
+    requires { vec_len page.old + (length mark.now + length (spec.entry_line entry.now)) ≤ vec_capacity page.old }
+    ensures written { page.new.items ≡ page.old.items ++ (mark.now ++ spec.entry_line entry.now) }
     ensures capacity { vec_capacity page.old ≤ vec_capacity page.new }
 {
-    match push_line(page, entry) {
+    match push_marked(page, mark, entry) {
         Ok(()) => {}
         Err(_) => unreachable!(),
     }
 }
 
-/// Prints the line of an entry: it goes on the page, which is put before where it is full.
-fn print_line<O: Sink>(page: &mut Vec<u8>, entry: &Entry, out: &mut O) -> Result<(), SinkFault>
-    requires { PAGE + length (spec.entry_line entry.now) ≤ vec_capacity page.old }
-    ensures flows { OnOk result (Flows (spec.entry_line entry.now) page.old.items page.new.items (used (O.seen out.old) (O.seen out.new))) }
-    ensures stops { OnErr result (Stops (spec.entry_line entry.now) page.old.items (used (O.seen out.old) (O.seen out.new))) }
+/// Prints the line of an entry behind its mark: it goes on the page, which is put before where it is full.
+fn print_line<O: Sink>(
+    page: &mut Vec<u8>,
+    mark: &str,
+    entry: &Entry,
+    out: &mut O,
+) -> Result<(), SinkFault>
+    requires { PAGE + (length mark.now + length (spec.entry_line entry.now)) ≤ vec_capacity page.old }
+    ensures flows { OnOk result (Flows (mark.now ++ spec.entry_line entry.now) page.old.items page.new.items (used (O.seen out.old) (O.seen out.new))) }
+    ensures stops { OnErr result (Stops (mark.now ++ spec.entry_line entry.now) page.old.items (used (O.seen out.old) (O.seen out.new))) }
     ensures capacity { vec_capacity page.old ≤ vec_capacity page.new }
 {
     match make_room(page, out) {
         Ok(()) => {
-            write_line(page, entry);
+            write_line(page, mark, entry);
             Ok(())
         }
         Err(fault) => Err(fault),
     }
 }
 
-/// Prints the lines of a book, of which none is longer than `most`.
+/// Prints the lines of a book, of which none is longer than `most` without its mark.
 fn print_pages<O: Sink>(
     page: &mut Vec<u8>,
     most: usize,
+    kept: bool,
     book: &Book,
     out: &mut O,
 ) -> Result<(), SinkFault>
     requires blank { page.old.items ≡ [] }
     requires within { spec.AreWithin most book.now.entries }
-    requires room { PAGE + most ≤ vec_capacity page.old }
-    ensures whole { OnOk result (Took (spec.book_text book.now.entries) (used (O.seen out.old) (O.seen out.new))) }
-    ensures cut { OnErr result (Cut (spec.book_text book.now.entries) (used (O.seen out.old) (O.seen out.new))) }
+    requires room { PAGE + (MARK + most) ≤ vec_capacity page.old }
+    ensures whole { OnOk result (Took (spec.printed kept book.now.entries) (used (O.seen out.old) (O.seen out.new))) }
+    ensures cut { OnErr result (Cut (spec.printed kept book.now.entries) (used (O.seen out.old) (O.seen out.new))) }
 {
     let _most = most;
     for place in 0..book.len() {
         if let Some(entry) = book.entry(place) {
-            match print_line(page, entry, out) {
+            let mark = mark_at(kept, book, place);
+            match print_line(page, mark, entry, out) {
                 Ok(()) => {}
                 Err(fault) => return Err(fault),
             }
@@ -130,16 +154,21 @@ fn print_pages<O: Sink>(
     put_page(page, out)
 }
 
-/// Prints a book. All memory is taken before the first put.
-pub fn print_book<O: Sink>(alloc: Global, book: &Book, out: &mut O) -> Result<(), PrintError>
-    ensures whole { OnOk result (Took (spec.book_text book.now.entries) (used (O.seen out.old) (O.seen out.new))) }
-    ensures cut { IsErrOf result PrintError.WriteFault → Cut (spec.book_text book.now.entries) (used (O.seen out.old) (O.seen out.new)) }
+/// Prints a book, each line with its verdict in front where that is wanted. All memory is taken before the first put.
+pub fn print_book<O: Sink>(
+    alloc: Global,
+    kept: bool,
+    book: &Book,
+    out: &mut O,
+) -> Result<(), PrintError>
+    ensures whole { OnOk result (Took (spec.printed kept book.now.entries) (used (O.seen out.old) (O.seen out.new))) }
+    ensures cut { IsErrOf result PrintError.WriteFault → Cut (spec.printed kept book.now.entries) (used (O.seen out.old) (O.seen out.new)) }
     ensures kept { IsErrOf result PrintError.NoMemory → IsUntouched (used (O.seen out.old) (O.seen out.new)) }
 {
     let most = longest(alloc, book)?;
     let mut page = Vec::new(alloc);
-    page.reserve(PAGE + most).map_err(NoMemory::from)?;
-    match print_pages(&mut page, most, book, out) {
+    page.reserve(PAGE + (MARK + most)).map_err(NoMemory::from)?;
+    match print_pages(&mut page, most, kept, book, out) {
         Ok(()) => Ok(()),
         Err(_) => Err(PrintError::WriteFault),
     }

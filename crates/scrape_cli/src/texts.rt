@@ -2,6 +2,7 @@
 ghost use Rattle.std.specs.Prelude.{◌≡◌, ◌++◌, ◌+◌, ◌<◌, ◌≤◌, length, vec_len, vec_capacity, OnOk, OnErr};
 ghost use Rattle.scrape_cli.specs.Texts as spec;
 
+use appender_book::Verdict;
 use itoa::Buffer;
 use label_set::NoMemory;
 use report_samples::{Entry, Kind};
@@ -25,6 +26,18 @@ fn kind_word(kind: Kind) -> &'static str
         Kind::Stale => "stale",
         Kind::Report => "report",
         Kind::ReportStale => "report-stale",
+    }
+}
+
+/// The verdict and a blank, in front of a line.
+pub fn verdict_mark(verdict: Verdict) -> &'static str
+    ensures { result.now ≡ spec.verdict_mark verdict }
+{
+    match verdict {
+        Verdict::Kept => "kept ",
+        Verdict::OutOfOrder => "outoforder ",
+        Verdict::Duplicate => "duplicate ",
+        Verdict::Same => "same ",
     }
 }
 
@@ -78,4 +91,14 @@ pub fn push_line(text: &mut Vec<u8>, entry: &Entry) -> Result<(), NoMemory>
 {
     push_head(text, entry)?;
     push_tail(text, entry)
+}
+
+/// Appends the line of an entry behind a mark; it fails only where there is no room for both.
+pub fn push_marked(text: &mut Vec<u8>, mark: &str, entry: &Entry) -> Result<(), NoMemory>
+    ensures written { OnOk result (text.new.items ≡ text.old.items ++ (mark.now ++ spec.entry_line entry.now)) }
+    ensures full { OnErr result (vec_capacity text.old < vec_len text.old + (length mark.now + length (spec.entry_line entry.now))) }
+    ensures capacity { vec_capacity text.old ≤ vec_capacity text.new }
+{
+    push(text, mark.as_bytes())?;
+    push_line(text, entry)
 }

@@ -1,14 +1,14 @@
 //! The whole program, over whatever has files and takes bytes.
 ghost use Rattle.std.specs.Prelude.{◌≡◌, ◌≢◌, ℕ, map, string_bytes};
-ghost use Rattle.outside.specs.Objects.{used, IsUntouched};
+ghost use Rattle.outside.specs.Objects.{SinkSeen, Use, used, IsUntouched};
 ghost use Rattle.scrape_cli.specs.Ends as spec;
 ghost use Rattle.scrape_cli.specs.Laws.{Causes, Complete, NoCountFell, IsStatus};
 ghost use Rattle.scrape_cli.specs.Words.{asked_in, file_in};
 
+use crate::arguments::{WordsError, asked_in};
 use crate::commands::perform;
 use crate::messages::say;
 use crate::refusals::Refusal;
-use crate::words::asked_in;
 use outside::{Shelf, Sink};
 use std::alloc::Global;
 
@@ -19,39 +19,48 @@ pub struct Finished {
     pub status: u8,
 }
 
-/// Does what the words say.
-fn run<S: Shelf, O: Sink>(
-    alloc: Global,
-    words: &[String],
-    shelf: &mut S,
-    out: &mut O,
-) -> Result<(), Refusal>
-    ensures { spec.WorkEnds result
-        (spec.work (asked_in (map string_bytes words.now)) (used (S.seen shelf.old) (S.seen shelf.new)) (used (O.seen out.old) (O.seen out.new))) }
-{
-    match asked_in(words) {
-        None => Err(Refusal::BadWords),
-        Some(asked) => perform(alloc, &asked, shelf, out),
-    }
+/// How the work ended, and the name of the file that was asked for; no name where the words were not read.
+#[derive(Drop)]
+struct Ending<'a> {
+    end: Result<(), Refusal>,
+    file: &'a str,
 }
 
-/// The name of the file in the words.
-fn file_in(words: &[String]) -> &str
-    ensures { result.now ≡ file_in (map string_bytes words.now) }
+/// Does what the words say. What is said of its end by the name is what is said by the file in the words.
+fn run<'a, S: Shelf, O: Sink>(
+    alloc: Global,
+    words: &'a [String],
+    shelf: &mut S,
+    out: &mut O,
+) -> Ending<'a>
+    ensures ends { spec.WorkEnds result.end
+        (spec.work (asked_in (map string_bytes words.entry.now)) (used (S.seen shelf.old) (S.seen shelf.new)) (used (O.seen out.old) (O.seen out.new))) }
+    ensures speaks { (err : Use SinkSeen) → spec.Speaks result.end result.file.now err →
+        spec.Speaks result.end (file_in (map string_bytes words.entry.now)) err }
 {
-    match asked_in(words) {
-        None => "",
-        Some(asked) => asked.file,
+    match asked_in(alloc, words) {
+        Ok(asked) => Ending {
+            end: perform(alloc, &asked, shelf, out),
+            file: asked.file,
+        },
+        Err(WordsError::Bad) => Ending {
+            end: Err(Refusal::BadWords),
+            file: "",
+        },
+        Err(WordsError::NoMemory) => Ending {
+            end: Err(Refusal::NoMemory),
+            file: "",
+        },
     }
 }
 
 /// Tells of a refusal.
-fn tell<E: Sink>(err: &mut E, words: &[String], end: &Result<(), Refusal>)
-    ensures { spec.Speaks end.now (file_in (map string_bytes words.now)) (used (E.seen err.old) (E.seen err.new)) }
+fn tell<E: Sink>(err: &mut E, file: &str, end: &Result<(), Refusal>)
+    ensures { spec.Speaks end.now file.now (used (E.seen err.old) (E.seen err.new)) }
 {
     match end {
         Ok(()) => {}
-        Err(refusal) => say(err, file_in(words), refusal),
+        Err(refusal) => say(err, file, refusal),
     }
 }
 
@@ -84,8 +93,8 @@ fn status_at(end: &Result<(), Refusal>) -> u8
 ///
 /// | status | comes |
 /// |---|---|
-/// | 0 | `replay`: the script was replayed and the whole text of its book added to `out`; `check`: the configuration has no fault, and the line with the number of its jobs was added |
-/// | 2 | exactly where the words are none of the program's |
+/// | 0 | `replay`: the script was replayed and the whole text of its book, with verdicts where `--kept` was given, added to `out`; `check`: the configuration has no fault, and the line with the number of its jobs was added |
+/// | 2 | exactly where the words are none of the program's, but for want of memory |
 /// | 3 | the shelf has no file of the name, and counted that |
 /// | 4 | `check`: the configuration has a fault, which the message names |
 /// | 5 | `replay`: the file has the text of no journal, for the fault that the message names, with its offset |
@@ -111,10 +120,10 @@ pub fn tool<S: Shelf, O: Sink, E: Sink>(
     ensures later { NoCountFell (spec.call (map string_bytes words.now)
         (used (S.seen shelf.old) (S.seen shelf.new)) (used (O.seen out.old) (O.seen out.new)) (used (E.seen err.old) (E.seen err.new))) }
 {
-    let end = run(alloc, words, shelf, out);
-    tell(err, words, &end);
+    let ending = run(alloc, words, shelf, out);
+    tell(err, ending.file, &ending.end);
     Finished {
-        status: status_at(&end),
+        status: status_at(&ending.end),
     }
 }
 

@@ -1,5 +1,5 @@
-//! The words of the command line.
-ghost use Rattle.std.specs.Prelude.{◌≡◌, map, string_bytes};
+//! What the program can be asked for.
+ghost use Rattle.std.specs.Prelude.{◌≡◌};
 ghost use Rattle.scrape_cli.specs.Words as spec;
 
 use std::marker::Model;
@@ -13,10 +13,12 @@ pub enum Command {
     Check,
 }
 
-/// A command and the name of its file.
+/// A command with its flag, and the name of its file.
 #[derive(Drop, Debug)]
 pub struct Asked<'a> {
     pub command: Command,
+    /// Whether each line of a book has the verdict in front.
+    pub kept: bool,
     pub file: &'a str,
 }
 
@@ -25,10 +27,11 @@ impl<'a> Model for Asked<'a> {
 
     ghost Value = { Asking };
 
-    ghost view = { λ a. record { command = a.command; file = a.file.now } };
+    ghost view = { λ a. record { command = a.command; kept = a.kept; file = a.file.now } };
 }
 
-fn command_named(word: &str) -> Option<Command>
+/// The command of a word.
+pub fn command_named(word: &str) -> Option<Command>
     ensures { result ≡ spec.command_named word.now }
 {
     if word == "replay" {
@@ -37,22 +40,6 @@ fn command_named(word: &str) -> Option<Command>
         Some(Command::Check)
     } else {
         None
-    }
-}
-
-/// What the words `replay SCRIPT` or `check FILE` ask for; no other words are taken.
-pub fn asked_in(words: &[String]) -> Option<Asked<'_>>
-    ensures { result ≡ spec.asked_in (map string_bytes words.now) }
-{
-    match words {
-        [word, file] => match command_named(word.as_str()) {
-            Some(command) => Some(Asked {
-                command,
-                file: file.as_str(),
-            }),
-            None => None,
-        },
-        _ => None,
     }
 }
 

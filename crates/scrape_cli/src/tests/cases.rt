@@ -15,12 +15,14 @@ mod checked;
 mod conflicts;
 mod endings;
 mod fields;
+mod flags;
 mod limits;
 mod relabelling;
 mod reloads;
 mod scripts;
 mod targets;
 mod updates;
+mod verdicts;
 mod words;
 
 use super::{ROOM, Ran, run_over};
@@ -32,13 +34,15 @@ use std::str;
 use std::test::Fail;
 
 /// All cases, by subject.
-const TEXTS: [&str; 13] = [
+const TEXTS: [&str; 15] = [
     words::CASES,
+    flags::CASES,
     scripts::CASES,
     broken::CASES,
     reloads::CASES,
     updates::CASES,
     endings::CASES,
+    verdicts::CASES,
     bodies::CASES,
     targets::CASES,
     conflicts::CASES,

@@ -1,19 +1,20 @@
 use Rattle.std.proofs.Common.{sym, ap, ◌∙◌, arith}
 use Rattle.std.specs.Option.{option_copied}
-use Rattle.scrape_cli.proofs.FlowLemmas.{none_past, cut_book, cut_end, took_end, flows_entry, on_err_map, on_ok_both}
+use Rattle.scrape_cli.proofs.BookLemmas.{none_past, cut_book, cut_end, took_end, flows_entry}
+use Rattle.scrape_cli.proofs.FlowLemmas.{on_err_map, on_ok_both}
 use Rattle.scrape_cli.proofs.printing.print_pages.Goals.{in-Some+in-Ok, in_default}
 use Rattle.scrape_cli.proofs.printing.print_pages.Goals as goal
 
 pub returns-in-Err-clause-cut : goal.returns-in-Err-clause-cut
 returns-in-Err-clause-cut g c =
-    cut_book c.args.book.now.entries c.loop-place.place c.in-Some.entry.now _ _ _ _ (sym c.in-Some.ensures) c.loop-place.invariant.flows c.in-Err.ensures.stops
+    cut_book c.args.kept c.args.book.now.entries c.loop-place.place c.in-Some.entry.now _ _ _ _ _ (sym c.in-Some.ensures) c.mark_at-mark.ensures.mark c.loop-place.invariant.flows c.in-Err.ensures.stops
 
 pub loop-place-preserved : goal.loop-place-preserved
 loop-place-preserved g c =
     elim c.match-entry.branch [
       | in-Some+in-Ok w ↦
           rw (w.page-is, w.out-is) (record {
-            flows = flows_entry c.args.book.now.entries c.loop-place.place w.in-Some.entry.now _ _ _ _ _ (sym w.in-Some.ensures) c.loop-place.invariant.flows w.in-Ok.ensures.flows;
+            flows = flows_entry c.args.kept c.args.book.now.entries c.loop-place.place w.in-Some.entry.now _ _ _ _ _ _ (sym w.in-Some.ensures) w.mark_at-mark.ensures.mark c.loop-place.invariant.flows w.in-Ok.ensures.flows;
             room = omega (arith, c.loop-place.invariant.room, w.in-Ok.ensures.capacity);
           })
       | in_default w ↦ absurd (none_past c.args.book.now.entries c.loop-place.place (sym c.entry.ensures ∙ ap option_copied w.in_default.is) (omega arith))
@@ -21,9 +22,9 @@ loop-place-preserved g c =
 
 pub returns-clause-whole : goal.returns-clause-whole
 returns-clause-whole g c =
-    on_ok_both _ _ _ _ (took_end c.args.book.now.entries c.loop-place.place _ _ _ _ _ (omega arith) c.loop-place.invariant.flows)
+    on_ok_both _ _ _ _ (took_end c.args.kept c.args.book.now.entries c.loop-place.place _ _ _ _ _ (omega arith) c.loop-place.invariant.flows)
     c.put_page.ensures.flows c.put_page.ensures.clear
 
 pub returns-clause-cut : goal.returns-clause-cut
 returns-clause-cut g c =
-    on_err_map _ _ _ (cut_end c.args.book.now.entries c.loop-place.place _ _ _ _ (omega arith) c.loop-place.invariant.flows) c.put_page.ensures.stops
+    on_err_map _ _ _ (cut_end c.args.kept c.args.book.now.entries c.loop-place.place _ _ _ _ (omega arith) c.loop-place.invariant.flows) c.put_page.ensures.stops

@@ -1,13 +1,12 @@
 use Rattle.std.proofs.Common.{◌≤◌, ◌+◌, [], take, vec_capacity}
-use Rattle.std.specs.List.{flat_map}
 use Rattle.outside.specs.Objects.{used}
-use Rattle.scrape_cli.specs.declared.printing.TheConstants.{PAGE}
-use Rattle.scrape_cli.specs.Texts.{entry_line}
+use Rattle.scrape_cli.specs.declared.printing.TheConstants.{PAGE, MARK}
+use Rattle.scrape_cli.specs.Texts.{printed}
 use Rattle.scrape_cli.specs.Flows.{Flows}
 use Rattle.scrape_cli.proofs.printing.print_pages.Given as goal
 
 abbrev pub invariant-loop-place : goal.invariant-loop-place
 invariant-loop-place g l = record {
-  flows : Flows (flat_map entry_line (take l.place l.book.entries)) [] l.page.items (used (g.O.Sink.seen l.fn.out) (g.O.Sink.seen l.out));
-  room : PAGE + l.most ≤ vec_capacity l.page;
+  flows : Flows (printed l.kept (take l.place l.book.entries)) [] l.page.items (used (g.O.Sink.seen l.fn.out) (g.O.Sink.seen l.out));
+  room : PAGE + (MARK + l.most) ≤ vec_capacity l.page;
 }

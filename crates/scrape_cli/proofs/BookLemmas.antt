@@ -1,0 +1,114 @@
+-- The text of a book, line by line.
+use Rattle.std.proofs.Common.{◌≡◌, ℕ, Bool, true, false, ◌+◌, ◌<◌, ◌≤◌, List, [], ◌∷◌, ◌++◌, length, take, drop, reverse, get_or, subst, refl, sym, ap, ◌∙◌, arith, append_assoc, append-nil}
+use Rattle.std.specs.Prelude.{Option, Some, None, slice_get}
+use Rattle.std.specs.List.{flat_map}
+use Rattle.std.specs.Option.{option_map, option_map_or}
+use Rattle.std.proofs.lemmas.List.{take_more, take-append-drop, take_all, reverse-append}
+use Rattle.std.proofs.lemmas.Option.{slice_get-get_or, slice_get_within, get_or_from_slice_get}
+use Rattle.std.proofs.lemmas.Grind.{flat_map-append}
+use Rattle.report_samples.specs.declared.entries.Entry.{Entry}
+use Rattle.appender_book.specs.Verdicts.{verdict_at, verdict_behind}
+use Rattle.appender_book.specs.declared.verdicts.Verdict.{Verdict}
+use Rattle.outside.specs.Objects.{SinkSeen, Use, used, Took, Cut}
+use Rattle.scrape_cli.specs.Texts.{entry_line, book_text, kept_text, kept_line, kept_behind, printed, mark_at, verdict_mark}
+use Rattle.scrape_cli.specs.Flows.{Flows, Stops}
+use Rattle.scrape_cli.proofs.FlowLemmas.{flows_more, flows_took, stops_after, stops_more, stops_cut}
+
+-- a place within a list has an item
+pub none_past : {X : Type 0} (xs : List X) (i : ℕ) → slice_get xs i ≡ None → i < length xs → ⊥
+none_past [] i e lt = omega arith
+none_past (x ∷ xs) i e lt = let q : None ≡ Some (get_or (x ∷ xs) i x) = sym e ∙ slice_get-get_or (x ∷ xs) i x lt in absurd (cc)
+
+-- one more entry of those that are taken
+one_more : (xs : List Entry) (i : ℕ) (e : Entry) → slice_get xs i ≡ Some e → take (i + 1) xs ≡ take i xs ++ e ∷ []
+one_more xs i e at = take_more xs i e (slice_get_within xs i e at) ∙ ap (λ z. take i xs ++ z ∷ []) (get_or_from_slice_get xs i e e at)
+
+turned : (xs : List Entry) (x : Entry) (earlier : List Entry) → reverse xs ++ x ∷ earlier ≡ reverse (x ∷ xs) ++ earlier
+turned xs x earlier = sym (ap (λ z. z ++ earlier) (reverse-append (x ∷ []) xs) ∙ append_assoc (reverse xs) (x ∷ []) earlier)
+
+-- lines with verdicts, and those behind them
+kept_more : (earlier xs ys : List Entry) → kept_behind earlier (xs ++ ys) ≡ kept_behind earlier xs ++ kept_behind (reverse xs ++ earlier) ys
+unfolding kept_behind
+kept_more earlier [] ys = refl
+kept_more earlier (x ∷ xs) ys =
+    ap (λ z. kept_line earlier x ++ z) (kept_more (x ∷ earlier) xs ys ∙ ap (λ z. kept_behind (x ∷ earlier) xs ++ kept_behind z ys) (turned xs x earlier))
+    ∙ sym (append_assoc (kept_line earlier x) (kept_behind (x ∷ earlier) xs) (kept_behind (reverse (x ∷ xs) ++ earlier) ys))
+
+verdict_here : (xs : List Entry) (i : ℕ) (e : Entry) → slice_get xs i ≡ Some e → verdict_at xs i ≡ Some (verdict_behind (reverse (take i xs)) e)
+unfolding verdict_at
+verdict_here xs i e at = ap (option_map (verdict_behind (reverse (take i xs)))) at
+
+kept_one : (earlier : List Entry) (e : Entry) → kept_behind earlier (e ∷ []) ≡ kept_line earlier e
+unfolding kept_behind
+kept_one earlier e = append-nil (kept_line earlier e)
+
+marked : (xs : List Entry) (i : ℕ) (e : Entry) → slice_get xs i ≡ Some e → kept_line (reverse (take i xs) ++ []) e ≡ mark_at true xs i ++ entry_line e
+marked xs i e at =
+    ap (λ (z : List Entry). kept_line z e) (append-nil (reverse (take i xs)))
+    ∙ sym (ap (λ (v : Option Verdict). option_map_or verdict_mark v [] ++ entry_line e) (verdict_here xs i e at))
+
+-- nothing is printed of no entries
+pub printed_none : (kept : Bool) → printed kept [] ≡ []
+unfolding kept_behind
+printed_none false = refl
+printed_none true = refl
+
+-- the text of one more entry
+line_more : (kept : Bool) (xs : List Entry) (i : ℕ) (e : Entry) → slice_get xs i ≡ Some e →
+    printed kept (take (i + 1) xs) ≡ printed kept (take i xs) ++ (mark_at kept xs i ++ entry_line e)
+line_more false xs i e at =
+    ap book_text (one_more xs i e at)
+    ∙ (flat_map-append entry_line (take i xs) (e ∷ []) ∙ ap (λ z. book_text (take i xs) ++ z) (append-nil (entry_line e)))
+line_more true xs i e at =
+    ap kept_text (one_more xs i e at)
+    ∙ (kept_more [] (take i xs) (e ∷ []) ∙ ap (λ z. kept_text (take i xs) ++ z) (kept_one (reverse (take i xs) ++ []) e ∙ marked xs i e at))
+
+-- and of those behind it
+text_behind : Bool → List Entry → ℕ → List ℕ
+text_behind false xs n = book_text (drop n xs)
+text_behind true xs n = kept_behind (reverse (take n xs) ++ []) (drop n xs)
+
+book_rest : (kept : Bool) (xs : List Entry) (n : ℕ) → printed kept (take n xs) ++ text_behind kept xs n ≡ printed kept xs
+book_rest false xs n = sym (flat_map-append entry_line (take n xs) (drop n xs)) ∙ ap book_text (take-append-drop n xs)
+book_rest true xs n = sym (kept_more [] (take n xs) (drop n xs)) ∙ ap kept_text (take-append-drop n xs)
+
+module _ (kept : Bool) (xs : List Entry) where
+  pub book_more : (i : ℕ) (e : Entry) (mark : List ℕ) → slice_get xs i ≡ Some e → mark ≡ mark_at kept xs i →
+      printed kept (take (i + 1) xs) ≡ printed kept (take i xs) ++ (mark ++ entry_line e)
+  book_more i e mark at is = line_more kept xs i e at ∙ ap (λ z. printed kept (take i xs) ++ (z ++ entry_line e)) (sym is)
+
+  -- nothing stands on the page, and nothing was put
+  pub flows_start : (b c : List ℕ) (s t : SinkSeen) → Flows [] b c (used s t) → Flows (printed kept (take 0 xs)) b c (used s t)
+  flows_start b c s t f = subst (λ (z : List ℕ). Flows z b c (used s t)) (sym (printed_none kept)) f
+
+  -- a put that fails within the text of a book
+  pub cut_book : (i : ℕ) (e : Entry) (mark b : List ℕ) (s t u : SinkSeen) → slice_get xs i ≡ Some e → mark ≡ mark_at kept xs i →
+      Flows (printed kept (take i xs)) [] b (used s t) → Stops (mark ++ entry_line e) b (used t u) → Cut (printed kept xs) (used s u)
+  cut_book i e mark b s t u at is f g =
+      let one : Stops (printed kept (take i xs) ++ (mark ++ entry_line e)) [] (used s u) = stops_after (printed kept (take i xs)) (mark ++ entry_line e) [] b s t u f g in
+      let P : List ℕ → Type 0 = λ z. Stops z [] (used s u) in
+      stops_cut (printed kept xs) s u
+      (subst P (book_rest kept xs (i + 1)) (stops_more (printed kept (take (i + 1) xs)) (text_behind kept xs (i + 1)) [] s u (subst P (sym (book_more i e mark at is)) one)))
+
+  -- a put that fails behind the last line
+  pub cut_end : (n : ℕ) (b : List ℕ) (s t u : SinkSeen) → length xs ≤ n →
+      Flows (printed kept (take n xs)) [] b (used s t) → Stops [] b (used t u) → Cut (printed kept xs) (used s u)
+  cut_end n b s t u h f g =
+      let P : List ℕ → Type 0 = λ z. Stops z [] (used s u) in
+      let one : Stops (printed kept (take n xs) ++ []) [] (used s u) = stops_after (printed kept (take n xs)) [] [] b s t u f g in
+      stops_cut (printed kept xs) s u (subst P (append-nil (printed kept (take n xs)) ∙ ap (printed kept) (take_all n xs h)) one)
+
+  -- all was put behind the last line
+  pub took_end : (n : ℕ) (b d : List ℕ) (s t u : SinkSeen) → length xs ≤ n →
+      Flows (printed kept (take n xs)) [] b (used s t) → Flows [] b d (used t u) → d ≡ [] → Took (printed kept xs) (used s u)
+  took_end n b d s t u h f k none =
+      let g : Flows [] b [] (used t u) = subst (λ (z : List ℕ). Flows [] b z (used t u)) none k in
+      subst (λ (z : List ℕ). Took z (used s u)) (append-nil (printed kept (take n xs)) ∙ ap (printed kept) (take_all n xs h))
+      (flows_took (printed kept (take n xs) ++ []) s u (flows_more (printed kept (take n xs)) [] [] b [] s t u f g))
+
+  -- one more entry
+  pub flows_entry : (i : ℕ) (e : Entry) (mark b c : List ℕ) (s t u : SinkSeen) → slice_get xs i ≡ Some e → mark ≡ mark_at kept xs i →
+      Flows (printed kept (take i xs)) [] b (used s t) → Flows (mark ++ entry_line e) b c (used t u) → Flows (printed kept (take (i + 1) xs)) [] c (used s u)
+  flows_entry i e mark b c s t u at is f g =
+      let P : List ℕ → Type 0 = λ z. Flows z [] c (used s u) in
+      subst P (sym (book_more i e mark at is)) (flows_more (printed kept (take i xs)) (mark ++ entry_line e) [] b c s t u f g)

@@ -1,0 +1,79 @@
+-- What `clap` makes of the words, in the words of the definitions.
+use Rattle.std.proofs.Common.{◌≡◌, ◌≢◌, ◌∙◌, refl, sym, ap, true, subst, ⊎_elim, List, ℕ, [], ◌∷◌}
+use Rattle.std.specs.Prelude.{Option, Some, None}
+use Rattle.clap.specs.Words.{App, Text, Row, HasMatchesOf, found_of, rows_of, kind_of, first_of, is_simple, matches_of}
+use Rattle.clap.specs.Kinds.{Kinds, IsAmong, HasKind}
+use Rattle.clap.specs.Faults.{is_simple_and_free, fault_of}
+use Rattle.clap.specs.declared.error.Error.{Error}
+use Rattle.clap.specs.declared.error.kind.ErrorKind.TheVariants.{OutOfMemory}
+use Rattle.clap.specs.declared.parser.matches.ArgMatches.{ArgMatches}
+use Rattle.clap.proofs.OnLiterals.{clap_on_literals}
+use Rattle.scrape_cli.specs.Arguments.{replay_app, check_app, app_for, fault_in, rows_in, file_id}
+use Rattle.scrape_cli.specs.Words.{Asking, asking, asked_of, asking_by, unless_refused, is_kept}
+use Rattle.scrape_cli.specs.declared.words.Command.{Command}
+use Rattle.scrape_cli.specs.declared.words.Command.TheVariants.{Replay, Check}
+
+free_replay : is_simple_and_free replay_app ≡ true
+unfolding replay_app clap_on_literals
+free_replay = refl
+
+free_check : is_simple_and_free check_app ≡ true
+unfolding check_app clap_on_literals
+free_check = refl
+
+simple_replay : is_simple replay_app ≡ true
+unfolding replay_app clap_on_literals
+simple_replay = refl
+
+simple_check : is_simple check_app ≡ true
+unfolding check_app clap_on_literals
+simple_check = refl
+
+is_free : (command : Command) → is_simple_and_free (app_for command) ≡ true
+is_free Replay = free_replay
+is_free Check = free_check
+
+has_simple : (command : Command) → is_simple (app_for command) ≡ true
+has_simple Replay = simple_replay
+has_simple Check = simple_check
+
+module _ (command : Command) (words : List Text) (app : App) (is : app ≡ app_for command) where
+  -- words that are taken have no fault
+  pub sound_by : (is_simple_and_free app ≡ true → fault_of app words ≡ []) → fault_in command words ≡ []
+  unfolding fault_in
+  sound_by h = subst (λ (a : App). is_simple_and_free a ≡ true → fault_of a words ≡ []) is h (is_free command)
+
+  -- and the values of the grammar
+  pub rows_by : (m : ArgMatches) → HasMatchesOf app words m → rows_of (found_of m) ≡ rows_in command words
+  unfolding rows_in
+  rows_by m h = (subst (λ (a : App). HasMatchesOf a words m) is h (has_simple command)).0
+
+  -- words that are refused have a fault, unless memory ran out
+  pub refused_by : (e : Error) → (is_simple_and_free app ≡ true → HasKind (fault_of app words) e) → kind_of e ≢ OutOfMemory → fault_in command words ≢ []
+  unfolding fault_in
+  refused_by e h other none =
+      ⊎_elim (λ memory. other memory) (λ among. subst (λ (ks : Kinds). IsAmong (kind_of e) ks) none among)
+      (subst (λ (a : App). is_simple_and_free a ≡ true → HasKind (fault_of a words) e) is h (is_free command))
+
+-- what is asked for by values
+unless_none : (kinds : Kinds) (asked : Option Asking) → kinds ≢ [] → unless_refused kinds asked ≡ None
+unless_none [] asked some = absurd (some refl)
+unless_none (k ∷ kinds) asked some = refl
+
+module _ (command : Command) (words : List Text) where
+  pub asked_none : fault_in command words ≢ [] → asked_of command words ≡ None
+  unfolding asked_of
+  asked_none h = unless_none (fault_in command words) (asking_by command (rows_in command words)) h
+
+  module _ (sound : fault_in command words ≡ []) (rows : List Row) (are : rows ≡ rows_in command words) where
+    pub asked_is : asked_of command words ≡ asking_by command rows
+    unfolding asked_of
+    asked_is =
+        ap (λ (ks : Kinds). unless_refused ks (asking_by command (rows_in command words))) sound
+        ∙ ap (asking_by command) (sym are)
+
+pub asking_some : (command : Command) (rows : List Row) (file : List ℕ) → Some file ≡ first_of file_id rows → asking_by command rows ≡ Some (asking (is_kept rows) file command)
+asking_some command rows file is = rw ← is refl
+
+pub asking_none : (command : Command) (rows : List Row) → None ≡ first_of file_id rows → asking_by command rows ≡ None
+asking_none command rows is = rw ← is refl

@@ -1,0 +1,12 @@
+use Rattle.std.specs.Prelude.{map, string_bytes}
+use Rattle.clap.specs.Words.{app_of}
+use Rattle.scrape_cli.proofs.WordLemmas.{sound_by, rows_by, refused_by}
+use Rattle.scrape_cli.proofs.arguments.matches_in.Goals as goal
+
+pub returns-in-Ok-clause-sound : goal.returns-in-Ok-clause-sound
+returns-in-Ok-clause-sound c =
+    sound_by c.args.command (map string_bytes c.args.words.now) (app_of c.in_ok-grammar.grammar) c.in_ok-grammar.ensures c.in-Ok.ensures.kinds
+
+pub returns-in-Ok-clause-rows : goal.returns-in-Ok-clause-rows
+returns-in-Ok-clause-rows c =
+    rows_by c.args.command (map string_bytes c.args.words.now) (app_of c.in_ok-grammar.grammar) c.in_ok-grammar.ensures c.in-Ok.matches c.in-Ok.ensures.matches
