@@ -107,6 +107,14 @@ said_after p q s t u a m =
       later = omega (arith, later, sound);
     }
 
+-- a text under another name, and a message behind it
+module _ (p text q : List ℕ) (is : p ≡ text) where
+  pub said_then : (s t u : SinkSeen) → Took p (used s t) → IsSaid q (used t u) → IsSaid (text ++ q) (used s u)
+  said_then s t u took said = subst (λ z. IsSaid (z ++ q) (used s u)) is (said_after p q s t u took said)
+
+  pub cut_then : (u : Use SinkSeen) → Cut p u → IsSaid (text ++ q) u
+  cut_then u c = subst (λ z. IsSaid (z ++ q) u) is (said_cut (p ++ q) u (cut_more p q u c))
+
 -- three texts and a fourth behind them
 pub three_then : (a b c d : List ℕ) → (a ++ (b ++ c)) ++ d ≡ a ++ (b ++ (c ++ d))
 three_then a b c d = append_assoc a (b ++ c) d ∙ ap (λ z. a ++ z) (append_assoc b c d)

@@ -1,15 +1,18 @@
 -- What `clap` makes of the words, in the words of the definitions.
 use Rattle.std.proofs.Common.{◌≡◌, ◌≢◌, ◌∙◌, refl, sym, ap, true, subst, ⊎_elim, List, ℕ, [], ◌∷◌}
-use Rattle.std.specs.Prelude.{Option, Some, None}
-use Rattle.clap.specs.Words.{App, Text, Row, HasMatchesOf, found_of, rows_of, kind_of, first_of, is_simple, matches_of}
+use Rattle.std.specs.Prelude.{Bool, false, Option, Some, None, codes}
+use Rattle.std.specs.Option.{option_map_or}
+use Rattle.std.specs.Str.{bytes_eq}
+use Rattle.clap.specs.Words.{App, Text, Row, HasMatchesOf, found_of, rows_of, kind_of, first_of, first_value, is_simple, matches_of}
 use Rattle.clap.specs.Kinds.{Kinds, IsAmong, HasKind}
 use Rattle.clap.specs.Faults.{is_simple_and_free, fault_of}
 use Rattle.clap.specs.declared.error.Error.{Error}
 use Rattle.clap.specs.declared.error.kind.ErrorKind.TheVariants.{OutOfMemory}
 use Rattle.clap.specs.declared.parser.matches.ArgMatches.{ArgMatches}
 use Rattle.clap.proofs.OnLiterals.{clap_on_literals}
-use Rattle.scrape_cli.specs.Arguments.{replay_app, check_app, app_for, fault_in, rows_in, file_id}
-use Rattle.scrape_cli.specs.Words.{Asking, asking, asked_of, asking_by, unless_refused, is_kept}
+use Rattle.clap.proofs.WalkLemmas.{first_value-rows}
+use Rattle.scrape_cli.specs.Arguments.{replay_app, check_app, app_for, fault_in, rows_in, kept_id, file_id}
+use Rattle.scrape_cli.specs.Words.{Asking, asking, asked_of, asked_in, file_in, asking_by, unless_refused, is_kept}
 use Rattle.scrape_cli.specs.declared.words.Command.{Command}
 use Rattle.scrape_cli.specs.declared.words.Command.TheVariants.{Replay, Check}
 
@@ -54,6 +57,20 @@ module _ (command : Command) (words : List Text) (app : App) (is : app ≡ app_f
   refused_by e h other none =
       ⊎_elim (λ memory. other memory) (λ among. subst (λ (ks : Kinds). IsAmong (kind_of e) ks) none among)
       (subst (λ (a : App). is_simple_and_free a ≡ true → HasKind (fault_of a words) e) is h (is_free command))
+
+-- the flag and the file, as the matches have them
+abbrev is_true : Option (List ℕ) → Bool
+is_true value = option_map_or (λ (v : List ℕ). bytes_eq v (codes "true")) value false
+
+pub kept_by : (m : ArgMatches) (value : Option (List ℕ)) → value ≡ first_value (found_of m) kept_id → is_true value ≡ is_kept (rows_of (found_of m))
+kept_by m value is = ap is_true (is ∙ first_value-rows (found_of m) kept_id)
+
+pub file_by : (m : ArgMatches) (value : Option (List ℕ)) → value ≡ first_value (found_of m) file_id → value ≡ first_of file_id (rows_of (found_of m))
+file_by m value is = is ∙ first_value-rows (found_of m) file_id
+
+-- the name of the file that is asked for
+pub file_asked : (words : List Text) (a : Asking) → asked_in words ≡ Some a → a.file ≡ file_in words
+file_asked words a is = sym (ap (λ (o : Option Asking). option_map_or (λ (b : Asking). b.file) o []) is)
 
 -- what is asked for by values
 unless_none : (kinds : Kinds) (asked : Option Asking) → kinds ≢ [] → unless_refused kinds asked ≡ None

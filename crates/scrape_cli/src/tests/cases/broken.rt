@@ -1,7 +1,7 @@
 //! Scripts that are the text of no journal: why, and where.
 
 pub const CASES: &str = r#"
-== no_bytes
+== script_of_no_bytes
 $ replay s
 -- file s
 -- err
