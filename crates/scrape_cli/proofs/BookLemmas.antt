@@ -12,7 +12,7 @@ use Rattle.appender_book.specs.declared.verdicts.Verdict.{Verdict}
 use Rattle.outside.specs.Objects.{SinkSeen, Use, used, Took, Cut}
 use Rattle.scrape_cli.specs.Texts.{entry_line, book_text, kept_text, kept_line, kept_behind, printed, mark_at, verdict_mark}
 use Rattle.scrape_cli.specs.Flows.{Flows, Stops}
-use Rattle.scrape_cli.proofs.FlowLemmas.{flows_more, flows_took, stops_after, stops_more, stops_cut}
+use Rattle.scrape_cli.proofs.FlowLemmas.{flows_none, flows_more, flows_took, stops_after, stops_more, stops_cut}
 
 -- a place within a list has an item
 pub none_past : {X : Type 0} (xs : List X) (i : ℕ) → slice_get xs i ≡ None → i < length xs → ⊥
@@ -64,7 +64,7 @@ line_more true xs i e at =
     ∙ (kept_more [] (take i xs) (e ∷ []) ∙ ap (λ z. kept_text (take i xs) ++ z) (kept_one (reverse (take i xs) ++ []) e ∙ marked xs i e at))
 
 -- and of those behind it
-text_behind : Bool → List Entry → ℕ → List ℕ
+abbrev text_behind : Bool → List Entry → ℕ → List ℕ
 text_behind false xs n = book_text (drop n xs)
 text_behind true xs n = kept_behind (reverse (take n xs) ++ []) (drop n xs)
 
@@ -78,8 +78,10 @@ module _ (kept : Bool) (xs : List Entry) where
   book_more i e mark at is = line_more kept xs i e at ∙ ap (λ z. printed kept (take i xs) ++ (z ++ entry_line e)) (sym is)
 
   -- nothing stands on the page, and nothing was put
-  pub flows_start : (b c : List ℕ) (s t : SinkSeen) → Flows [] b c (used s t) → Flows (printed kept (take 0 xs)) b c (used s t)
-  flows_start b c s t f = subst (λ (z : List ℕ). Flows z b c (used s t)) (sym (printed_none kept)) f
+  pub flows_start : (page : List ℕ) (s : SinkSeen) → page ≡ [] → Flows (printed kept []) [] page (used s s)
+  flows_start page s blank =
+      subst (λ (z : List ℕ). Flows (printed kept []) [] z (used s s)) (sym blank)
+      (subst (λ (z : List ℕ). Flows z [] [] (used s s)) (sym (printed_none kept)) (flows_none [] s))
 
   -- a put that fails within the text of a book
   pub cut_book : (i : ℕ) (e : Entry) (mark b : List ℕ) (s t u : SinkSeen) → slice_get xs i ≡ Some e → mark ≡ mark_at kept xs i →

@@ -67,30 +67,3 @@ kept_by m value is = ap is_true (is ∙ first_value-rows (found_of m) kept_id)
 
 pub file_by : (m : ArgMatches) (value : Option (List ℕ)) → value ≡ first_value (found_of m) file_id → value ≡ first_of file_id (rows_of (found_of m))
 file_by m value is = is ∙ first_value-rows (found_of m) file_id
-
--- the name of the file that is asked for
-pub file_asked : (words : List Text) (a : Asking) → asked_in words ≡ Some a → a.file ≡ file_in words
-file_asked words a is = sym (ap (λ (o : Option Asking). option_map_or (λ (b : Asking). b.file) o []) is)
-
--- what is asked for by values
-unless_none : (kinds : Kinds) (asked : Option Asking) → kinds ≢ [] → unless_refused kinds asked ≡ None
-unless_none [] asked some = absurd (some refl)
-unless_none (k ∷ kinds) asked some = refl
-
-module _ (command : Command) (words : List Text) where
-  pub asked_none : fault_in command words ≢ [] → asked_of command words ≡ None
-  unfolding asked_of
-  asked_none h = unless_none (fault_in command words) (asking_by command (rows_in command words)) h
-
-  module _ (sound : fault_in command words ≡ []) (rows : List Row) (are : rows ≡ rows_in command words) where
-    pub asked_is : asked_of command words ≡ asking_by command rows
-    unfolding asked_of
-    asked_is =
-        ap (λ (ks : Kinds). unless_refused ks (asking_by command (rows_in command words))) sound
-        ∙ ap (asking_by command) (sym are)
-
-pub asking_some : (command : Command) (rows : List Row) (file : List ℕ) → Some file ≡ first_of file_id rows → asking_by command rows ≡ Some (asking (is_kept rows) file command)
-asking_some command rows file is = rw ← is refl
-
-pub asking_none : (command : Command) (rows : List Row) → None ≡ first_of file_id rows → asking_by command rows ≡ None
-asking_none command rows is = rw ← is refl

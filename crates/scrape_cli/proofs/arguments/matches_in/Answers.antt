@@ -1,3 +1,4 @@
+use Rattle.std.proofs.Common.{◌∙◌}
 use Rattle.std.specs.Prelude.{map, string_bytes}
 use Rattle.clap.specs.Words.{app_of}
 use Rattle.scrape_cli.proofs.WordLemmas.{sound_by, rows_by, refused_by}
@@ -10,3 +11,11 @@ returns-in-Ok-clause-sound c =
 pub returns-in-Ok-clause-rows : goal.returns-in-Ok-clause-rows
 returns-in-Ok-clause-rows c =
     rows_by c.args.command (map string_bytes c.args.words.now) (app_of c.in_ok-grammar.grammar) c.in_ok-grammar.ensures c.in-Ok.matches c.in-Ok.ensures.matches
+
+pub returns : goal.returns
+returns c = record {
+  sound = tt;
+  rows = tt;
+  refused = λ _. refused_by c.args.command (map string_bytes c.args.words.now) (app_of c.in_ok-grammar.grammar) c.in_ok-grammar.ensures
+      c.in-Err.error c.in-Err.ensures.kinds (λ memory. c.in_default.not-OutOfMemory (c.kind.ensures ∙ memory));
+}
