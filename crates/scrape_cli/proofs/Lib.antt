@@ -4,3 +4,4 @@ pub mod ScriptLemmas
 pub mod EndLemmas
 pub mod DueLemmas
 pub mod WordLemmas
+pub mod PrintLemmas

@@ -1,6 +1,6 @@
 -- What `clap` makes of the words, in the words of the definitions.
 use Rattle.std.proofs.Common.{◌≡◌, ◌≢◌, ◌∙◌, refl, sym, ap, true, subst, ⊎_elim, List, ℕ, [], ◌∷◌}
-use Rattle.std.specs.Prelude.{Bool, false, Option, Some, None, codes}
+use Rattle.std.specs.Prelude.{Bool, false, Option, Some, None, option_map, codes}
 use Rattle.std.specs.Option.{option_map_or}
 use Rattle.std.specs.Str.{bytes_eq}
 use Rattle.clap.specs.Words.{App, Text, Row, HasMatchesOf, found_of, rows_of, kind_of, first_of, first_value, is_simple, matches_of}
@@ -67,3 +67,32 @@ kept_by m value is = ap is_true (is ∙ first_value-rows (found_of m) kept_id)
 
 pub file_by : (m : ArgMatches) (value : Option (List ℕ)) → value ≡ first_value (found_of m) file_id → value ≡ first_of file_id (rows_of (found_of m))
 file_by m value is = is ∙ first_value-rows (found_of m) file_id
+
+-- what is asked for by values
+unless_none : (kinds : Kinds) (asked : Option Asking) → kinds ≢ [] → unless_refused kinds asked ≡ None
+unless_none [] asked some = absurd (some refl)
+unless_none (k ∷ kinds) asked some = refl
+
+module _ (command : Command) (words : List Text) where
+  pub asked_none : fault_in command words ≢ [] → asked_of command words ≡ None
+  unfolding asked_of
+  asked_none h = unless_none (fault_in command words) (asking_by command (rows_in command words)) h
+
+  pub asked_is : (rows : List Row) → fault_in command words ≡ [] → rows ≡ rows_in command words → asked_of command words ≡ asking_by command rows
+  unfolding asked_of
+  asked_is rows sound are =
+      ap (λ (ks : Kinds). unless_refused ks (asking_by command (rows_in command words))) sound ∙ ap (asking_by command) (sym are)
+
+module _ (command : Command) (rows : List Row) where
+  abbrev of_file : Option (List ℕ) → Option Asking
+  of_file file = option_map (λ (f : List ℕ). asking (is_kept rows) f command) file
+
+  pub asking_some : (file : List ℕ) (kept : Bool) → Some file ≡ first_of file_id rows → kept ≡ is_kept rows → asking_by command rows ≡ Some (asking kept file command)
+  asking_some file kept is flag = sym (ap of_file is) ∙ ap (λ (k : Bool). Some (asking k file command)) (sym flag)
+
+  pub asking_none : None ≡ first_of file_id rows → asking_by command rows ≡ None
+  asking_none is = sym (ap of_file is)
+
+-- the name of the file that is asked for
+pub file_asked : (words : List Text) (a : Asking) → asked_in words ≡ Some a → a.file ≡ file_in words
+file_asked words a is = sym (ap (λ (o : Option Asking). option_map_or (λ (b : Asking). b.file) o []) is)
