@@ -1,6 +1,12 @@
 //! The whole program, over whatever has files and takes bytes.
-ghost use Rattle.std.specs.Prelude.{◌≡◌, ◌≢◌, ℕ, map, string_bytes};
+ghost use Rattle.std.specs.Prelude.{◌≡◌, ◌≢◌, ℕ, List, map, string_bytes};
+ghost use Rattle.label_set.specs.declared.texts.Pair.{Pair};
+ghost use Rattle.journal_text.specs.declared.events.Event.{Event};
 ghost use Rattle.outside.specs.Objects.{SinkSeen, Use, used, IsUntouched};
+ghost use Rattle.scrape_machine.specs.Machine.{World};
+ghost use Rattle.scrape_laws.specs.Markers.{MarkerLaw};
+ghost use Rattle.scrape_laws.specs.Runs.{ClosedRunsLaw};
+ghost use Rattle.scrape_laws.specs.Late.{LateLaw};
 ghost use Rattle.scrape_cli.specs.Ends as spec;
 ghost use Rattle.scrape_cli.specs.Laws.{Causes, Complete, NoCountFell, IsStatus};
 ghost use Rattle.scrape_cli.specs.Words.{asked_in, file_in};
@@ -10,6 +16,7 @@ use crate::commands::perform;
 use crate::messages::say;
 use crate::refusals::Refusal;
 use outside::{Shelf, Sink};
+use scrape_laws::laws::{closed_runs, late, markers};
 use std::alloc::Global;
 
 /// What the program ended with.
@@ -102,7 +109,9 @@ fn status_at(end: &Result<(), Refusal>) -> u8
 /// | 8 | memory ran out |
 /// | 9 | the file is longer than its command takes, and the shelf counted that |
 ///
-/// `ended` is that table; the other clauses are what a reader looks for first, and follow from it.
+/// `ended` is that table; `printed`, `unwritten`, `complete` and `later` are what a reader looks for first, and follow from it.
+/// `markers`, `closed_runs` and `late` hold of every journal, so of the one that a script spells: in the book that is printed each closed run of a tracked series
+/// has exactly one stale marker, after it, no marker stands elsewhere, and a fetch that was cancelled adds nothing.
 pub fn tool<S: Shelf, O: Sink, E: Sink>(
     alloc: Global,
     words: &[String],
@@ -119,7 +128,13 @@ pub fn tool<S: Shelf, O: Sink, E: Sink>(
         (used (S.seen shelf.old) (S.seen shelf.new)) (used (O.seen out.old) (O.seen out.new)) (used (E.seen err.old) (E.seen err.new))) }
     ensures later { NoCountFell (spec.call (map string_bytes words.now)
         (used (S.seen shelf.old) (S.seen shelf.new)) (used (O.seen out.old) (O.seen out.new)) (used (E.seen err.old) (E.seen err.new))) }
+    ensures markers { (journal : List Event) → MarkerLaw journal }
+    ensures closed_runs { (journal : List Event) (n : ℕ) (x : List Pair) → ClosedRunsLaw journal n x }
+    ensures late { (w : World) → LateLaw w }
 {
+    markers();
+    closed_runs();
+    late();
     let ending = run(alloc, words, shelf, out);
     tell(err, ending.file, &ending.end);
     Finished {
