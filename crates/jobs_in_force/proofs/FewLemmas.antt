@@ -14,7 +14,7 @@ use Rattle.scrape_config.specs.declared.conf.Group.{Group}
 use Rattle.scrape_config.specs.declared.conf.Conf.{Conf}
 use Rattle.jobs_in_force.specs.declared.jobs.Filed.{Filed}
 use Rattle.jobs_in_force.specs.declared.jobs.InForce.{InForce}
-use Rattle.jobs_in_force.specs.Jobs.{IsFew, is_crowd, count_of, crowd_by, crowd_in, load_crowd, loaded, loaded_by, filed_by_load, Unlisted, UnknownFile, unless_crowd, update_of, updated, groups_or_crowd, filed_by_update, no_place, job_named}
+use Rattle.jobs_in_force.specs.Jobs.{IsFew, is_crowd, count_of, crowd_by, crowd_in, load_crowd, loaded, loaded_by, filed_by_load, UnknownFile, unless_crowd, update_of, updated, groups_or_crowd, filed_by_update, no_place, job_named}
 
 pub few_at : {X : Type 0} (f : X → Filed) (xs : List X) (i : ℕ) (x : X) → i < length xs → x ≡ get_or xs i x → All IsFew (map f xs) → IsFew (f x)
 few_at f xs i x lt at a =

@@ -17,7 +17,6 @@ use Rattle.scrape_config.specs.declared.conf.JobConf.{JobConf}
 use Rattle.scrape_config.specs.declared.conf.Conf.{Conf}
 use Rattle.target_set.specs.Listed.{target_list, listed_count, listed_groups}
 use Rattle.target_set.specs.declared.files.FileGroups.{FileGroups}
-use Rattle.target_set.specs.declared.targets.Target.{Target}
 use Rattle.target_set.specs.declared.targets.TargetList.{TargetList}
 use Rattle.jobs_in_force.specs.TargetWords.{is_target}
 use Rattle.jobs_in_force.specs.declared.jobs.Filed.{Filed}

@@ -1,8 +1,8 @@
 -- What a core keeps beside its journal.
-use Rattle.std.specs.Prelude.{◌≡◌, ◌<◌, ◌^◌, ◌++◌, List, length, filter}
+use Rattle.std.specs.Prelude.{◌≡◌, ◌<◌, ◌^◌, ◌++◌, List, length}
 use Rattle.journal_text.specs.declared.events.Event.{Event}
 use Rattle.report_samples.specs.declared.entries.Entry.{Entry}
-use Rattle.scrape_machine.specs.Machine.{World, world, world_of, book_of, gives, step}
+use Rattle.scrape_machine.specs.Machine.{World, world, world_of, book_of, gives}
 use Rattle.scrape_core.specs.declared.state.State.{State}
 
 -- the world that a state is

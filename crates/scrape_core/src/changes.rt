@@ -15,9 +15,7 @@ use scrape_config::ConfError;
 use scrape_machine::Answer;
 use scrape_machine::acts::{Fate, meet_all};
 use scrape_machine::lives::Life;
-use scrape_machine::reloads::{
-    births_of, count_closed, fates_of, held_of, names_of, verdicts_of,
-};
+use scrape_machine::reloads::{births_of, count_closed, fates_of, held_of, names_of, verdicts_of};
 use std::alloc::Global;
 use std::sync::ledger::Ledger;
 

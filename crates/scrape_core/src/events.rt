@@ -8,10 +8,10 @@ use crate::changes::{take_load, take_update};
 use crate::finishes::take_finish;
 use crate::state::State;
 use crate::turns::{take_sweep, take_tick};
+use appender_book::Book;
 use journal_text::Event;
 use label_set::{NoMemory, Steps};
 use life_roll::Moment;
-use appender_book::Book;
 use scrape_machine::Answer;
 use std::alloc::Global;
 use std::sync::ledger::Ledger;
@@ -43,15 +43,7 @@ fn take_live<L: Ledger>(
             job,
             file,
             text,
-        } => take_update(
-            alloc,
-            state,
-            Moment::new(*moment),
-            job,
-            file,
-            text,
-            steps,
-        ),
+        } => take_update(alloc, state, Moment::new(*moment), job, file, text, steps),
         Event::Tick { moment, life } => {
             take_tick(alloc, state, book, Moment::new(*moment), *life)
         }

@@ -7,16 +7,15 @@ ghost use Rattle.scrape_machine.specs.Machine as spec;
 ghost use Rattle.scrape_core.specs.Kept as kept;
 
 use crate::state::State;
+use appender_book::Book;
 use label_set::{NoMemory, Steps};
 use life_roll::Moment;
 use outside::Reply;
-use appender_book::Book;
 use scrape_machine::Answer;
 use scrape_machine::finishes::{count, finish, found};
 use scrape_machine::lives::Found;
 use std::alloc::Global;
 use std::sync::ledger::Ledger;
-
 
 /// A finish that counts, of the scrape of this life that started at a moment.
 fn finish_counted<L: Ledger>(

@@ -12,9 +12,9 @@ ghost use Rattle.scrape_laws.specs.Apart.{ApartLaw, ApartRunsLaw, ReloadLaw};
 
 use crate::events::take;
 use crate::state::State;
+use appender_book::Book;
 use journal_text::{Event, Journal};
 use label_set::{NoMemory, Steps};
-use appender_book::Book;
 use scrape_laws::laws::{
     closed_runs, late, lives_apart, markers, nothing, reloads, report_markers, undisturbed,
 };

@@ -42,11 +42,14 @@ fn update<L: Ledger>(
     job: &str,
     file: &str,
 ) -> Result<Answer, NoMemory> {
-    let moment = core.now();
+    let moment = 60_000;
     let job = Name::from_str(alloc, job)?;
     let file = Name::from_str(alloc, file)?;
     let text = Blob::from_slice(alloc, b"[]")?;
-    if job.as_str().len() != 1 || file.as_str().len() != 1 || text.as_slice().len() != 2 {
+    if moment < core.now() || job.as_str().len() != 1 || file.as_str().len() != 1 {
+        return Err(NoMemory);
+    }
+    if text.as_slice().len() != 2 {
         return Err(NoMemory);
     }
     let event = Event::Targets {
@@ -92,7 +95,10 @@ fn halt<L: Ledger>(
     core: &mut Core,
     steps: &mut Steps<L>,
 ) -> Result<Answer, NoMemory> {
-    let moment = core.now();
+    let moment = 60_000;
+    if moment < core.now() {
+        return Err(NoMemory);
+    }
     core.step(alloc, Event::Halt { moment }, steps)
 }
 
@@ -181,7 +187,8 @@ fn refused_changes<L: Ledger>(
     assert_said(rt, alloc, &update(alloc, core, steps, "k", "g")?, "NoJob")?;
     assert_said(rt, alloc, &update(alloc, core, steps, "j", "g")?, "NoFile")?;
     let refused = load(alloc, core, steps, 60_000, PATTERN)?;
-    let text = r#"Refused(Rule { place: Name { text: "/scrape_configs/0/relabel_configs/0/regex" } })"#;
+    let text =
+        r#"Refused(Rule { place: Name { text: "/scrape_configs/0/relabel_configs/0/regex" } })"#;
     assert_said(rt, alloc, &refused, text)?;
     assert_said(rt, alloc, &halt(alloc, core, steps)?, "Halted")?;
     assert_said(rt, alloc, &sweep(alloc, core, steps, 60_000)?, "Halted")

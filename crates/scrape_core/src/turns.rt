@@ -7,10 +7,10 @@ ghost use Rattle.scrape_machine.specs.Plans as plan;
 ghost use Rattle.scrape_core.specs.Kept as kept;
 
 use crate::state::State;
+use appender_book::Book;
 use label_set::NoMemory;
 use life_roll::{JobNames, Moment};
 use report_samples::EntryList;
-use appender_book::Book;
 use scrape_machine::Answer;
 use scrape_machine::acts::{is_open, push_scan, scan};
 use scrape_machine::lives::{Life, Start};

@@ -1,29 +1,27 @@
 -- What the events do to a world, before any halt.
-use Rattle.std.proofs.Common.{◌≡◌, ℕ, ℤ, suc, ◌+◌, Bool, true, false, cond, List, [], ◌∷◌, ◌++◌, map, length, refl, sym, ap, ap₂, ◌∙◌, append-nil}
-use Rattle.std.specs.Prelude.{Option, Some, None, Result, Ok, Err, filter}
+use Rattle.std.proofs.Common.{◌≡◌, ℕ, ℤ, ◌+◌, Bool, true, false, cond, List, [], ◌∷◌, ◌++◌, map, length, refl, ap, ap₂, ◌∙◌, append-nil}
+use Rattle.std.specs.Prelude.{Option, Some, None, Ok, Err, filter}
 use Rattle.std.proofs.lemmas.List.{length-map}
 use Rattle.config_fields.specs.declared.fault.ConfFault.{ConfFault}
 use Rattle.scrape_config.specs.declared.conf.Group.{Group}
 use Rattle.std.proofs.lemmas.Bool.{false≢true}
 use Rattle.journal_text.specs.declared.events.Event.{Event}
-use Rattle.journal_text.specs.declared.events.Event.TheVariants.{Load, Targets, Tick, Sweep, Finish, Halt}
+use Rattle.journal_text.specs.declared.events.Event.TheVariants.{Load, Targets}
 use Rattle.journal_text.specs.Lines.{number}
 use Rattle.report_samples.specs.declared.entries.Entry.{Entry}
 use Rattle.jobs_in_force.specs.declared.jobs.Filed.{Filed}
 use Rattle.jobs_in_force.specs.declared.jobs.InForce.{InForce}
 use Rattle.scrape_machine.specs.declared.lives.Life.{Life}
 use Rattle.scrape_machine.specs.declared.lives.Start.{Start}
-use Rattle.scrape_machine.specs.declared.lives.Local.{Local}
-use Rattle.scrape_machine.specs.declared.lives.Local.TheVariants.{Nothing, Change, Close}
+use Rattle.scrape_machine.specs.declared.lives.Local.TheVariants.{Nothing, Close}
 use Rattle.scrape_machine.specs.declared.lives.Verdict.{Verdict}
 use Rattle.scrape_machine.specs.declared.lives.Verdict.TheVariants as verdict
-use Rattle.scrape_machine.specs.declared.answers.Answer.{Answer}
 use Rattle.scrape_machine.specs.declared.answers.Answer.TheVariants.{Halted, Loaded, Refused, Updated}
 use Rattle.jobs_in_force.specs.Jobs.{has_target, job_named, in_force, loaded, updated, jobs_updated, Unlisted, UnknownJob, UnknownFile, Faulty}
 use Rattle.scrape_machine.specs.Lives.{is_open, life_after, life_gives}
 use Rattle.scrape_machine.specs.Machine as spec
 use Rattle.scrape_machine.specs.Machine.{World, world, local, lives_from, gives_from, locals_from, reload_local, reload_life, reload_lives, reload_births, reloaded, closed_by, begun_by, job_local, verdict_local, begun_with, births, closes, step, gives, answer, live_step, new_jobs, after_load, after_update, or_else, closed_count, begun_count, load_answer, update_answer, job_name}
-use Rattle.scrape_machine.proofs.OneLemmas.{quiet_lives, quiet_gives}
+use Rattle.scrape_machine.proofs.OneLemmas.{quiet_gives}
 
 -- after a halt
 pub dead_answer : (w : World) (e : Event) → w.halted ≡ true → answer w e ≡ Halted

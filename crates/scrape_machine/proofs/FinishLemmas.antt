@@ -1,5 +1,5 @@
 -- What a finish does to a world, before any halt.
-use Rattle.std.proofs.Common.{◌≡◌, ℕ, ℤ, ◌+◌, ◌<◌, List, [], ◌∷◌, ◌++◌, length, set, get_or, eqb, Bool, true, false, cond, refl, sym, ap, ap₂, ◌∙◌, subst, append-nil}
+use Rattle.std.proofs.Common.{◌≡◌, ℕ, ℤ, ◌<◌, List, [], length, set, get_or, eqb, Bool, true, false, cond, refl, sym, ap, ap₂, ◌∙◌, subst, append-nil}
 use Rattle.std.specs.Prelude.{slice_get, Option, Some, None}
 use Rattle.std.proofs.lemmas.Bool.{eq-eqb, ne_eqb}
 use Rattle.std.proofs.lemmas.Option.{get_or_from_slice_get}
@@ -17,7 +17,7 @@ use Rattle.scrape_machine.specs.declared.lives.Found.{Found}
 use Rattle.scrape_machine.specs.declared.lives.Found.TheVariants.{NotStarted, Cancelled, Counts}
 use Rattle.scrape_machine.specs.declared.lives.Local.TheVariants.{Nothing, Answered}
 use Rattle.scrape_machine.specs.Lives.{life_after, life_gives, outcome_for, counted, counting_entries}
-use Rattle.scrape_machine.specs.Machine.{World, world, local, lives_from, gives_from, finish_local, finish_answer, fault_at, found, found_flight, found_life, found_start, finished, IsMissed, step, gives, answer}
+use Rattle.scrape_machine.specs.Machine.{world, local, finish_local, finish_answer, fault_at, found, found_flight, found_life, found_start, finished, IsMissed, step, gives, answer}
 use Rattle.scrape_machine.proofs.OneLemmas.{quiet_lives, quiet_gives, one_life, one_life_gives}
 
 -- what stands behind a finish that counts: the life has the scrape in flight, since the moment

@@ -1,5 +1,5 @@
 -- One life more among those that stay open.
-use Rattle.std.proofs.Common.{◌≡◌, ℕ, ℤ, zero, suc, ◌+◌, ◌<◌, ◌≤◌, Bool, ◌||◌, false, true, List, [], ◌∷◌, ◌++◌, length, take, drop, get_or, set, add-one, append_assoc, refl, sym, ap, ap₂, ◌∙◌, arith}
+use Rattle.std.proofs.Common.{◌≡◌, ℕ, ℤ, suc, ◌+◌, ◌<◌, Bool, ◌||◌, false, true, List, [], ◌∷◌, ◌++◌, length, take, drop, get_or, set, add-one, append_assoc, refl, sym, ap, ap₂, ◌∙◌, arith}
 use Rattle.std.specs.List.{list_any}
 use Rattle.std.proofs.Math.Seq.{drop-cons, get_or-append_seam, set-append_seam}
 use Rattle.std.proofs.lemmas.List.{take_more, length-take}

@@ -1,9 +1,7 @@
 -- An event that is something to at most one life.
-use Rattle.std.proofs.Common.{◌≡◌, ℕ, zero, suc, ◌+◌, ◌<◌, ◌≤◌, List, [], ◌∷◌, ◌++◌, length, set, get_or, refl, sym, ap, ap₂, ◌∙◌, arith, append-nil}
+use Rattle.std.proofs.Common.{◌≡◌, ℕ, zero, suc, ◌+◌, ◌<◌, ◌≤◌, List, [], ◌∷◌, ◌++◌, length, set, get_or, refl, sym, ap₂, ◌∙◌, arith, append-nil}
 use Rattle.journal_text.specs.declared.events.Event.{Event}
-use Rattle.report_samples.specs.declared.entries.Entry.{Entry}
 use Rattle.scrape_machine.specs.declared.lives.Life.{Life}
-use Rattle.scrape_machine.specs.declared.lives.Local.{Local}
 use Rattle.scrape_machine.specs.declared.lives.Local.TheVariants.{Nothing}
 use Rattle.scrape_machine.specs.Lives.{life_after, life_gives}
 use Rattle.scrape_machine.specs.Machine.{World, local, lives_from, gives_from}

@@ -5,23 +5,21 @@ use Rattle.std.specs.List.{find, list_any}
 use Rattle.std.specs.Ordering.{is_eq}
 use Rattle.std.specs.Str.{bytes_eq}
 use Rattle.std.proofs.lemmas.Bool.{false≢true, eqb-true, eq-eqb}
-use Rattle.std.proofs.lemmas.List.Elements.{All-head, All-tail, All-from_get_or}
+use Rattle.std.proofs.lemmas.List.Elements.{All-head, All-tail}
 use Rattle.std.proofs.lemmas.Option.{slice_get-map}
 use Rattle.std.proofs.lemmas.Slice.Eq.{bytes_eq-Decides}
 use Rattle.std.proofs.lemmas.List.{take_more}
 use Rattle.scrape_machine.proofs.BirthLemmas.{length-born}
 use Rattle.label_set.specs.Sets.{set_cmp}
-use Rattle.label_set.specs.declared.texts.Pair.{Pair}
 use Rattle.life_roll.specs.Names.{place_in}
-use Rattle.life_roll.specs.Seats.{has_seat}
 use Rattle.life_roll.specs.declared.seats.Seats.{Seats}
 use Rattle.target_set.specs.declared.targets.Target.{Target}
 use Rattle.scrape_machine.specs.declared.acts.Fate.{Fate}
-use Rattle.scrape_machine.specs.declared.acts.Fate.TheVariants.{Stays, Changes, Closes}
+use Rattle.scrape_machine.specs.declared.acts.Fate.TheVariants.{Stays, Closes}
 use Rattle.jobs_in_force.specs.declared.jobs.InForce.{InForce}
 use Rattle.scrape_machine.specs.declared.lives.Life.{Life}
 use Rattle.scrape_machine.specs.declared.lives.Local.{Local}
-use Rattle.scrape_machine.specs.declared.lives.Local.TheVariants.{Nothing, Change, Close}
+use Rattle.scrape_machine.specs.declared.lives.Local.TheVariants.{Nothing, Close}
 use Rattle.scrape_machine.specs.declared.lives.Verdict.{Verdict}
 use Rattle.scrape_machine.specs.declared.lives.Verdict.TheVariants as verdict
 use Rattle.jobs_in_force.specs.Jobs.{job_named, is_named, has_target}

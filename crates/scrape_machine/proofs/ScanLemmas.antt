@@ -1,19 +1,16 @@
 -- What sweeps, ticks and a halt do to a world, before any halt.
-use Rattle.std.proofs.Common.{◌≡◌, ℕ, ℤ, zero, suc, ◌+◌, ◌<◌, ◌≤◌, Bool, true, false, ◌&&◌, cond, eqb, List, [], ◌∷◌, ◌++◌, length, set, get_or, refl, sym, ap, ap₂, ◌∙◌, arith, append-nil}
+use Rattle.std.proofs.Common.{◌≡◌, ℕ, ℤ, zero, suc, ◌<◌, ◌≤◌, Bool, true, false, ◌&&◌, cond, List, [], ◌∷◌, ◌++◌, length, set, get_or, refl, sym, ap, ap₂, ◌∙◌, arith, append-nil}
 use Rattle.std.specs.Prelude.{Option, Some, None, slice_get, is_some, nat_lt, not}
 use Rattle.std.proofs.lemmas.Option.{get_or_from_slice_get, slice_get_within}
 use Rattle.std.proofs.lemmas.Bool.{eq-eqb, ne_eqb, false≢true}
-use Rattle.journal_text.specs.declared.events.Event.{Event}
 use Rattle.journal_text.specs.declared.events.Event.TheVariants.{Tick, Sweep, Halt}
 use Rattle.journal_text.specs.Lines.{number}
-use Rattle.report_samples.specs.declared.entries.Entry.{Entry}
 use Rattle.jobs_in_force.specs.declared.jobs.InForce.{InForce}
 use Rattle.scrape_machine.specs.declared.lives.Life.{Life}
 use Rattle.scrape_machine.specs.declared.lives.Start.{Start}
-use Rattle.scrape_machine.specs.declared.lives.Local.{Local}
 use Rattle.scrape_machine.specs.declared.lives.Local.TheVariants.{Nothing, Scan}
 use Rattle.scrape_machine.specs.Lives.{is_open, life_after, life_gives, scanned_life, scan_entries}
-use Rattle.scrape_machine.specs.Machine.{World, world, local, lives_from, gives_from, is_over, started_by, start_of, starts_from, ticked, is_open_life, step, gives}
+use Rattle.scrape_machine.specs.Machine.{world, local, lives_from, gives_from, is_over, started_by, start_of, starts_from, ticked, is_open_life, step, gives}
 use Rattle.scrape_machine.proofs.OneLemmas.{quiet_lives, quiet_gives, one_life, one_life_gives, far_lives, far_gives}
 
 slice_get_none : {A : Type 0} (xs : List A) (k : ℕ) → slice_get xs k ≡ None → length xs ≤ k

@@ -2,7 +2,6 @@
 -- A life is a stretch of time in which a target of a job is scraped ("Configuration" of the Prometheus documentation, scrape_config;
 -- "Staleness" for what its scrapes and its ending append).
 use Rattle.std.specs.Prelude.{ℕ, ℤ, pos, Bool, true, false, not, ◌&&◌, List, [], nat_lt, Option, Some, None, if◌then◌else◌}
-use Rattle.label_set.specs.declared.texts.Pair.{Pair}
 use Rattle.journal_text.specs.Lines.{number}
 use Rattle.outside.specs.declared.replies.Reply.{Reply}
 use Rattle.scrape_config.specs.declared.conf.Job.{Job}

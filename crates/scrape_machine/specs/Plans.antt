@@ -1,10 +1,9 @@
 -- What is worked out of a new configuration before anything changes.
-use Rattle.std.specs.Prelude.{◌≡◌, ℕ, ◌+◌, ℤ, Bool, true, false, not, ◌&&◌, List, [], ◌∷◌, ◌++◌, map, length, filter, slice_get, Option, Some, None, nat_eq, if◌then◌else◌}
+use Rattle.std.specs.Prelude.{◌≡◌, ℕ, ◌+◌, ℤ, Bool, true, false, not, ◌&&◌, List, [], ◌∷◌, ◌++◌, length, filter, slice_get, Option, Some, None, nat_eq, if◌then◌else◌}
 use Rattle.std.specs.List.{list_any}
 use Rattle.std.specs.Ordering.{is_eq}
 use Rattle.label_set.specs.Sets.{set_cmp}
 use Rattle.label_set.specs.declared.texts.Pair.{Pair}
-use Rattle.journal_text.specs.Lines.{number}
 use Rattle.life_roll.specs.Names.{place_in}
 use Rattle.life_roll.specs.Seats.{has_seat}
 use Rattle.life_roll.specs.declared.seats.Seats.{Seats}

@@ -6,9 +6,9 @@ ghost use Rattle.scrape_machine.specs.Lives as spec;
 ghost use Rattle.scrape_machine.specs.Machine.{closes};
 ghost use Rattle.scrape_machine.specs.Plans as plan;
 
-use jobs_in_force::jobs::Settings;
 use crate::lives::Life;
 use end_of_run::{due_at, ending_entries};
+use jobs_in_force::jobs::Settings;
 use label_set::NoMemory;
 use life_roll::Moment;
 use report_samples::{Closing, Entry};

@@ -7,12 +7,12 @@ ghost use Rattle.scrape_loop.specs.Entries.{entries_of};
 ghost use Rattle.scrape_loop.specs.Tracked.{fault_of};
 
 use crate::lives::{Found, Life, Start};
+use appender_book::Book;
 use label_set::{NoMemory, Steps};
 use life_roll::InFlight;
 use outside::Reply;
 use sample_rows::{RowRules, ScrapeFault};
 use scrape_config::Job;
-use appender_book::Book;
 use std::alloc::Global;
 use std::sync::ledger::Ledger;
 

@@ -15,8 +15,8 @@ ghost use Rattle.scrape_machine.specs.Plans as plan;
 ghost use Rattle.jobs_in_force.specs.Settings.{settings_of};
 
 use crate::acts::{Fate, is_open};
-use jobs_in_force::jobs::{InForce, Settings};
 use crate::lives::{Life, Verdict};
+use jobs_in_force::jobs::{InForce, Settings};
 use jobs_in_force::loads::job_named;
 use label_set::{Name, NoMemory};
 use life_roll::{JobNames, Moment, Schedule, Seat, Seats};

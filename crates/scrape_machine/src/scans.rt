@@ -10,10 +10,10 @@ ghost use Rattle.scrape_machine.specs.Plans as plan;
 
 use crate::acts::{ends, forces, is_open, push_scan, scan, starts};
 use crate::answers::Answer;
-use jobs_in_force::jobs::InForce;
 use crate::lives::{Life, Start};
-use jobs_in_force::loads::job_named;
 use crate::reloads::{job_at, job_name};
+use jobs_in_force::jobs::InForce;
+use jobs_in_force::loads::job_named;
 use label_set::NoMemory;
 use life_roll::{JobNames, Moment};
 use report_samples::Entry;

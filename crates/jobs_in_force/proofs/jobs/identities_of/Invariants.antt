@@ -1,4 +1,4 @@
-use Rattle.std.proofs.Common.{◌≡◌, ◌++◌, ◌+◌, ◌≤◌, map, take, drop, length, List, ℕ}
+use Rattle.std.proofs.Common.{take}
 use Rattle.jobs_in_force.specs.TargetWords.{IsIndexed}
 use Rattle.jobs_in_force.proofs.jobs.identities_of.Given as goal
 

@@ -1,4 +1,4 @@
-use Rattle.std.proofs.Common.{◌≡◌, ◌++◌, ◌+◌, ◌≤◌, map, take, drop, length, List, ℕ}
+use Rattle.std.proofs.Common.{◌≡◌, map}
 use Rattle.jobs_in_force.specs.Jobs.{loaded_job}
 use Rattle.jobs_in_force.proofs.loads.filed_by_load.Given as goal
 

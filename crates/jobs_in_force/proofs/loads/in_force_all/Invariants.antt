@@ -1,4 +1,4 @@
-use Rattle.std.proofs.Common.{◌≡◌, ◌++◌, ◌+◌, ◌≤◌, map, take, drop, length, List, ℕ}
+use Rattle.std.proofs.Common.{◌≡◌, map}
 use Rattle.jobs_in_force.specs.Jobs.{in_force}
 use Rattle.jobs_in_force.proofs.loads.in_force_all.Given as goal
 

@@ -1,4 +1,4 @@
-use Rattle.std.proofs.Common.{◌≡◌, ◌++◌, ◌+◌, ◌≤◌, map, take, drop, length, List, ℕ}
+use Rattle.std.proofs.Common.{◌≡◌, map, take}
 use Rattle.std.specs.Prelude.{option_copied}
 use Rattle.jobs_in_force.specs.Jobs.{kept_file}
 use Rattle.jobs_in_force.proofs.loads.kept_files.Given as goal

@@ -1,4 +1,4 @@
-use Rattle.std.proofs.Common.{◌≡◌, ◌++◌, ◌+◌, ◌≤◌, map, take, drop, length, List, ℕ}
+use Rattle.std.proofs.Common.{◌≡◌, map, take}
 use Rattle.jobs_in_force.specs.Jobs.{updated_job}
 use Rattle.jobs_in_force.proofs.updates.filed_by_update.Given as goal
 

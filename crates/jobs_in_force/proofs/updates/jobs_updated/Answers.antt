@@ -1,5 +1,4 @@
-use Rattle.std.proofs.Common.{◌≡◌, ◌∙◌, sym, ap, subst, length}
-use Rattle.jobs_in_force.specs.Jobs.{updated_job, IsFew}
+use Rattle.jobs_in_force.specs.Jobs.{updated_job}
 use Rattle.jobs_in_force.proofs.FewLemmas.{few_at}
 use Rattle.jobs_in_force.proofs.updates.jobs_updated.Goals as goal
 

@@ -1,4 +1,4 @@
-use Rattle.std.proofs.Common.{◌≡◌, ◌++◌, ◌+◌, ◌≤◌, map, take, drop, length, List, ℕ}
+use Rattle.std.proofs.Common.{◌≡◌, map, take}
 use Rattle.jobs_in_force.specs.Jobs.{with_groups}
 use Rattle.jobs_in_force.proofs.updates.updated_files.Given as goal
 

@@ -1,4 +1,4 @@
-use Rattle.std.proofs.Common.{◌≡◌, ◌∙◌, []}
+use Rattle.std.proofs.Common.{◌∙◌, []}
 use Rattle.scrape_machine.proofs.WholeLemmas.{whole_lives, whole_closed, whole_births}
 use Rattle.scrape_core.proofs.changes.change_to.Goals as goal
 

@@ -1,6 +1,4 @@
-use Rattle.std.proofs.Common.{◌≡◌, ◌∙◌, List, map, sym, ap, ap₂, subst}
-use Rattle.std.specs.Prelude.{Ok, Err}
-use Rattle.jobs_in_force.specs.declared.jobs.InForce.{InForce}
+use Rattle.std.proofs.Common.{◌∙◌, map, sym, ap, ap₂, subst}
 use Rattle.jobs_in_force.specs.Jobs.{loaded, in_force, IsLoadCause}
 use Rattle.jobs_in_force.proofs.FewLemmas.{loaded_few}
 use Rattle.scrape_machine.specs.declared.answers.Answer.TheVariants.{Loaded, Refused}

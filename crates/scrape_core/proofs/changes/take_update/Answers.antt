@@ -1,7 +1,5 @@
-use Rattle.std.proofs.Common.{◌≡◌, ◌∙◌, List, refl, sym, ap, ap₂, subst}
-use Rattle.std.specs.Prelude.{Ok, Err}
-use Rattle.jobs_in_force.specs.declared.jobs.InForce.{InForce}
-use Rattle.jobs_in_force.specs.Jobs.{updated, jobs_updated, IsUpdateCause, UnknownJob, UnknownFile, Faulty}
+use Rattle.std.proofs.Common.{◌∙◌, refl, sym, ap, ap₂, subst}
+use Rattle.jobs_in_force.specs.Jobs.{updated, IsUpdateCause, UnknownJob, UnknownFile, Faulty}
 use Rattle.scrape_machine.specs.declared.answers.Answer.TheVariants.{Updated, Refused}
 use Rattle.scrape_machine.specs.Machine.{after_update, closed_by, begun_by, reloaded}
 use Rattle.scrape_machine.proofs.EventLemmas.{update_taken, update_refused, update_answer_taken, update_answer_refused}

@@ -1,4 +1,4 @@
-use Rattle.std.proofs.Common.{◌≡◌, sym}
+use Rattle.std.proofs.Common.{sym}
 use Rattle.scrape_machine.proofs.EventLemmas.{dead_answer, dead_step, dead_gives}
 use Rattle.scrape_core.specs.Kept.{seen}
 use Rattle.scrape_core.proofs.StateLemmas.{appends_none}

@@ -1,5 +1,4 @@
-use Rattle.std.proofs.Common.{◌≡◌}
-use Rattle.scrape_core.specs.Kept.{live, Appends}
+use Rattle.scrape_core.specs.Kept.{live}
 use Rattle.scrape_core.proofs.StateLemmas.{appends_none, on_ok, load_gives, update_gives, halt_gives, halt_said, halt_left}
 use Rattle.scrape_core.proofs.events.take_live.Goals as goal
 

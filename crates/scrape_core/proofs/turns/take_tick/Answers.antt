@@ -1,10 +1,10 @@
-use Rattle.std.proofs.Common.{◌≡◌, ◌++◌, ◌∙◌, List, sym, ap, ap₂, append-nil}
+use Rattle.std.proofs.Common.{◌++◌, ◌∙◌, List, sym, ap, append-nil}
 use Rattle.std.specs.Prelude.{slice_get}
 use Rattle.journal_text.specs.Lines.{number}
 use Rattle.report_samples.specs.declared.entries.Entry.{Entry}
 use Rattle.appender_book.specs.Books.{BookView}
 use Rattle.scrape_machine.specs.declared.lives.Life.{Life}
-use Rattle.scrape_machine.specs.Machine.{answer, tick_answer, is_open_life}
+use Rattle.scrape_machine.specs.Machine.{answer, is_open_life}
 use Rattle.scrape_machine.proofs.ScanLemmas as scans
 use Rattle.scrape_core.specs.Kept.{live}
 use Rattle.scrape_core.proofs.StateLemmas.{same_tick}

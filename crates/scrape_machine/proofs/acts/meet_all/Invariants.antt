@@ -1,4 +1,4 @@
-use Rattle.std.proofs.Common.{◌≡◌, ◌++◌, ◌+◌, ◌≤◌, map, take, drop, length, List, ℕ}
+use Rattle.std.proofs.Common.{◌≡◌, ◌++◌, take, drop, length}
 use Rattle.scrape_machine.specs.Plans.{after_each}
 use Rattle.scrape_machine.proofs.acts.meet_all.Given as goal
 

@@ -1,4 +1,4 @@
-use Rattle.std.proofs.Common.{◌≡◌, ◌++◌, ◌∙◌, ap, sym, length, ◌+◌}
+use Rattle.std.proofs.Common.{◌++◌, ◌∙◌, ap, length, ◌+◌}
 use Rattle.std.specs.Prelude.{filter, not}
 use Rattle.journal_text.specs.Lines.{number}
 use Rattle.life_roll.specs.Names.{place_in}

@@ -1,4 +1,4 @@
-use Rattle.std.proofs.Common.{◌≡◌, ◌++◌, ◌+◌, ◌≤◌, map, take, drop, length, List, ℕ}
+use Rattle.std.proofs.Common.{◌≡◌, take}
 use Rattle.journal_text.specs.Lines.{number}
 use Rattle.scrape_machine.specs.Plans.{births_by}
 use Rattle.scrape_machine.proofs.reloads.births_of.Given as goal

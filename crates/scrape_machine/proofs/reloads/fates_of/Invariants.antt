@@ -1,4 +1,4 @@
-use Rattle.std.proofs.Common.{◌≡◌, ◌++◌, ◌+◌, ◌≤◌, map, take, drop, length, List, ℕ}
+use Rattle.std.proofs.Common.{◌≡◌, map, take}
 use Rattle.scrape_machine.specs.Plans.{fate_of}
 use Rattle.scrape_machine.proofs.reloads.fates_of.Given as goal
 

@@ -1,4 +1,4 @@
-use Rattle.std.proofs.Common.{◌≡◌, ℤ, ◌∙◌, ap, ap₂, arith, length, List, get_or}
+use Rattle.std.proofs.Common.{◌∙◌, ap, ap₂, arith, List, get_or}
 use Rattle.std.specs.List.{list_any}
 use Rattle.std.proofs.lemmas.List.{take_all}
 use Rattle.scrape_machine.specs.declared.acts.Fate.{Fate}

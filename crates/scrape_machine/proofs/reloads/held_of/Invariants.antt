@@ -1,4 +1,4 @@
-use Rattle.std.proofs.Common.{◌≡◌, ◌++◌, ◌+◌, ◌≤◌, map, take, drop, length, List, ℕ}
+use Rattle.std.proofs.Common.{◌≡◌, take}
 use Rattle.std.specs.Prelude.{ℤ}
 use Rattle.scrape_machine.specs.Plans.{IsHeld, after_each}
 use Rattle.scrape_machine.proofs.reloads.held_of.Given as goal

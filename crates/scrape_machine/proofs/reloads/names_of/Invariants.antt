@@ -1,4 +1,4 @@
-use Rattle.std.proofs.Common.{◌≡◌, ◌++◌, ◌+◌, ◌≤◌, map, take, drop, length, List, ℕ}
+use Rattle.std.proofs.Common.{◌≡◌, map, take}
 use Rattle.scrape_machine.specs.Plans.{name_of}
 use Rattle.scrape_machine.proofs.reloads.names_of.Given as goal
 

@@ -1,7 +1,6 @@
-use Rattle.std.proofs.Common.{◌≡◌, ◌++◌, ◌∷◌, [], ◌∙◌, ap, sym, not, get_or, arith, List, length, ◌+◌, ◌<◌}
+use Rattle.std.proofs.Common.{◌++◌, ◌∷◌, [], ◌∙◌, ap, sym, not, get_or, arith, List, length, ◌+◌, ◌<◌}
 use Rattle.journal_text.specs.Lines.{number}
 use Rattle.target_set.specs.declared.targets.Target.{Target}
-use Rattle.scrape_machine.specs.declared.lives.Life.{Life}
 use Rattle.scrape_machine.specs.Plans.{is_seated}
 use Rattle.jobs_in_force.specs.Settings.{settings_of}
 use Rattle.scrape_machine.specs.Lives.{born}

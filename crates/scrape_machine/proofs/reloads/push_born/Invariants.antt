@@ -1,4 +1,4 @@
-use Rattle.std.proofs.Common.{◌≡◌, ◌++◌, ◌+◌, ◌≤◌, map, take, drop, length, List, ℕ}
+use Rattle.std.proofs.Common.{◌≡◌, ◌++◌, ◌+◌, take, length}
 use Rattle.std.specs.Prelude.{filter, not}
 use Rattle.journal_text.specs.Lines.{number}
 use Rattle.target_set.specs.declared.targets.Target.{Target}

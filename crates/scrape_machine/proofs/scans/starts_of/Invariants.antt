@@ -1,4 +1,4 @@
-use Rattle.std.proofs.Common.{◌≡◌, ◌++◌, ◌+◌, ◌≤◌, map, take, drop, length, List, ℕ}
+use Rattle.std.proofs.Common.{◌≡◌, take}
 use Rattle.journal_text.specs.Lines.{number}
 use Rattle.scrape_machine.specs.Machine.{starts_from}
 use Rattle.scrape_machine.proofs.scans.starts_of.Given as goal

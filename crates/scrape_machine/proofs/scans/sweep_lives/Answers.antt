@@ -1,4 +1,4 @@
-use Rattle.std.proofs.Common.{◌≡◌, ◌<◌, ◌+◌, ℕ, length, arith, sym, ◌∙◌, ap, ap₂, cond, Bool}
+use Rattle.std.proofs.Common.{◌≡◌, ◌<◌, ℕ, length, arith, sym, ◌∙◌, ap, cond, Bool}
 use Rattle.journal_text.specs.Lines.{number}
 use Rattle.scrape_machine.specs.declared.lives.Life.{Life}
 use Rattle.scrape_machine.specs.Lives.{scanned_life, starts}

@@ -1,4 +1,4 @@
-use Rattle.std.proofs.Common.{◌≡◌, ◌++◌, ◌+◌, ◌≤◌, map, take, drop, length, List, ℕ}
+use Rattle.std.proofs.Common.{◌≡◌, ◌++◌, ◌+◌, ◌≤◌, take, drop, length}
 use Rattle.std.specs.List.{filter}
 use Rattle.journal_text.specs.declared.events.Event.TheVariants.{Sweep}
 use Rattle.journal_text.specs.Lines.{number}

@@ -13,6 +13,6 @@ invariant_of-self-2 g c =
     record {
       state = c.in_ok-answer.ensures.state ∙ ap (λ w. step w e) c.self.invariant.state ∙ sym (world_push es e) ∙ ap world_of (sym joined);
       book_is = c.in_ok-answer.ensures.book ∙ ap₂ (λ (b : List Entry) w. b ++ gives w e) c.self.invariant.book_is c.self.invariant.state
-      ∙ sym (book_of_push es e) ∙ ap book_of (sym joined);
+          ∙ sym (book_of_push es e) ∙ ap book_of (sym joined);
       few = c.in_ok-answer.ensures.few;
     }
