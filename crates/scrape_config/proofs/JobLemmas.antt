@@ -95,8 +95,3 @@ module _ (d : Data) (clean : conf_faults d ≡ []) where
 -- the first of some jobs, and the others
 pub job_first : (base : Base) (place : List ℕ) (n : ℕ) (d : Data) (ds : Items) → jobs_walk base place n (item d ds) ≡ [] → (job_faults base (item_place place n) d ≡ []) × (jobs_walk base place (n + 1) ds ≡ [])
 job_first base place n d ds clean = both_clean (job_faults base (item_place place n) d) (jobs_walk base place (n + 1) ds) clean
-
--- the item behind a list
-pub get_behind : {X : Type 0} (xs : List X) (y : X) (ys : List X) → slice_get (xs ++ y ∷ ys) (length xs) ≡ Some y
-get_behind [] y ys = refl
-get_behind (x ∷ xs) y ys = get_behind xs y ys

@@ -10,7 +10,7 @@ use Rattle.relabel.specs.declared.conf.RuleFault.TheVariants.{BadRule, BadPatter
 use Rattle.config_fields.specs.Places.{field_place, item_place}
 use Rattle.config_fields.specs.declared.fault.ConfFault.{ConfFault}
 use Rattle.config_fields.specs.declared.fault.ConfFault.TheVariants.{Rule}
-use Rattle.scrape_config.specs.Reading.{rules_pattern, jobs_pattern, with_patterns, unless_fault, IsPatternCause, IsWholeCause}
+use Rattle.scrape_config.specs.Reading.{rules_pattern, jobs_pattern, with_patterns, unless_fault, IsPatternCause}
 use Rattle.scrape_config.specs.declared.conf.Conf.{Conf}
 use Rattle.scrape_config.specs.declared.fault.ConfError.{ConfError}
 use Rattle.scrape_config.specs.declared.fault.ConfError.TheVariants.{Bad, NoMemory}

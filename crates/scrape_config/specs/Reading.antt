@@ -1,10 +1,10 @@
--- What the bytes of a configuration, or of the list of a file, are read as: a value or one fault; and which patterns of it are refused.
-use Rattle.std.specs.Prelude.{◌≡◌, ◌⊎◌, ℕ, ◌+◌, List, [], ◌∷◌, Option, Some, None, Result, Ok, Err, All, codes, IsOkAnd, IsSomeAnd, slice_get, option_map, ⊤, if◌then◌else◌}
+-- What the bytes of a configuration, or of the list of a file, are read as: a value or one fault.
+use Rattle.std.specs.Prelude.{◌≡◌, ℕ, ◌+◌, List, [], ◌∷◌, Option, Some, None, Result, Ok, Err, codes, option_map, ⊤, if◌then◌else◌}
 use Rattle.std.specs.Option.{option_or}
 use Rattle.std.specs.Str.{is_utf8}
 use Rattle.serde_json.specs.Data.{Data}
 use Rattle.serde_json.specs.Read.{read}
-use Rattle.relabel.specs.Refusals.{HasPattern, HasBadPattern, first_bad_pattern}
+use Rattle.relabel.specs.Refusals.{first_bad_pattern}
 use Rattle.relabel.specs.declared.conf.RuleConf.{RuleConf}
 use Rattle.config_fields.specs.Places.{field_place, item_place}
 use Rattle.config_fields.specs.Faults.{told}
@@ -44,10 +44,6 @@ groups_in file (Some d) = unless_fault (told (groups_faults d)) (file_groups_of 
 unfoldable pub groups_reading : List ℕ → List ℕ → Result (List Group) ConfFault
 groups_reading file bytes = groups_in file (json_of bytes)
 
--- each pattern of a job is one
-abbrev pub HasPatterns : Job → Type 0
-HasPatterns job = All HasPattern job.conf.metric_relabel × All HasPattern job.conf.relabel
-
 -- the place of the list of jobs
 unfoldable pub jobs_place : List ℕ
 jobs_place = field_place [] (codes "scrape_configs")
@@ -83,47 +79,7 @@ abbrev pub IsPatternCause : Option (List ℕ) → ConfError → Type 0
 IsPatternCause first (Bad fault) = option_map (λ place. Rule place) first ≡ Some fault
 IsPatternCause first NoMemory = ⊤
 
--- want of memory, or the fault of the whole reading
-abbrev pub IsWholeCause : Result Conf ConfFault → ConfError → Type 0
-IsWholeCause said (Bad fault) = said ≡ Err fault
-IsWholeCause said NoMemory = ⊤
-
--- the place is that of a pattern of these rules that may be refused
-abbrev pub IsRefusedIn : List ℕ → List RuleConf → List ℕ → Type 0
-IsRefusedIn list rules place = (n : ℕ) × (place ≡ field_place (item_place list n) (codes "regex")) × IsSomeAnd (slice_get rules n) HasBadPattern
-
--- the same of a job's two lists of rules, where the job has number n
-abbrev pub IsRefusedInJob : ℕ → Job → List ℕ → Type 0
-IsRefusedInJob n job place =
-    IsRefusedIn (rules_place n (codes "metric_relabel_configs")) job.conf.metric_relabel place
-    ⊎ IsRefusedIn (rules_place n (codes "relabel_configs")) job.conf.relabel place
-
--- the same of all jobs
-abbrev pub IsRefusedInJobs : List Job → List ℕ → Type 0
-IsRefusedInJobs jobs place = (n : ℕ) × IsSomeAnd (slice_get jobs n) (λ job. IsRefusedInJob n job place)
-
--- the place is that of a pattern of the configuration that may be refused
-unfoldable pub IsRefusedPattern : Conf → List ℕ → Type 0
-IsRefusedPattern conf place = IsRefusedInJobs conf.jobs place
-
--- the fault is that of a pattern, at a place of which something holds
-abbrev pub IsRuleAt : (List ℕ → Type 0) → ConfFault → Type 0
-IsRuleAt P (Rule place) = P place
-IsRuleAt P _ = ⊥
-
--- want of memory, or the fault of a pattern, at a place of which something holds
-abbrev pub IsRuleCause : (List ℕ → Type 0) → ConfError → Type 0
-IsRuleCause P (Bad fault) = IsRuleAt P fault
-IsRuleCause P NoMemory = ⊤
-
--- what a refusal says: the fault of the reading; or a pattern that may be refused, where the reading has no fault
-abbrev pub IsRefusal : Result Conf ConfFault → ConfFault → Type 0
-IsRefusal said fault = (said ≡ Err fault) ⊎ IsOkAnd said (λ conf. IsRuleAt (IsRefusedPattern conf) fault)
-
-abbrev pub IsCause : Result Conf ConfFault → ConfError → Type 0
-IsCause said (Bad fault) = IsRefusal said fault
+-- what a refusal says: want of memory, or the fault of the reading
+abbrev pub IsCause : {A : Type 0} → Result A ConfFault → ConfError → Type 0
+IsCause said (Bad fault) = said ≡ Err fault
 IsCause said NoMemory = ⊤
-
-abbrev pub IsGroupsCause : Result (List Group) ConfFault → ConfError → Type 0
-IsGroupsCause said (Bad fault) = said ≡ Err fault
-IsGroupsCause said NoMemory = ⊤

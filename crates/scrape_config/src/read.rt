@@ -1,7 +1,7 @@
 //! Reading a configuration and the list of a file.
 ghost use Rattle.std.specs.Prelude.{◌≡◌, ◌++◌, ◌∷◌, [], Ok, None, All, IfOk, IfErr, OnOk, option_map, codes};
 ghost use Rattle.serde_json.specs.View.{view, items_view};
-ghost use Rattle.relabel.specs.Refusals.{HasPattern, first_bad_rule};
+ghost use Rattle.relabel.specs.Refusals.{first_bad_rule};
 ghost use Rattle.config_fields.specs.Places.{field_place, item_place};
 ghost use Rattle.scrape_config.specs.Lists.{conf_faults, job_faults, jobs_walk};
 ghost use Rattle.scrape_config.specs.Values.{conf_of, job_of, jobs_of, built};
@@ -58,8 +58,6 @@ fn pattern_place(alloc: Global, job: usize, key: &str, rule: u32) -> Result<Name
 fn rules_in(alloc: Global, job: usize, key: &str, rules: &[RuleConf]) -> Result<Rules, ConfError>
     requires fine { first_bad_rule 0 rules.now ≡ None }
     ensures rules { IfOk result (λ r. r ≡ rules.now) }
-    ensures patterns { IfOk result (λ _. All HasPattern rules.now) }
-    ensures refused { IfErr result (λ e. spec.IsRuleCause (spec.IsRefusedIn (spec.rules_place job key.now) rules.now) e) }
     ensures none { IfOk result (λ _. spec.rules_pattern (spec.rules_place job key.now) rules.now ≡ None) }
     ensures first { IfErr result (λ e. spec.IsPatternCause (spec.rules_pattern (spec.rules_place job key.now) rules.now) e) }
 {
@@ -83,8 +81,6 @@ fn rules_in(alloc: Global, job: usize, key: &str, rules: &[RuleConf]) -> Result<
 fn job_in(alloc: Global, base: Base, index: usize, value: &Value) -> Result<Job, ConfError>
     requires clean { job_faults base (item_place spec.jobs_place index) (view value.now) ≡ [] }
     ensures job { IfOk result (λ j. j ≡ built (job_of base (view value.now))) }
-    ensures patterns { IfOk result (λ j. spec.HasPatterns j) }
-    ensures refused { IfErr result (λ e. spec.IsRuleCause (spec.IsRefusedInJob index (built (job_of base (view value.now)))) e) }
     ensures none { IfOk result (λ _. spec.job_pattern index (built (job_of base (view value.now))) ≡ None) }
     ensures first { IfErr result (λ e. spec.IsPatternCause (spec.job_pattern index (built (job_of base (view value.now)))) e) }
 {
@@ -117,8 +113,6 @@ fn push_job(jobs: &mut Vec<Job>, job: Job) -> Result<(), NoMemory>
 fn jobs_in(alloc: Global, base: Base, values: &[Value]) -> Result<JobList, ConfError>
     requires clean { jobs_walk base spec.jobs_place 0 (items_view values.now) ≡ [] }
     ensures jobs { IfOk result (λ l. l ≡ jobs_of base (items_view values.now)) }
-    ensures patterns { IfOk result (λ l. All spec.HasPatterns l) }
-    ensures refused { IfErr result (λ e. spec.IsRuleCause (spec.IsRefusedInJobs (jobs_of base (items_view values.now))) e) }
     ensures none { IfOk result (λ _. spec.jobs_pattern 0 (jobs_of base (items_view values.now)) ≡ None) }
     ensures first { IfErr result (λ e. spec.IsPatternCause (spec.jobs_pattern 0 (jobs_of base (items_view values.now))) e) }
 {
@@ -137,8 +131,6 @@ fn jobs_in(alloc: Global, base: Base, values: &[Value]) -> Result<JobList, ConfE
 fn conf_in(alloc: Global, value: &Value) -> Result<Conf, ConfError>
     requires clean { conf_faults (view value.now) ≡ [] }
     ensures conf { IfOk result (λ c. c ≡ conf_of (view value.now)) }
-    ensures patterns { IfOk result (λ c. All spec.HasPatterns c.jobs) }
-    ensures refused { IfErr result (λ e. spec.IsRuleCause (spec.IsRefusedPattern (conf_of (view value.now))) e) }
     ensures none { IfOk result (λ _. spec.jobs_pattern 0 (conf_of (view value.now)).jobs ≡ None) }
     ensures first { IfErr result (λ e. spec.IsPatternCause (spec.jobs_pattern 0 (conf_of (view value.now)).jobs) e) }
 {
@@ -149,15 +141,12 @@ fn conf_in(alloc: Global, value: &Value) -> Result<Conf, ConfError>
 }
 
 /// Reads the bytes of a configuration in JSON. `Bad` tells the one fault of the least number, the first of its kind in the walk through
-/// the text; `Rule`, for a pattern, comes only where there is no other fault and `regex` may refuse the pattern at the place, which is
-/// the first of the text that isn't one.
+/// the text; `Rule`, for the first pattern of the text that isn't one, comes only where there is no other fault.
 #[tactic(auto, unfolding(crate::specs::Reading::reading, crate::specs::Reading::whole_reading))]
 pub fn read_conf(alloc: Global, bytes: &[u8]) -> Result<Conf, ConfError>
     ensures read { IfOk result (λ c. spec.reading bytes.now ≡ Ok c) }
-    ensures patterns { IfOk result (λ c. All spec.HasPatterns c.jobs) }
-    ensures refused { IfErr result (λ e. spec.IsCause (spec.reading bytes.now) e) }
     ensures whole { IfOk result (λ c. spec.whole_reading bytes.now ≡ Ok c) }
-    ensures first { IfErr result (λ e. spec.IsWholeCause (spec.whole_reading bytes.now) e) }
+    ensures refused { IfErr result (λ e. spec.IsCause (spec.whole_reading bytes.now) e) }
     ensures bounded { IfOk result (λ c. All (λ (j : Job). IsBounded j.conf) c.jobs) }
     ensures sound { IfOk result (λ c. All IsSound c.jobs) }
 {
@@ -174,7 +163,7 @@ pub fn read_conf(alloc: Global, bytes: &[u8]) -> Result<Conf, ConfError>
 #[tactic(auto, unfolding(crate::specs::Reading::groups_reading))]
 pub fn read_groups(alloc: Global, bytes: &[u8], file: &str) -> Result<GroupList, ConfError>
     ensures read { IfOk result (λ g. spec.groups_reading file.now bytes.now ≡ Ok g) }
-    ensures refused { IfErr result (λ e. spec.IsGroupsCause (spec.groups_reading file.now bytes.now) e) }
+    ensures refused { IfErr result (λ e. spec.IsCause (spec.groups_reading file.now bytes.now) e) }
     ensures sound { IfOk result (λ g. All HasLabelNames g) }
 {
     let Some(value) = json_of(alloc, bytes)? else {

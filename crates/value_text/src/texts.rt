@@ -8,6 +8,7 @@ ghost use Rattle.value_text.specs.Numbers.{number, seconds3};
 use crate::grammar;
 use crate::numbers::seconds_text;
 use label_set::NoMemory;
+use smallvec::SmallVec;
 use std::alloc::{AllocError, Global};
 use std::marker::Model;
 
@@ -35,10 +36,13 @@ impl From<AllocError> for ValueError {
     }
 }
 
-/// The text of a value, at most 128 bytes.
+/// A text of at most so many bytes stands in the value itself: each float in its shortest form fits.
+const SHORT: usize = 24;
+
+/// The text of a value, at most 128 bytes. A short one takes no memory of its own.
 #[derive(Drop, Debug)]
 pub struct ValueText {
-    bytes: Vec<u8>,
+    bytes: SmallVec<u8, SHORT>,
 }
 
 impl Model for ValueText {
@@ -75,7 +79,7 @@ impl ValueText {
             return Err(ValueError::BadValue);
         }
         Ok(ValueText {
-            bytes: Vec::from_slice(alloc, bytes)?,
+            bytes: SmallVec::from_slice(alloc, bytes)?,
         })
     }
 
@@ -85,7 +89,7 @@ impl ValueText {
         ensures { IfOk result (λ v. v ≡ bytes.now) }
     {
         Ok(ValueText {
-            bytes: Vec::from_slice(alloc, bytes)?,
+            bytes: SmallVec::from_slice(alloc, bytes)?,
         })
     }
 
@@ -95,7 +99,7 @@ impl ValueText {
     {
         let text = count.to_string(alloc)?;
         Ok(ValueText {
-            bytes: text.into_bytes(),
+            bytes: SmallVec::from_vec(text.into_bytes()),
         })
     }
 
@@ -105,7 +109,7 @@ impl ValueText {
         ensures { IfOk result (λ v. v ≡ seconds3 (number ms)) }
     {
         Ok(ValueText {
-            bytes: seconds_text(alloc, ms)?,
+            bytes: SmallVec::from_vec(seconds_text(alloc, ms)?),
         })
     }
 
@@ -114,7 +118,7 @@ impl ValueText {
         ensures bytes { result.now ≡ self.now }
         ensures value { IsTrue (is_value self.now) }
     {
-        &self.bytes
+        self.bytes.as_slice()
     }
 
     /// A copy.
@@ -122,7 +126,7 @@ impl ValueText {
         ensures { IfOk result (λ v. v ≡ self.now) }
     {
         Ok(ValueText {
-            bytes: Vec::from_slice(alloc, &self.bytes)?,
+            bytes: SmallVec::from_slice(alloc, self.bytes())?,
         })
     }
 }

@@ -1,7 +1,6 @@
 use Rattle.std.proofs.Common.{refl}
 use Rattle.serde_json.specs.View.{view}
 use Rattle.scrape_config.specs.Values.{conf_of}
-use Rattle.scrape_config.specs.Reading.{IsRefusedPattern}
 use Rattle.scrape_config.proofs.JobLemmas.{jobs_clean}
 use Rattle.scrape_config.proofs.read.conf_in.Goals as goal
 
@@ -11,10 +10,6 @@ jobs_in-requires c = record { clean = rw (c.base_of.ensures, c.list_under.ensure
 pub returns-in-Ok-clause-conf : goal.returns-in-Ok-clause-conf
 unfolding conf_of
 returns-in-Ok-clause-conf c = rw (c.in-Ok.ensures.jobs, c.base_of.ensures, c.list_under.ensures) refl
-
-pub returns-in-Err-clause-refused : goal.returns-in-Err-clause-refused
-unfolding conf_of IsRefusedPattern
-returns-in-Err-clause-refused c = rw (c.base_of.ensures, c.list_under.ensures) at c.in-Err.ensures.refused
 
 pub returns-in-Ok-clause-none : goal.returns-in-Ok-clause-none
 unfolding conf_of

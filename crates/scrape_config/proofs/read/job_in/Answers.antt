@@ -1,10 +1,9 @@
-use Rattle.std.proofs.Common.{inl, inr, codes}
+use Rattle.std.proofs.Common.{codes}
 use Rattle.serde_json.specs.View.{view}
 use Rattle.config_fields.specs.Places.{item_place}
 use Rattle.scrape_config.specs.Values.{built, job_of}
 use Rattle.scrape_config.specs.Reading as spec
 use Rattle.scrape_config.proofs.JobLemmas.{metric_fine, target_fine}
-use Rattle.scrape_config.proofs.ReadLemmas.{rule_cause-weaker}
 use Rattle.scrape_config.proofs.PatternLemmas.{cause_first, cause_second}
 use Rattle.scrape_config.proofs.read.job_in.Goals as goal
 
@@ -12,23 +11,9 @@ pub rules_in-requires : goal.rules_in-requires
 rules_in-requires c =
     record { fine = rw (c.as_slice-metric.ensures, c.in_ok-conf.ensures) (metric_fine c.args.base (item_place spec.jobs_place c.args.index) (view c.args.value.now) c.requires.clean) }
 
-pub returns-in-Err-clause-refused : goal.returns-in-Err-clause-refused
-unfolding built
-returns-in-Err-clause-refused c =
-    let job = job_of c.args.base (view c.args.value.now) in
-    rule_cause-weaker (spec.IsRefusedIn (spec.rules_place c.args.index (codes "metric_relabel_configs")) job.metric_relabel) (spec.IsRefusedInJob c.args.index (built job))
-    (λ place h. inl h) c.in-Err.error (rw (c.as_slice-metric.ensures, c.in_ok-conf.ensures) at c.in-Err.ensures.refused)
-
 pub rules_in-requires-2 : goal.rules_in-requires-2
 rules_in-requires-2 c =
     record { fine = rw (c.as_slice-target.ensures, c.in_ok-conf.ensures) (target_fine c.args.base (item_place spec.jobs_place c.args.index) (view c.args.value.now) c.requires.clean) }
-
-pub returns-in-Err-rules_in-clause-refused : goal.returns-in-Err-rules_in-clause-refused
-unfolding built
-returns-in-Err-rules_in-clause-refused c =
-    let job = job_of c.args.base (view c.args.value.now) in
-    rule_cause-weaker (spec.IsRefusedIn (spec.rules_place c.args.index (codes "relabel_configs")) job.relabel) (spec.IsRefusedInJob c.args.index (built job))
-    (λ place h. inr h) c.in-Err-rules_in.error (rw (c.as_slice-target.ensures, c.in_ok-conf.ensures) at c.in-Err-rules_in.ensures.refused)
 
 pub returns-in-Err-clause-first : goal.returns-in-Err-clause-first
 unfolding built

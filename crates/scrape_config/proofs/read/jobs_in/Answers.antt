@@ -1,15 +1,13 @@
 use Rattle.std.specs.Option.{option_or}
 use Rattle.scrape_config.proofs.PatternLemmas.{cause_first}
-use Rattle.std.proofs.Common.{ℕ, List, Option, None, subst, rules, ◌≡◌, ◌++◌, ◌∷◌, ◌+◌, [], length, drop, slice_get, Some, sym, ap, ◌∙◌, append_assoc}
+use Rattle.std.proofs.Common.{ℕ, List, Option, None, subst, rules, ◌≡◌, ◌++◌, ◌∷◌, ◌+◌, [], length, drop, sym, ap, ◌∙◌, append_assoc}
 use Rattle.std.proofs.lemmas.List.{length_push}
-use Rattle.std.proofs.lemmas.List.Elements.{All-push}
 use Rattle.serde_json.specs.View.{view, items_view}
 use Rattle.scrape_config.specs.Lists.{jobs_walk}
 use Rattle.scrape_config.specs.Values.{built, job_of, jobs_of}
-use Rattle.scrape_config.specs.Reading.{jobs_place, job_pattern, jobs_pattern, IsPatternCause, HasPatterns, IsRefusedInJob, IsRefusedInJobs}
+use Rattle.scrape_config.specs.Reading.{jobs_place, job_pattern, jobs_pattern, IsPatternCause}
 use Rattle.scrape_config.proofs.ListLemmas.{next_item}
-use Rattle.scrape_config.proofs.JobLemmas.{job_first, get_behind}
-use Rattle.scrape_config.proofs.ReadLemmas.{rule_cause-weaker}
+use Rattle.scrape_config.proofs.JobLemmas.{job_first}
 use Rattle.scrape_config.proofs.read.jobs_in.Goals as goal
 
 pub job_in-requires : goal.job_in-requires
@@ -22,23 +20,6 @@ job_in-requires c =
     let walked = sym (ap (λ xs. walk (items_view xs)) (next_item vs i v c.value-item.is c.loop-value-test.true)) ∙ c.loop-value.invariant.clean in
     let counted : c.len.result ≡ n = search rules in
     record { clean = rw counted (job_first c.args.base jobs_place n (view v) (items_view (drop (i + 1) vs)) walked).0 }
-
-pub returns-in-Err-clause-refused : goal.returns-in-Err-clause-refused
-returns-in-Err-clause-refused c =
-    let vs = c.args.values.now in
-    let i = c.loop-value.value-index in
-    let v = c.value-item.result in
-    let items = c.loop-value.items.items in
-    let base = c.args.base in
-    let job = built (job_of base (view v)) in
-    let all = jobs_of base (items_view vs) in
-    let later = jobs_of base (items_view (drop (i + 1) vs)) in
-    let listed : items ++ job ∷ later ≡ all =
-    sym (ap (λ xs. items ++ jobs_of base (items_view xs)) (next_item vs i v c.value-item.is c.loop-value-test.true)) ∙ c.loop-value.invariant.jobs in
-    let got : slice_get all (length items) ≡ Some job = ap (λ xs. slice_get xs (length items)) (sym listed) ∙ get_behind items job later in
-    let counted : c.len.result ≡ length items = search rules in
-    rule_cause-weaker (IsRefusedInJob (length items) job) (IsRefusedInJobs all) (λ place h. (length items, rw got h)) c.in-Err.error
-    (rw counted at c.in-Err.ensures.refused)
 
 pub returns-in-Err-clause-first : goal.returns-in-Err-clause-first
 returns-in-Err-clause-first c =
@@ -77,6 +58,5 @@ loop-value-preserved c =
     record {
       clean = rw (pushed, length_push items c.in-Ok.job) (job_first base jobs_place n (view v) rest walked).1;
       jobs = rw (pushed, c.in-Ok.ensures.job) (append_assoc items (job ∷ []) (jobs_of base rest) ∙ listed);
-      patterns = rw pushed (All-push HasPatterns items c.in-Ok.job c.loop-value.invariant.patterns c.in-Ok.ensures.patterns);
       first = rw (pushed, length_push items c.in-Ok.job) (ap (λ o. option_or o (jobs_pattern (n + 1) (jobs_of base rest))) (sym none) ∙ onward);
     }
