@@ -1,5 +1,4 @@
-pub mod FlowLemmas
-pub mod BookLemmas
+pub mod SaidLemmas
 pub mod ScriptLemmas
 pub mod EndLemmas
 pub mod DueLemmas

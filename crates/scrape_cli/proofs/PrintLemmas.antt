@@ -6,7 +6,7 @@ use Rattle.journal_text.specs.declared.events.Event.{Event}
 use Rattle.journal_text.specs.Faults.{IsJournalOf}
 use Rattle.report_samples.specs.declared.entries.Entry.{Entry}
 use Rattle.scrape_machine.specs.Machine.{book_of}
-use Rattle.scrape_cli.specs.Texts.{printed}
+use Rattle.book_text.specs.Texts.{printed}
 use Rattle.scrape_cli.specs.Words.{asking, limit_of}
 use Rattle.scrape_cli.specs.Ends.{work, IsAskedFor, IsDone, IsRefused}
 use Rattle.scrape_cli.specs.declared.words.Command.TheVariants.{Replay}

@@ -6,7 +6,7 @@ use Rattle.journal_text.specs.declared.faults.ScriptFault.{ScriptFault}
 use Rattle.journal_text.specs.Faults.{IsJournalOf, IsOnlyFault}
 use Rattle.jobs_in_force.specs.declared.jobs.Filed.{Filed}
 use Rattle.scrape_machine.specs.Machine.{book_of}
-use Rattle.scrape_cli.specs.Texts.{printed}
+use Rattle.book_text.specs.Texts.{printed}
 use Rattle.scrape_cli.specs.Checks.{IsConf, IsFault, ok_line, fault_message}
 use Rattle.scrape_cli.specs.Scripts.{fault_message as script_message}
 use Rattle.scrape_cli.specs.Words.{Asking, asking, asked_in, file_in, limit_of}

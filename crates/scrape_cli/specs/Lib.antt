@@ -1,7 +1,5 @@
 pub mod Arguments
 pub mod Words
-pub mod Texts
-pub mod Flows
 pub mod Checks
 pub mod Scripts
 pub mod Ends

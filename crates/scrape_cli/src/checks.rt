@@ -4,7 +4,7 @@ ghost use Rattle.outside.specs.Objects.{used, Took, Cut, IsUntouched};
 ghost use Rattle.jobs_in_force.specs.Jobs.{IsLoadCause, loaded};
 ghost use Rattle.scrape_cli.specs.Checks as spec;
 
-use crate::printing::PrintError;
+use book_text::PrintError;
 use itoa::Buffer;
 use jobs_in_force::jobs::{Filed, InForce};
 use jobs_in_force::loads::load_of;

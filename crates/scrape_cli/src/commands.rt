@@ -6,10 +6,10 @@ ghost use Rattle.scrape_cli.specs.Words as words;
 ghost use Rattle.scrape_cli.specs.declared.words.Command.TheVariants.{Replay, Check};
 
 use crate::checks::{conf_of, print_ok};
-use crate::printing::{PrintError, print_book};
 use crate::refusals::Refusal;
 use crate::replays::replayed;
 use crate::words::{Asked, Command, limit_of};
+use book_text::{PrintError, print_book};
 use journal_text::ScriptError;
 use label_set::Blob;
 use outside::{Shelf, ShelfError, Sink};

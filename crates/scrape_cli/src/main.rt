@@ -2,19 +2,17 @@
 //! or it checks a configuration and prints how many jobs it has.
 //! The library is `tool`, generic over what has files and takes bytes; `main` hands it the real files and the standard streams.
 //! `specs/Statuses.antt` says what each exit status means, `specs/Words.antt` which words are taken,
-//! `specs/Checks.antt` what is said of a configuration, and `specs/Texts.antt` how a book is printed.
+//! `specs/Checks.antt` what is said of a configuration; the crate `book_text` says how a book is printed.
 #![tactic(auto)]
 
 mod arguments;
 mod checks;
 mod commands;
 mod messages;
-mod printing;
 mod refusals;
 mod replays;
 #[cfg(test)]
 mod tests;
-mod texts;
 pub mod tool;
 mod words;
 

@@ -1,5 +1,5 @@
 use Rattle.std.proofs.Common.{◌++◌}
-use Rattle.scrape_cli.proofs.FlowLemmas.{on_err_map, cut_more, cut_after}
+use Rattle.book_text.proofs.FlowLemmas.{on_err_map, cut_more, cut_after}
 use Rattle.scrape_cli.proofs.messages.put_three.Goals as goal
 
 pub returns-in-Ok-put-clause-cut : goal.returns-in-Ok-put-clause-cut

@@ -1,6 +1,6 @@
 use Rattle.std.proofs.Common.{codes, ◌∙◌}
 use Rattle.std.specs.Fmt.{decimal}
-use Rattle.scrape_cli.proofs.FlowLemmas.{said_then, cut_then}
+use Rattle.scrape_cli.proofs.SaidLemmas.{said_then, cut_then}
 use Rattle.scrape_cli.proofs.messages.say_number.Goals as goal
 
 pub returns-in-Ok : goal.returns-in-Ok

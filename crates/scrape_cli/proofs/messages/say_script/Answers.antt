@@ -1,7 +1,7 @@
 use Rattle.std.proofs.Common.{codes, ◌++◌, ◌∙◌, refl}
 use Rattle.std.specs.Fmt.{decimal}
 use Rattle.scrape_cli.specs.Scripts.{cause_word}
-use Rattle.scrape_cli.proofs.FlowLemmas.{said_named, cut_named}
+use Rattle.scrape_cli.proofs.SaidLemmas.{said_named, cut_named}
 use Rattle.scrape_cli.proofs.messages.say_script.Goals as goal
 
 pub returns-in-Ok : goal.returns-in-Ok

@@ -1,6 +1,6 @@
 //! Lines of the printed book.
 ghost use Rattle.std.specs.Prelude.{◌≡◌, ◌++◌, ◌+◌, ◌<◌, ◌≤◌, length, vec_len, vec_capacity, OnOk, OnErr};
-ghost use Rattle.scrape_cli.specs.Texts as spec;
+ghost use Rattle.book_text.specs.Texts as spec;
 
 use appender_book::Verdict;
 use itoa::Buffer;

@@ -1,10 +1,11 @@
 //! Printing a book to a sink, page by page.
 ghost use Rattle.std.specs.Prelude.{◌≡◌, ◌++◌, ◌+◌, ◌≤◌, ◌<◌, ◌^◌, [], ℕ, length, vec_len, vec_capacity, slice_get, IfOk, IfSome, OnOk, OnErr, IsErrOf};
 ghost use Rattle.outside.specs.Objects.{used, Took, Cut, IsUntouched};
-ghost use Rattle.scrape_cli.specs.Flows.{Flows, Stops};
-ghost use Rattle.scrape_cli.specs.Texts as spec;
+ghost use Rattle.book_text.specs.Flows.{Flows, Stops};
+ghost use Rattle.book_text.specs.Texts as spec;
 
-use crate::texts::{push_line, push_marked, verdict_mark};
+use crate::lines::{push_marked, verdict_mark};
+use crate::rooms::line_room;
 use appender_book::Book;
 use label_set::NoMemory;
 use outside::{Sink, SinkFault};
@@ -28,7 +29,7 @@ pub enum PrintError {
 
 impl From<NoMemory> for PrintError {
     ghost use Rattle.std.specs.Prelude.{◌≡◌};
-    ghost use Rattle.scrape_cli.specs.declared.printing.PrintError.TheVariants as variants;
+    ghost use Rattle.book_text.specs.declared.printing.PrintError.TheVariants as variants;
 
     ghost from_gives = { λ _ error. error ≡ variants.NoMemory };
 
@@ -37,18 +38,15 @@ impl From<NoMemory> for PrintError {
     }
 }
 
-/// How long the longest line of a book is.
-fn longest(alloc: Global, book: &Book) -> Result<usize, NoMemory>
+/// Room for any line of a book, told without writing one.
+fn longest(book: &Book) -> Result<usize, NoMemory>
     ensures within { IfOk result (λ most. spec.AreWithin most book.now.entries) }
     ensures small { IfOk result (λ most. most < 2 ^ 63) }
 {
-    let mut line = Vec::new(alloc);
     let mut most: usize = 0;
     for place in 0..book.len() {
         if let Some(entry) = book.entry(place) {
-            line.clear();
-            push_line(&mut line, entry)?;
-            most = most.max(line.len());
+            most = most.max(line_room(entry)?);
         }
     }
     Ok(most)
@@ -165,7 +163,7 @@ pub fn print_book<O: Sink>(
     ensures cut { IsErrOf result PrintError.WriteFault → Cut (spec.printed kept book.now.entries) (used (O.seen out.old) (O.seen out.new)) }
     ensures kept { IsErrOf result PrintError.NoMemory → IsUntouched (used (O.seen out.old) (O.seen out.new)) }
 {
-    let most = longest(alloc, book)?;
+    let most = longest(book)?;
     let mut page = Vec::new(alloc);
     page.reserve(PAGE + (MARK + most)).map_err(NoMemory::from)?;
     match print_pages(&mut page, most, kept, book, out) {

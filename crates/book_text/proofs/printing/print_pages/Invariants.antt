@@ -1,9 +1,9 @@
 use Rattle.std.proofs.Common.{◌≤◌, ◌+◌, [], take, vec_capacity}
 use Rattle.outside.specs.Objects.{used}
-use Rattle.scrape_cli.specs.declared.printing.TheConstants.{PAGE, MARK}
-use Rattle.scrape_cli.specs.Texts.{printed}
-use Rattle.scrape_cli.specs.Flows.{Flows}
-use Rattle.scrape_cli.proofs.printing.print_pages.Given as goal
+use Rattle.book_text.specs.declared.printing.TheConstants.{PAGE, MARK}
+use Rattle.book_text.specs.Texts.{printed}
+use Rattle.book_text.specs.Flows.{Flows}
+use Rattle.book_text.proofs.printing.print_pages.Given as goal
 
 abbrev pub invariant-loop-place : goal.invariant-loop-place
 invariant-loop-place g l = record {

@@ -10,9 +10,9 @@ use Rattle.report_samples.specs.declared.entries.Entry.{Entry}
 use Rattle.appender_book.specs.Verdicts.{verdict_at, verdict_behind}
 use Rattle.appender_book.specs.declared.verdicts.Verdict.{Verdict}
 use Rattle.outside.specs.Objects.{SinkSeen, Use, used, Took, Cut}
-use Rattle.scrape_cli.specs.Texts.{entry_line, book_text, kept_text, kept_line, kept_behind, printed, mark_at, verdict_mark}
-use Rattle.scrape_cli.specs.Flows.{Flows, Stops}
-use Rattle.scrape_cli.proofs.FlowLemmas.{flows_none, flows_more, flows_took, stops_after, stops_more, stops_cut}
+use Rattle.book_text.specs.Texts.{entry_line, book_text, kept_text, kept_line, kept_behind, printed, mark_at, verdict_mark}
+use Rattle.book_text.specs.Flows.{Flows, Stops}
+use Rattle.book_text.proofs.FlowLemmas.{flows_none, flows_more, flows_took, stops_after, stops_more, stops_cut}
 
 -- a place within a list has an item
 pub none_past : {X : Type 0} (xs : List X) (i : ℕ) → slice_get xs i ≡ None → i < length xs → ⊥

@@ -1,8 +1,8 @@
 use Rattle.std.proofs.Common.{◌≡◌, ◌<◌, ◌≤◌, ◌^◌, ℕ, length}
 use Rattle.std.specs.Prelude.{slice_get, Some}
 use Rattle.report_samples.specs.declared.entries.Entry.{Entry}
-use Rattle.scrape_cli.specs.Texts.{entry_line}
-use Rattle.scrape_cli.proofs.printing.longest.Given as goal
+use Rattle.book_text.specs.Texts.{entry_line}
+use Rattle.book_text.proofs.printing.longest.Given as goal
 
 abbrev pub invariant-loop-place : goal.invariant-loop-place
 invariant-loop-place l = record {
