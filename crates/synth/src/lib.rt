@@ -1,0 +1,11 @@
+//! Large journals from a number: the workload by which the speed of the scrape manager is judged.
+//! `specs/Scripts.antt` says which journal a seed, a number of targets and a number of scrapes make.
+#![tactic(auto)]
+
+pub mod pages;
+pub mod scripts;
+
+pub use scripts::{Plan, make_script};
+
+#[cfg(test)]
+mod tests;
