@@ -1,3 +1,4 @@
 pub mod Texts
 pub mod Flows
 pub mod Rooms
+pub mod Summaries

@@ -1,12 +1,15 @@
-//! The text of a book: a line for each entry, put to a sink page by page, with verdicts in front where they are wanted.
-//! `specs/Texts.antt` says how an entry is written.
+//! The text of a book: a line for each entry, put to a sink page by page, with verdicts in front where they are wanted;
+//! and a summary in its place.
+//! `specs/Texts.antt` says how an entry is written, `specs/Summaries.antt` what the summary is.
 #![tactic(auto)]
 
 pub mod lines;
 pub mod printing;
 pub mod rooms;
+pub mod summaries;
 
 pub use printing::{PrintError, print_book};
+pub use summaries::summary_of;
 
 #[cfg(test)]
 mod tests;

@@ -9,7 +9,7 @@ use report_samples::{Entry, Kind};
 use value_text::ValueText;
 
 /// Appends a piece; it fails only where there is no room for it.
-fn push(text: &mut Vec<u8>, piece: &[u8]) -> Result<(), NoMemory>
+pub(crate) fn push(text: &mut Vec<u8>, piece: &[u8]) -> Result<(), NoMemory>
     ensures written { OnOk result (text.new.items ≡ text.old.items ++ piece.now) }
     ensures full { OnErr result (vec_capacity text.old < vec_len text.old + length piece.now) }
     ensures capacity { vec_capacity text.old ≤ vec_capacity text.new }
@@ -18,7 +18,8 @@ fn push(text: &mut Vec<u8>, piece: &[u8]) -> Result<(), NoMemory>
     Ok(text.extend_from_slice(piece)?)
 }
 
-fn kind_word(kind: Kind) -> &'static str
+/// The word of a kind.
+pub(crate) fn kind_word(kind: Kind) -> &'static str
     ensures { result.now ≡ spec.kind_word kind }
 {
     match kind {

@@ -1,5 +1,6 @@
 //! A book of two entries, printed with verdicts and without, and at a put that fails.
 use crate::printing::{PrintError, print_book};
+use crate::summaries::summary_of;
 use appender_book::Book;
 use label_set::{Label, LabelSet, NoMemory};
 use outside::{CallList, MemSink};
@@ -70,5 +71,15 @@ fn a_put_that_fails_is_told(rt: HostRuntime) -> Result<(), NoMemory> {
     items.push(0)?;
     let mut out = MemSink::new(alloc, 1000, CallList { items })?;
     assert!(rt; print_book(alloc, false, &book, &mut out) == Err(PrintError::WriteFault));
+    Ok(())
+}
+
+#[test]
+fn a_summary(rt: HostRuntime) -> Result<(), NoMemory> {
+    let alloc = rt.alloc();
+    let text = summary_of(alloc, 5, &book(alloc)?)?;
+    let wanted =
+        b"events 5\nentries 2\nsample 1\nstale 1\nreport 0\nreport-stale 0\ndigest 61ab7c5b6646dde23d3adecfef7d7a76\n";
+    assert!(rt; text.as_slice() == wanted.as_slice());
     Ok(())
 }
