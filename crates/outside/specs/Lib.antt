@@ -1,3 +1,11 @@
 pub mod Objects
 pub mod Memory
 pub mod Adapters
+pub mod Sources
+pub mod Inputs
+pub mod Clocks
+pub mod Links
+pub mod Lines
+pub mod Calls
+pub mod Fetches
+pub mod Replies

@@ -1,4 +1,4 @@
-//! What the scrape manager has around it: the requests of scrapes and what came back for them, and the files, sinks and links that it is handed.
+//! What the scrape manager has around it: the requests of scrapes and what came back for them, and the files, sinks, inputs, clocks and links that it is handed.
 //! The crates that decide know these types alone, so they reach no file, socket or clock: each object is a trait, with objects in memory
 //! that tell all that they hold, and thin adapters over the real things, which tell nothing.
 //! Contracts see a reply as its variant, with the body as the list of its bytes; of an object they see what it holds, where it tells that,
@@ -6,16 +6,38 @@
 #![tactic(auto)]
 
 pub mod adapters;
+pub mod calls;
+pub mod clocks;
+pub mod fetches;
+pub mod lines;
+pub mod links;
 pub mod memory;
 pub mod objects;
 pub mod replies;
 pub mod requests;
+pub mod sockets;
+pub mod sources;
+pub mod streams;
 
 pub use adapters::{FileShelf, StdSink};
+pub use calls::{Call, ToldCall, tell_call};
+pub use clocks::{Clock, MemClock, MomentList};
+pub use fetches::{Fetch, FetchedList, MemFetch, SureFetch};
+pub use lines::{MemLink, SureLink};
+pub use links::{Link, LinkFault};
 pub use memory::{MemShelf, MemSink, SureShelf, SureSink};
 pub use objects::{CallList, FileList, Shelf, ShelfError, Sink, SinkFault, StoredFile};
 pub use replies::Reply;
 pub use requests::{Fetched, Request, Scheme};
+pub use sockets::TcpLink;
+pub use sources::{MemSource, Source, SourceFault, SureSource};
+pub use streams::{FileSink, StdSource, SystemClock};
 
+#[cfg(test)]
+mod fetch_tests;
+#[cfg(test)]
+mod input_tests;
+#[cfg(test)]
+mod link_tests;
 #[cfg(test)]
 mod tests;

@@ -95,7 +95,7 @@ impl MemShelf {
 }
 
 /// Whether the call of a number is to fail.
-fn fails_at(fails: &[u64], number: u64) -> bool
+pub(crate) fn fails_at(fails: &[u64], number: u64) -> bool
     ensures { result ≡ fails_now fails.now number }
 {
     fails.iter().any(|fail| number == *fail)

@@ -1,0 +1,74 @@
+use super::*;
+use label_set::{Blob, Name, NoMemory};
+use std::alloc::Global;
+use std::process::Abort;
+use std::test::Fail;
+
+fn request(alloc: Global, scheme: Scheme) -> Result<Request, NoMemory> {
+    Ok(Request {
+        scheme,
+        authority: Name::from_str(alloc, "a:1")?,
+        host: Name::from_str(alloc, "a")?,
+        port: 1,
+        target: Name::from_str(alloc, "/metrics")?,
+        timeout: 1000,
+        limit: 100,
+    })
+}
+
+/// A body that took 15 milliseconds, and a reply that is no HTTP.
+fn replies(alloc: Global) -> Result<FetchedList, NoMemory> {
+    let body = Reply::Body {
+        status: 200,
+        bytes: Blob::from_slice(alloc, b"x 1\n")?,
+    };
+    Ok(FetchedList {
+        items: vec![in alloc; Fetched { took: 15, reply: body }, Fetched { took: 7, reply: Reply::Garbled }]?,
+    })
+}
+
+/// What is answered for https, and then for http: the body, and the other reply.
+fn two_replies<F: Fetch>(rt: &impl Abort, alloc: Global, fetch: &mut F) -> Result<(), NoMemory> {
+    let unsent = fetch.fetch(alloc, &request(alloc, Scheme::Https)?)?;
+    assert!(rt; matches!(unsent.reply, Reply::Unsent) && unsent.took == 0);
+    let http = request(alloc, Scheme::Http)?;
+    let body = fetch.fetch(alloc, &http)?;
+    assert!(rt; matches!(&body.reply, Reply::Body { status: 200, bytes } if bytes.as_slice() == b"x 1\n".as_slice()));
+    assert_eq!(rt; body.took, 15);
+    let other = fetch.fetch(alloc, &http)?;
+    assert!(rt; matches!(other.reply, Reply::Garbled) && other.took == 7);
+    Ok(())
+}
+
+#[test]
+fn fetches_give_their_replies(rt: HostRuntime) -> Result<(), Fail> {
+    let alloc = rt.alloc();
+    let http = request(alloc, Scheme::Http)?;
+    let mut sure = SureFetch::new(alloc, replies(alloc)?)?;
+    two_replies(&rt, alloc, &mut sure)?;
+    let past = sure.fetch(alloc, &http)?;
+    assert!(rt; matches!(past.reply, Reply::Garbled) && past.took == 0);
+    let none = CallList {
+        items: Vec::new(alloc),
+    };
+    let mut fetch = MemFetch::new(alloc, replies(alloc)?, none)?;
+    two_replies(&rt, alloc, &mut fetch)?;
+    let past = fetch.fetch(alloc, &http)?;
+    assert!(rt; matches!(past.reply, Reply::Lost) && past.took == 0);
+    Ok(())
+}
+
+#[test]
+fn a_fetch_fails_at_the_calls_of_its_list(rt: HostRuntime) -> Result<(), Fail> {
+    let alloc = rt.alloc();
+    let fails = CallList {
+        items: vec![in alloc; 0, 1]?,
+    };
+    let mut fetch = MemFetch::new(alloc, replies(alloc)?, fails)?;
+    let unsent = fetch.fetch(alloc, &request(alloc, Scheme::Https)?)?;
+    assert!(rt; matches!(unsent.reply, Reply::Unsent));
+    let http = request(alloc, Scheme::Http)?;
+    assert!(rt; matches!(fetch.fetch(alloc, &http)?.reply, Reply::Lost));
+    assert!(rt; matches!(fetch.fetch(alloc, &http)?.reply, Reply::Body { .. }));
+    Ok(())
+}

@@ -1,0 +1,91 @@
+use super::*;
+use label_set::{Blob, Name};
+use std::fs;
+use std::process::Abort;
+use std::test::Fail;
+
+/// What a source of three bytes gives in reads of two.
+fn three_bytes<S: Source>(rt: &impl Abort, source: &mut S) {
+    let mut room = [0u8; 2];
+    assert_eq!(rt; source.read(&mut room), Ok(2));
+    assert_eq!(rt; &room, b"ab");
+    assert_eq!(rt; source.read(&mut room), Ok(1));
+    assert_eq!(rt; &room, b"cb");
+    assert_eq!(rt; source.read(&mut room), Ok(0));
+}
+
+#[test]
+fn sources_give_their_bytes(rt: HostRuntime) -> Result<(), Fail> {
+    let alloc = rt.alloc();
+    three_bytes(&rt, &mut SureSource::new(Blob::from_slice(alloc, b"abc")?)?);
+    let none = CallList {
+        items: Vec::new(alloc),
+    };
+    three_bytes(&rt, &mut MemSource::new(Blob::from_slice(alloc, b"abc")?, none)?);
+    fs::write(&rt, "three", "abc")?;
+    three_bytes(&rt, &mut StdSource::new(fs::open(&rt, "three")?));
+    fs::remove_file(&rt, "three")?;
+    Ok(())
+}
+
+#[test]
+fn a_source_fails_at_the_calls_of_its_list(rt: HostRuntime) -> Result<(), Fail> {
+    let alloc = rt.alloc();
+    let second = CallList {
+        items: vec![in alloc; 1]?,
+    };
+    let mut source = MemSource::new(Blob::from_slice(alloc, b"abc")?, second)?;
+    let mut room = [0u8; 2];
+    assert_eq!(rt; source.read(&mut room), Ok(2));
+    assert_eq!(rt; source.read(&mut room), Err(SourceFault));
+    assert_eq!(rt; source.read(&mut room), Ok(1));
+    // a file that is only written gives nothing
+    let mut closed = StdSource::new(fs::create(&rt, "closed")?);
+    assert_eq!(rt; closed.read(&mut room), Err(SourceFault));
+    fs::remove_file(&rt, "closed")?;
+    Ok(())
+}
+
+#[test]
+fn a_clock_reads_its_list(rt: HostRuntime) -> Result<(), Fail> {
+    let alloc = rt.alloc();
+    let mut clock = MemClock::new(MomentList {
+        items: vec![in alloc; 3, 5]?,
+    })?;
+    assert_eq!(rt; clock.now(), 3);
+    clock.wait_until(9);
+    assert_eq!(rt; clock.now(), 5);
+    assert_eq!(rt; clock.now(), 5);
+    let mut empty = MemClock::new(MomentList {
+        items: Vec::new(alloc),
+    })?;
+    assert_eq!(rt; empty.now(), 0);
+    Ok(())
+}
+
+#[test]
+fn the_system_clock_waits(rt: HostRuntime) -> Result<(), Fail> {
+    let mut clock = SystemClock::new(rt.clone()?);
+    let before = clock.now();
+    // after the year 2020, before the year 2100
+    assert!(rt; 1577836800000 < before && before < 4102444800000);
+    clock.wait_until(before + 20);
+    assert!(rt; before + 20 <= clock.now());
+    Ok(())
+}
+
+#[test]
+fn a_file_is_made_at_the_first_put(rt: HostRuntime) -> Result<(), Fail> {
+    let alloc = rt.alloc();
+    let mut sink = FileSink::new(rt.clone()?, Name::from_str(alloc, "trail")?);
+    assert!(rt; fs::open(&rt, "trail").is_err());
+    assert_eq!(rt; sink.put(b"one "), Ok(()));
+    assert_eq!(rt; sink.put(b"two\n"), Ok(()));
+    let written = fs::read(&rt, "trail")?;
+    fs::remove_file(&rt, "trail")?;
+    assert_eq!(rt; written.as_slice(), b"one two\n".as_slice());
+    // no file can be made in a folder that isn't there
+    let mut lost = FileSink::new(rt.clone()?, Name::from_str(alloc, "none/trail")?);
+    assert_eq!(rt; lost.put(b"one"), Err(SinkFault));
+    Ok(())
+}

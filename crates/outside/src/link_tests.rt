@@ -1,0 +1,101 @@
+use super::*;
+use label_set::{Blob, Name, NoMemory};
+use std::alloc::Global;
+use std::io;
+use std::io::{Read, Write};
+use std::net::TcpListener;
+use std::process::Abort;
+use std::test::Fail;
+use std::thread;
+
+/// What is read from a link of three bytes in reads of two, once it is dialled.
+fn three_bytes<L: Link>(rt: &impl Abort, link: &mut L) {
+    let mut room = [0u8; 2];
+    assert_eq!(rt; link.dial("127.0.0.1", 80, 1000), Ok(()));
+    assert_eq!(rt; link.write(b"GET"), Ok(3));
+    assert_eq!(rt; link.read(&mut room), Ok(2));
+    assert_eq!(rt; &room, b"ab");
+    link.hang_up();
+    assert_eq!(rt; link.read(&mut room), Ok(1));
+    assert_eq!(rt; link.read(&mut room), Ok(0));
+}
+
+#[test]
+fn links_give_their_bytes(rt: HostRuntime) -> Result<(), Fail> {
+    let alloc = rt.alloc();
+    three_bytes(&rt, &mut SureLink::new(Blob::from_slice(alloc, b"abc")?)?);
+    let none = CallList {
+        items: Vec::new(alloc),
+    };
+    let mut link = MemLink::new(alloc, Blob::from_slice(alloc, b"abc")?, 4, none)?;
+    three_bytes(&rt, &mut link);
+    // one byte of room is left, and then none
+    assert_eq!(rt; link.write(b"/m"), Ok(1));
+    assert_eq!(rt; link.write(b"m"), Err(LinkFault));
+    assert_eq!(rt; link.write(b""), Ok(0));
+    assert_eq!(rt; link.sent(), b"GET/".as_slice());
+    Ok(())
+}
+
+#[test]
+fn a_link_fails_at_the_calls_of_its_list(rt: HostRuntime) -> Result<(), Fail> {
+    let alloc = rt.alloc();
+    let fails = CallList {
+        items: vec![in alloc; 0, 2, 4]?,
+    };
+    let mut link = MemLink::new(alloc, Blob::from_slice(alloc, b"abc")?, 4, fails)?;
+    let mut room = [0u8; 2];
+    assert_eq!(rt; link.dial("a", 80, 1000), Err(LinkFault));
+    assert_eq!(rt; link.dial("a", 80, 1000), Ok(()));
+    assert_eq!(rt; link.write(b"GET"), Err(LinkFault));
+    assert_eq!(rt; link.write(b"GET"), Ok(3));
+    assert_eq!(rt; link.read(&mut room), Err(LinkFault));
+    assert_eq!(rt; link.read(&mut room), Ok(2));
+    Ok(())
+}
+
+/// Answers one connection with three bytes, once three have come.
+fn serve(listener: TcpListener) -> io::Result<()> {
+    let (mut stream, _) = listener.accept()?;
+    let mut room = [0u8; 3];
+    stream.read_exact(&mut room)?;
+    stream.write_all(b"abc")
+}
+
+#[test]
+fn a_connection_carries_bytes_both_ways(rt: HostRuntime) -> Result<(), Fail> {
+    let listener = TcpListener::bind(&rt, "127.0.0.1:0")?;
+    let port = listener.local_addr()?.port();
+    let server = thread::spawn(&rt, move || serve(listener))?;
+    let mut link = TcpLink::new(rt.clone()?);
+    let mut room = [0u8; 8];
+    assert_eq!(rt; link.read(&mut room), Err(LinkFault));
+    assert_eq!(rt; link.dial("127.0.0.1", port, 5000), Ok(()));
+    assert_eq!(rt; link.write(b"GET"), Ok(3));
+    let mut come = 0;
+    for _ in 0..4 {
+        let Ok(count) = link.read(&mut room) else {
+            break;
+        };
+        come += count;
+    }
+    assert_eq!(rt; come, 3);
+    assert!(rt; server.join(&rt).is_ok());
+    link.hang_up();
+    assert_eq!(rt; link.write(b"GET"), Err(LinkFault));
+    // no one listens there any more
+    assert_eq!(rt; link.dial("127.0.0.1", port, 5000), Err(LinkFault));
+    assert_eq!(rt; link.dial("127.0.0.1", port, -1), Err(LinkFault));
+    Ok(())
+}
+
+#[test]
+fn a_read_that_takes_too_long_is_a_fault(rt: HostRuntime) -> Result<(), Fail> {
+    let listener = TcpListener::bind(&rt, "127.0.0.1:0")?;
+    let mut link = TcpLink::new(rt.clone()?);
+    // the system accepts the connection, and nothing comes
+    assert_eq!(rt; link.dial("127.0.0.1", listener.local_addr()?.port(), 20), Ok(()));
+    let mut room = [0u8; 8];
+    assert_eq!(rt; link.read(&mut room), Err(LinkFault));
+    Ok(())
+}
