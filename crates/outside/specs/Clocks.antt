@@ -1,5 +1,5 @@
 -- What contracts see of clocks, and what their readings are.
-use Rattle.std.specs.Prelude.{◌≡◌, ◌<◌, ◌^◌, ℕ, ℤ, pos, negsuc, List, [], ◌∷◌, Option, Some, All}
+use Rattle.std.specs.Prelude.{◌≡◌, ◌<◌, ◌^◌, ℤ, pos, negsuc, List, [], ◌∷◌, Option, Some}
 
 -- a clock: the readings that it gives from here on, where it tells them: those of a list, then the last of them again and again, and 0 where it has none
 pub record ClockSeen : Type 0 where

@@ -1,10 +1,10 @@
 -- What contracts see of what fetches, and what a fetch says.
-use Rattle.std.specs.Prelude.{◌≡◌, ◌≤◌, ◌^◌, ℕ, ℤ, pos, negsuc, List, [], ◌∷◌, ◌++◌, length, map, Option, Some, IfSome, ◌↔◌}
+use Rattle.std.specs.Prelude.{◌≡◌, ◌≤◌, ◌^◌, ℕ, ℤ, pos, negsuc, List, [], ◌∷◌, ◌++◌, length, Option, Some, IfSome, ◌↔◌}
 use Rattle.outside.specs.declared.requests.Request.{Request}
 use Rattle.outside.specs.declared.requests.Fetched.{Fetched}
 use Rattle.outside.specs.declared.requests.Scheme.TheVariants.{Https}
 use Rattle.outside.specs.declared.replies.Reply.{Reply}
-use Rattle.outside.specs.declared.replies.Reply.TheVariants.{Body, Lost, Garbled, Unsent, Oversize}
+use Rattle.outside.specs.declared.replies.Reply.TheVariants.{Body, Lost, Unsent}
 use Rattle.outside.specs.declared.calls.Call.{Call}
 use Rattle.outside.specs.Clocks.{IsReading}
 use Rattle.outside.specs.Objects.{Use, Rose}

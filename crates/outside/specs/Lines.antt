@@ -1,7 +1,6 @@
 -- Links in memory.
-use Rattle.std.specs.Prelude.{ℕ, ◌+◌, ◌-◌, min, Bool, true, false, List, ◌++◌, take, drop, length, nat_eq, nat_lt, ◌&&◌, ◌||◌, Some, None, if◌then◌else◌}
+use Rattle.std.specs.Prelude.{ℕ, ◌-◌, min, Bool, List, length, nat_eq, nat_lt, ◌&&◌, Some, None}
 use Rattle.outside.specs.Links.{LinkSeen}
-use Rattle.outside.specs.Objects.{raised}
 use Rattle.outside.specs.Memory.{fails_now}
 
 -- a link: whether it is dialled, and what its reads still give

@@ -1,5 +1,5 @@
 -- What contracts see of links, and what their calls say.
-use Rattle.std.specs.Prelude.{◌≡◌, ◌≤◌, ◌<◌, ℕ, List, [], ◌++◌, length, Bool, true, false, Option, Some, IfSome, Result, Ok, Err}
+use Rattle.std.specs.Prelude.{◌≡◌, ◌<◌, ℕ, List, ◌++◌, length, Bool, true, false, Option, Some, IfSome}
 use Rattle.outside.specs.Objects.{Use, Rose}
 use Rattle.outside.specs.Sources.{Gives}
 

@@ -5,7 +5,7 @@ use Rattle.outside.specs.declared.requests.Fetched.{Fetched}
 use Rattle.outside.specs.declared.requests.Scheme.{Scheme}
 use Rattle.outside.specs.declared.requests.Scheme.TheVariants.{Http, Https}
 use Rattle.outside.specs.declared.replies.Reply.{Reply}
-use Rattle.outside.specs.declared.replies.Reply.TheVariants.{Body, Lost, Garbled, Unsent, Oversize}
+use Rattle.outside.specs.declared.replies.Reply.TheVariants.{Lost, Unsent}
 use Rattle.outside.specs.declared.calls.Call.{Call}
 use Rattle.outside.specs.Fetches.{FetchSeen, IsInLimits}
 use Rattle.outside.specs.Memory.{fails_now}
@@ -66,6 +66,11 @@ answer fs request fails none = answer_for request.scheme fs fails none
 
 abbrev pub replies_left : List Fetched → Request → Bool → List Fetched
 replies_left fs request fails = left_for request.scheme fs fails
+
+-- the count of faults once a reply was given
+abbrev pub count_after : ℕ → Reply → ℕ
+count_after faults Lost = raised faults
+count_after faults _ = faults
 
 -- whether the next call is to fail
 abbrev pub is_to_fail : FailingRepliesView → Bool

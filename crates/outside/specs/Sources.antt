@@ -1,5 +1,5 @@
 -- What contracts see of inputs, and what their reads say.
-use Rattle.std.specs.Prelude.{◌≡◌, ◌≤◌, ◌<◌, ℕ, ◌+◌, List, [], ◌++◌, length, Option, Some, IfSome}
+use Rattle.std.specs.Prelude.{◌≡◌, ℕ, ◌+◌, List, [], ◌++◌, length, Option, Some, IfSome}
 use Rattle.outside.specs.Objects.{Use, Rose}
 
 -- an input: what its reads still give, where it tells that, how many bytes they gave, and how often a read has failed

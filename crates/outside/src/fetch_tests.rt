@@ -1,10 +1,18 @@
+ghost use Rattle.std.specs.Prelude.{◌≡◌, ◌≤◌, IfOk, All};
+ghost use Rattle.outside.specs.Fetches.{IsTimeout};
+ghost use Rattle.outside.specs.Replies.{IsReplyToGive};
+
 use super::*;
 use label_set::{Blob, Name, NoMemory};
 use std::alloc::Global;
 use std::process::Abort;
 use std::test::Fail;
+use std::thread;
 
-fn request(alloc: Global, scheme: Scheme) -> Result<Request, NoMemory> {
+fn request(alloc: Global, scheme: Scheme) -> Result<Request, NoMemory>
+    ensures limit { IfOk result (λ r. r.limit ≤ 67108864) }
+    ensures timeout { IfOk result (λ r. IsTimeout r.timeout) }
+{
     Ok(Request {
         scheme,
         authority: Name::from_str(alloc, "a:1")?,
@@ -17,13 +25,24 @@ fn request(alloc: Global, scheme: Scheme) -> Result<Request, NoMemory> {
 }
 
 /// A body that took 15 milliseconds, and a reply that is no HTTP.
-fn replies(alloc: Global) -> Result<FetchedList, NoMemory> {
+fn replies(alloc: Global) -> Result<FetchedList, NoMemory>
+    ensures { IfOk result (λ l. All IsReplyToGive l) }
+{
     let body = Reply::Body {
         status: 200,
         bytes: Blob::from_slice(alloc, b"x 1\n")?,
     };
     Ok(FetchedList {
-        items: vec![in alloc; Fetched { took: 15, reply: body }, Fetched { took: 7, reply: Reply::Garbled }]?,
+        items: vec![in alloc;
+            Fetched {
+                took: 15,
+                reply: body
+            },
+            Fetched {
+                took: 7,
+                reply: Reply::Garbled
+            },
+        ]?,
     })
 }
 
@@ -33,7 +52,9 @@ fn two_replies<F: Fetch>(rt: &impl Abort, alloc: Global, fetch: &mut F) -> Resul
     assert!(rt; matches!(unsent.reply, Reply::Unsent) && unsent.took == 0);
     let http = request(alloc, Scheme::Http)?;
     let body = fetch.fetch(alloc, &http)?;
-    assert!(rt; matches!(&body.reply, Reply::Body { status: 200, bytes } if bytes.as_slice() == b"x 1\n".as_slice()));
+    assert!(rt;
+        matches!(&body.reply, Reply::Body { status: 200, bytes } if bytes.as_slice() == b"x 1\n".as_slice())
+    );
     assert_eq!(rt; body.took, 15);
     let other = fetch.fetch(alloc, &http)?;
     assert!(rt; matches!(other.reply, Reply::Garbled) && other.took == 7);
@@ -70,5 +91,27 @@ fn a_fetch_fails_at_the_calls_of_its_list(rt: HostRuntime) -> Result<(), Fail> {
     let http = request(alloc, Scheme::Http)?;
     assert!(rt; matches!(fetch.fetch(alloc, &http)?.reply, Reply::Lost));
     assert!(rt; matches!(fetch.fetch(alloc, &http)?.reply, Reply::Body { .. }));
+    Ok(())
+}
+
+#[test]
+fn fetches_clocks_and_links_go_to_threads(rt: HostRuntime) -> Result<(), Fail> {
+    let alloc = rt.alloc();
+    let none = CallList {
+        items: Vec::new(alloc),
+    };
+    let fetch = MemFetch::new(alloc, replies(alloc)?, none)?;
+    let sure = SureFetch::new(alloc, replies(alloc)?)?;
+    let mut clock = MemClock::new(MomentList {
+        items: vec![in alloc; 3]?,
+    })?;
+    let system = SystemClock::new(rt.clone()?);
+    let link = TcpLink::new(rt.clone()?);
+    let child = thread::spawn(&rt, move || {
+        drop((fetch, sure));
+        drop((system, link));
+        clock.now()
+    })?;
+    assert_eq!(rt; child.join(&rt), 3);
     Ok(())
 }

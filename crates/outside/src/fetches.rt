@@ -7,7 +7,7 @@ ghost use Rattle.outside.specs.Replies as spec;
 ghost use Rattle.outside.specs.declared.replies.Reply.TheVariants as replies;
 
 use crate::calls::{ToldCall, tell_call};
-use crate::memory::fails_at;
+use crate::memory::next_call;
 use crate::objects::CallList;
 use crate::replies::Reply;
 use crate::requests::{Fetched, Request, Scheme};
@@ -78,6 +78,16 @@ fn take_reply(
             took: 0,
             reply: none,
         },
+    }
+}
+
+/// The count of faults once a reply was given: one more where it was lost.
+fn count_after(faults: u64, reply: &Reply) -> u64
+    ensures { result ≡ spec.count_after faults reply.now }
+{
+    match reply {
+        Reply::Lost => faults.saturating_add(1),
+        _ => faults,
     }
 }
 
@@ -185,13 +195,9 @@ impl Fetch for MemFetch {
         ensures fails { self.new.fails ≡ self.old.fails }
     {
         self.told.reserve(1)?;
-        let number = self.calls;
-        self.calls = number.saturating_add(1);
-        let fails = fails_at(self.fails.items.as_slice(), number);
+        let fails = next_call(&self.fails, &mut self.calls);
         let fetched = take_reply(&mut self.replies, request, fails, Reply::Lost);
-        if matches!(&fetched.reply, Reply::Lost) {
-            self.faults = self.faults.saturating_add(1);
-        }
+        self.faults = count_after(self.faults, &fetched.reply);
         tell_call(&mut self.told, request, &fetched);
         Ok(fetched)
     }

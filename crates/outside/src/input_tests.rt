@@ -21,7 +21,10 @@ fn sources_give_their_bytes(rt: HostRuntime) -> Result<(), Fail> {
     let none = CallList {
         items: Vec::new(alloc),
     };
-    three_bytes(&rt, &mut MemSource::new(Blob::from_slice(alloc, b"abc")?, none)?);
+    three_bytes(
+        &rt,
+        &mut MemSource::new(Blob::from_slice(alloc, b"abc")?, none)?,
+    );
     fs::write(&rt, "three", "abc")?;
     three_bytes(&rt, &mut StdSource::new(fs::open(&rt, "three")?));
     fs::remove_file(&rt, "three")?;

@@ -1,13 +1,12 @@
 //! Links in memory.
-ghost use Rattle.std.specs.Prelude.{◌≡◌, ◌≤◌, ◌<◌, ◌↔◌, ◌+◌, ◌-◌, ◌∷◌, [], ◌++◌, ℕ, List, Option, Some, take, drop, min, length, IfOk, OnOk, OnErr, Ok, IsErr, IsTrue, false, true};
+ghost use Rattle.std.specs.Prelude.{◌≡◌, ◌≤◌, ◌<◌, ◌↔◌, ◌+◌, ◌-◌, ◌∷◌, [], ◌++◌, ℕ, List, Option, Some, take, drop, min, length, IfOk, OnOk, OnErr, Ok, IsErr, IsTrue, false, true, ◌||◌};
 ghost use Rattle.outside.specs.Objects.{raised, used};
 ghost use Rattle.outside.specs.Sources.{IsAtEnd};
 ghost use Rattle.outside.specs.Links.{WasDialled, TookToSend, TakesSome, GaveOfLink, Broke, WasHungUp};
-ghost use Rattle.outside.specs.Memory.{fails_now};
 ghost use Rattle.outside.specs.Lines as spec;
 
 use crate::links::{Link, LinkFault};
-use crate::memory::fails_at;
+use crate::memory::next_call;
 use crate::objects::CallList;
 use crate::sources::copy_front;
 use label_set::{Blob, NoMemory};
@@ -120,16 +119,6 @@ impl MemLink {
     }
 }
 
-/// Whether the call is to fail, by its number and the list; and the number of the next one.
-fn next_call(fails: &CallList, calls: &mut u64) -> bool
-    ensures fails { result ≡ fails_now fails.now calls.old }
-    ensures next { calls.new ≡ raised calls.old }
-{
-    let number = *calls;
-    *calls = number.saturating_add(1);
-    fails_at(fails.items.as_slice(), number)
-}
-
 impl Link for MemLink {
     ghost seen = { spec.failing_link_seen };
 
@@ -168,6 +157,7 @@ impl Link for MemLink {
     }
 
     fn read(&mut self, room: &mut [u8]) -> Result<usize, LinkFault>
+        requires { 0 < length room.old }
         ensures within { IfOk result (λ n. n ≤ length room.new) }
         ensures gave { IfOk result (λ n. GaveOfLink (take n room.new) (used (spec.failing_link_seen self.old) (spec.failing_link_seen self.new))) }
         ensures end { result ≡ Ok 0 → IsAtEnd (spec.failing_link_seen self.old).left }

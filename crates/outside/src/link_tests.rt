@@ -1,12 +1,11 @@
 use super::*;
 use label_set::{Blob, Name, NoMemory};
 use std::alloc::Global;
-use std::io;
 use std::io::{Read, Write};
 use std::net::TcpListener;
 use std::process::Abort;
 use std::test::Fail;
-use std::thread;
+use std::{io, thread};
 
 /// What is read from a link of three bytes in reads of two, once it is dialled.
 fn three_bytes<L: Link>(rt: &impl Abort, link: &mut L) {
@@ -72,12 +71,12 @@ fn a_connection_carries_bytes_both_ways(rt: HostRuntime) -> Result<(), Fail> {
     assert_eq!(rt; link.read(&mut room), Err(LinkFault));
     assert_eq!(rt; link.dial("127.0.0.1", port, 5000), Ok(()));
     assert_eq!(rt; link.write(b"GET"), Ok(3));
-    let mut come = 0;
+    let mut come = 0usize;
     for _ in 0..4 {
         let Ok(count) = link.read(&mut room) else {
             break;
         };
-        come += count;
+        come = come.saturating_add(count);
     }
     assert_eq!(rt; come, 3);
     assert!(rt; server.join(&rt).is_ok());
@@ -94,7 +93,10 @@ fn a_read_that_takes_too_long_is_a_fault(rt: HostRuntime) -> Result<(), Fail> {
     let listener = TcpListener::bind(&rt, "127.0.0.1:0")?;
     let mut link = TcpLink::new(rt.clone()?);
     // the system accepts the connection, and nothing comes
-    assert_eq!(rt; link.dial("127.0.0.1", listener.local_addr()?.port(), 20), Ok(()));
+    assert_eq!(rt;
+        link.dial("127.0.0.1", listener.local_addr()?.port(), 20),
+        Ok(())
+    );
     let mut room = [0u8; 8];
     assert_eq!(rt; link.read(&mut room), Err(LinkFault));
     Ok(())

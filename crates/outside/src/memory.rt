@@ -95,10 +95,20 @@ impl MemShelf {
 }
 
 /// Whether the call of a number is to fail.
-pub(crate) fn fails_at(fails: &[u64], number: u64) -> bool
+fn fails_at(fails: &[u64], number: u64) -> bool
     ensures { result ≡ fails_now fails.now number }
 {
     fails.iter().any(|fail| number == *fail)
+}
+
+/// Whether the call of a number is to fail, by a list; the next call has the next number.
+pub(crate) fn next_call(fails: &CallList, calls: &mut u64) -> bool
+    ensures fails { result ≡ fails_now fails.now calls.old }
+    ensures next { calls.new ≡ raised calls.old }
+{
+    let number = *calls;
+    *calls = number.saturating_add(1);
+    fails_at(fails.items.as_slice(), number)
 }
 
 impl Shelf for MemShelf {

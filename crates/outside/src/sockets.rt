@@ -44,10 +44,10 @@ fn connect<N: Net>(net: &N, host: &str, port: u16, timeout: Duration) -> io::Res
         .strip_prefix('[')
         .and_then(|host| host.strip_suffix(']'))
         .unwrap_or(host);
-    let count = (host, port).to_socket_addrs(net)?.count();
-    let share = timeout / (count.max(1) as u32);
+    let addresses = (host, port).to_socket_addrs(net)?;
+    let share = timeout / (addresses.len().max(1) as u32);
     let mut last = io::Error::from(ErrorKind::NotFound);
-    for address in (host, port).to_socket_addrs(net)? {
+    for address in addresses {
         match TcpStream::connect_timeout(net, &address, share) {
             Ok(stream) => {
                 stream.set_read_timeout(Some(timeout))?;
@@ -58,14 +58,6 @@ fn connect<N: Net>(net: &N, host: &str, port: u16, timeout: Duration) -> io::Res
         }
     }
     Err(last)
-}
-
-fn write_some<S: Write>(stream: &mut Option<S>, bytes: &[u8]) -> Option<usize> {
-    let count = stream.as_mut()?.write(bytes).ok()?;
-    if count == 0 && !bytes.is_empty() {
-        return None;
-    }
-    Some(count)
 }
 
 impl<N: Net + Drop> Link for TcpLink<N> {
@@ -83,8 +75,12 @@ impl<N: Net + Drop> Link for TcpLink<N> {
     }
 
     fn write(&mut self, bytes: &[u8]) -> Result<usize, LinkFault> {
-        if let Some(count) = write_some(&mut self.stream, bytes) {
-            return Ok(count);
+        if let Some(stream) = &mut self.stream {
+            if let Ok(count) = stream.write(bytes) {
+                if count > 0 || bytes.is_empty() {
+                    return Ok(count);
+                }
+            }
         }
         self.faults = self.faults.saturating_add(1);
         Err(LinkFault)

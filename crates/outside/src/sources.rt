@@ -5,7 +5,7 @@ ghost use Rattle.outside.specs.Sources.{Gave, FailedToGive, IsAtEnd};
 ghost use Rattle.outside.specs.Memory.{fails_now};
 ghost use Rattle.outside.specs.Inputs.{failing_source_seen};
 
-use crate::memory::fails_at;
+use crate::memory::next_call;
 use crate::objects::CallList;
 use label_set::{Blob, NoMemory};
 use std::marker::Model;
@@ -114,6 +114,7 @@ impl Source for MemSource {
     ghost seen = { failing_source_seen };
 
     fn read(&mut self, room: &mut [u8]) -> Result<usize, SourceFault>
+        requires { 0 < length room.old }
         ensures within { IfOk result (λ n. n ≤ length room.new) }
         ensures gave { IfOk result (λ n. Gave (take n room.new) (used (failing_source_seen self.old) (failing_source_seen self.new))) }
         ensures end { result ≡ Ok 0 → IsAtEnd (failing_source_seen self.old).left }
@@ -122,9 +123,7 @@ impl Source for MemSource {
         ensures next { self.new.calls ≡ raised self.old.calls }
         ensures fails { self.new.fails ≡ self.old.fails }
     {
-        let number = self.calls;
-        self.calls = number.saturating_add(1);
-        if fails_at(self.fails.items.as_slice(), number) {
+        if next_call(&self.fails, &mut self.calls) {
             self.faults = self.faults.saturating_add(1);
             return Err(SourceFault);
         }

@@ -1,0 +1,5 @@
+use Rattle.outside.proofs.ReplyLemmas.{left_keeps}
+use Rattle.outside.proofs.fetches.MemFetchFetch.fetch.Goals as goal
+
+pub invariant_of-self-2 : goal.invariant_of-self-2
+invariant_of-self-2 c = rw c.take_reply-fetched.ensures.rest (left_keeps c.args.request.now.scheme c.self.inside.replies.items c.next_call-fails.result c.self.invariant)
