@@ -12,16 +12,8 @@ use Rattle.appender_book.specs.declared.verdicts.Verdict.{Verdict}
 use Rattle.outside.specs.Objects.{SinkSeen, Use, used, Took, Cut}
 use Rattle.book_text.specs.Texts.{entry_line, book_text, kept_text, kept_line, kept_behind, printed, mark_at, verdict_mark}
 use Rattle.book_text.specs.Flows.{Flows, Stops}
+use Rattle.book_text.proofs.PlaceLemmas.{one_more}
 use Rattle.book_text.proofs.FlowLemmas.{flows_none, flows_more, flows_took, stops_after, stops_more, stops_cut}
-
--- a place within a list has an item
-pub none_past : {X : Type 0} (xs : List X) (i : ℕ) → slice_get xs i ≡ None → i < length xs → ⊥
-none_past [] i e lt = omega arith
-none_past (x ∷ xs) i e lt = let q : None ≡ Some (get_or (x ∷ xs) i x) = sym e ∙ slice_get-get_or (x ∷ xs) i x lt in absurd (cc)
-
--- one more entry of those that are taken
-one_more : (xs : List Entry) (i : ℕ) (e : Entry) → slice_get xs i ≡ Some e → take (i + 1) xs ≡ take i xs ++ e ∷ []
-one_more xs i e at = take_more xs i e (slice_get_within xs i e at) ∙ ap (λ z. take i xs ++ z ∷ []) (get_or_from_slice_get xs i e e at)
 
 turned : (xs : List Entry) (x : Entry) (earlier : List Entry) → reverse xs ++ x ∷ earlier ≡ reverse (x ∷ xs) ++ earlier
 turned xs x earlier = sym (ap (λ z. z ++ earlier) (reverse-append (x ∷ []) xs) ∙ append_assoc (reverse xs) (x ∷ []) earlier)

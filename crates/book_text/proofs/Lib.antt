@@ -1,3 +1,5 @@
+pub mod PlaceLemmas
 pub mod FlowLemmas
 pub mod BookLemmas
 pub mod RoomLemmas
+pub mod SummaryLemmas

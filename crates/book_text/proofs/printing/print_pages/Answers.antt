@@ -1,6 +1,7 @@
 use Rattle.std.proofs.Common.{sym, ap, ◌∙◌, arith}
 use Rattle.std.specs.Option.{option_copied}
-use Rattle.book_text.proofs.BookLemmas.{none_past, cut_book, cut_end, took_end, flows_start, flows_entry}
+use Rattle.book_text.proofs.BookLemmas.{cut_book, cut_end, took_end, flows_start, flows_entry}
+use Rattle.book_text.proofs.PlaceLemmas.{none_past}
 use Rattle.book_text.proofs.FlowLemmas.{on_err_map, on_ok_both}
 use Rattle.book_text.proofs.printing.print_pages.Goals.{in-Some+in-Ok, in_default}
 use Rattle.book_text.proofs.printing.print_pages.Goals as goal
