@@ -1,5 +1,5 @@
 -- The journal that is made of three numbers: a seed, how many targets there are, and how often each is scraped.
-use Rattle.std.specs.Prelude.{ℕ, suc, ◌<◌, ◌≤◌, ◌^◌, ◌+◌, ◌*◌, ◌%◌, Bool, List, [], ◌∷◌, ◌++◌, map, flat_map, codes, pos, if◌then◌else◌, ◌==◌}
+use Rattle.std.specs.Prelude.{ℕ, zero, suc, ◌<◌, ◌≤◌, ◌^◌, ◌+◌, ◌*◌, ◌%◌, Bool, List, [], ◌∷◌, ◌++◌, map, flat_map, codes, pos, if◌then◌else◌, ◌==◌}
 use Rattle.std.specs.Fmt.{decimal}
 use Rattle.outside.specs.declared.replies.Reply.TheVariants.{Body}
 use Rattle.journal_text.specs.declared.events.Event.{Event}
@@ -7,8 +7,8 @@ use Rattle.journal_text.specs.declared.events.Event.TheVariants.{Load, Sweep, Fi
 use Rattle.synth.specs.declared.scripts.Plan.{Plan}
 
 -- the numbers below n, rising
-pub upto : ℕ → List ℕ
-upto 0 = []
+unfoldable pub upto : ℕ → List ℕ
+upto zero = []
 upto (suc n) = upto n ++ n ∷ []
 
 -- `synth_total{code="<200 + i>",path="/p<i>"} <n + i>` and a line feed

@@ -42,7 +42,8 @@ fn push_line(text: &mut Vec<u8>, number: u64, series: u64) -> Result<(), NoMemor
     push_number(text, series)?;
     push(text, "\"} ")?;
     push_number(text, number + series)?;
-    push(text, "\n")
+    push(text, "\n")?;
+    Ok(())
 }
 
 /// Adds the line of a series to a page, but for every tenth.
