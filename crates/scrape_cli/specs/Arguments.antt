@@ -4,8 +4,8 @@ use Rattle.clap.specs.Words.{App, Row, Rule, Text, new_app, new_rule, with_rule,
 use Rattle.clap.specs.Kinds.{Kinds}
 use Rattle.clap.specs.Faults.{fault_of}
 use Rattle.clap.specs.declared.builder.action.ArgAction.TheVariants.{SetTrue}
-use Rattle.scrape_cli.specs.declared.words.Command.{Command}
-use Rattle.scrape_cli.specs.declared.words.Command.TheVariants.{Replay, Check}
+use Rattle.scrape_cli.specs.declared.words.Verb.{Verb}
+use Rattle.scrape_cli.specs.declared.words.Verb.TheVariants.{Replay, Check, Synth}
 
 abbrev pub kept_id : Text
 kept_id = codes "kept"
@@ -13,13 +13,22 @@ kept_id = codes "kept"
 abbrev pub file_id : Text
 file_id = codes "file"
 
+abbrev pub seed_id : Text
+seed_id = codes "seed"
+
+abbrev pub targets_id : Text
+targets_id = codes "targets"
+
+abbrev pub scrapes_id : Text
+scrapes_id = codes "scrapes"
+
 -- `--kept`
 abbrev pub kept_rule : Rule
 kept_rule = record (new_rule kept_id) { long = Some (codes "kept"); action = Some SetTrue }
 
--- `FILE`, which has to be there
-abbrev pub file_rule : Rule
-file_rule = record (new_rule file_id) { required = true }
+-- a word that has to be there, as `FILE`
+abbrev pub word_rule : Text → Rule
+word_rule id = record (new_rule id) { required = true }
 
 -- a command without arguments
 abbrev pub bare_app : Text → App
@@ -27,20 +36,25 @@ bare_app name = let a = new_app name in record a { top = record a.top { disable_
 
 -- `replay [--kept] FILE`
 unfoldable pub replay_app : App
-replay_app = with_rule (with_rule (bare_app (codes "replay")) kept_rule) file_rule
+replay_app = with_rule (with_rule (bare_app (codes "replay")) kept_rule) (word_rule file_id)
 
 -- `check FILE`
 unfoldable pub check_app : App
-check_app = with_rule (bare_app (codes "check")) file_rule
+check_app = with_rule (bare_app (codes "check")) (word_rule file_id)
 
-abbrev pub app_for : Command → App
+-- `synth SEED TARGETS SCRAPES`
+unfoldable pub synth_app : App
+synth_app = with_rule (with_rule (with_rule (bare_app (codes "synth")) (word_rule seed_id)) (word_rule targets_id)) (word_rule scrapes_id)
+
+abbrev pub app_for : Verb → App
 app_for Replay = replay_app
 app_for Check = check_app
+app_for Synth = synth_app
 
 -- why the command doesn't take the words, of which the first is its own: nothing where it takes them
-unfoldable pub fault_in : Command → List Text → Kinds
-fault_in command words = fault_of (app_for command) words
+unfoldable pub fault_in : Verb → List Text → Kinds
+fault_in verb words = fault_of (app_for verb) words
 
 -- the values that its arguments have by the words
-unfoldable pub rows_in : Command → List Text → List Row
-rows_in command words = matches_of (app_for command) words
+unfoldable pub rows_in : Verb → List Text → List Row
+rows_in verb words = matches_of (app_for verb) words

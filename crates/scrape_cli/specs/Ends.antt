@@ -1,5 +1,5 @@
 -- How a call of the program ends: the one table of its refusals.
-use Rattle.std.specs.Prelude.{◌≡◌, ℕ, ◌≤◌, Bool, ⊤, List, ◌++◌, codes, length, Option, Some, None, IsSome, IsSomeAnd, Result, Ok, Err}
+use Rattle.std.specs.Prelude.{◌≡◌, ◌⊎◌, ℕ, ◌≤◌, Bool, ⊤, List, ◌++◌, codes, length, Option, Some, None, IsSomeAnd, Result, Ok, Err}
 use Rattle.outside.specs.Objects.{ShelfSeen, SinkSeen, Use, IsUntouched, Rose, HasFile, LacksFile, HasLongerFile, Missed, MetLonger, FailedToRead, Adds, AddsFront, Took, Cut}
 use Rattle.journal_text.specs.declared.events.Event.{Event}
 use Rattle.journal_text.specs.declared.faults.ScriptFault.{ScriptFault}
@@ -9,7 +9,13 @@ use Rattle.scrape_machine.specs.Machine.{book_of}
 use Rattle.book_text.specs.Texts.{printed}
 use Rattle.scrape_cli.specs.Checks.{IsConf, IsFault, ok_line, fault_message}
 use Rattle.scrape_cli.specs.Scripts.{fault_message as script_message}
-use Rattle.scrape_cli.specs.Words.{Asking, asking, asked_in, file_in, limit_of}
+use Rattle.book_text.specs.Summaries.{summary_text}
+use Rattle.synth.specs.Scripts.{script_events}
+use Rattle.synth.specs.declared.scripts.Plan.{Plan}
+use Rattle.scrape_cli.specs.Askings.{asking}
+use Rattle.scrape_cli.specs.Words.{OfFile, asked_in, file_in, limit_of}
+use Rattle.scrape_cli.specs.declared.words.Asked.{Asked}
+use Rattle.scrape_cli.specs.declared.words.Asked.TheVariants.{File, Synth}
 use Rattle.scrape_cli.specs.declared.words.Command.{Command}
 use Rattle.scrape_cli.specs.declared.words.Command.TheVariants.{Replay, Check}
 use Rattle.scrape_cli.specs.declared.refusals.Refusal.{Refusal}
@@ -27,11 +33,11 @@ call words shelf out err = record { words = words; shelf = shelf; out = out; err
 
 -- the part of it in which a command is done
 pub record Work : Type 0 where
-  pub asked : Option Asking
+  pub asked : Option Asked
   pub shelf : Use ShelfSeen
   pub out : Use SinkSeen
 
-abbrev pub work : Option Asking → Use ShelfSeen → Use SinkSeen → Work
+abbrev pub work : Option Asked → Use ShelfSeen → Use SinkSeen → Work
 work asked shelf out = record { asked = asked; shelf = shelf; out = out }
 
 abbrev pub work_of : Call → Work
@@ -41,7 +47,7 @@ work_of c = work (asked_in c.words) c.shelf c.out
 pub record Reads (command : Command) (bytes : List ℕ) (w : Work) : Type 0 where
   pub file : List ℕ
   pub kept : Bool
-  pub asked : w.asked ≡ Some (asking kept file command)
+  pub asked : w.asked ≡ Some (File (asking kept file command))
   pub has : HasFile w.shelf.before file bytes
   pub short : length bytes ≤ limit_of command
 
@@ -50,12 +56,22 @@ abbrev pub IsOutput : Command → Bool → List ℕ → List ℕ → Type 0
 IsOutput Replay kept bytes text = (journal : List Event) × IsJournalOf bytes journal × (text ≡ printed kept (book_of journal))
 IsOutput Check kept bytes text = (jobs : List Filed) × IsConf bytes jobs × (text ≡ ok_line (length jobs))
 
--- this is the text that the words ask for
-pub record IsAskedFor (text : List ℕ) (w : Work) : Type 0 where
+-- a command over a file was asked for, and this is what it prints
+pub record IsOfFile (text : List ℕ) (w : Work) : Type 0 where
   pub command : Command
   pub bytes : List ℕ
   pub reads : Reads command bytes w
   pub output : IsOutput command reads.kept bytes text
+
+-- a script of these numbers was asked for, and this is the summary of its book
+pub record IsOfScript (text : List ℕ) (w : Work) : Type 0 where
+  pub plan : Plan
+  pub asked : w.asked ≡ Some (Synth plan)
+  pub summary : text ≡ summary_text (length (script_events plan)) (book_of (script_events plan))
+
+-- this is the text that the words ask for
+abbrev pub IsAskedFor : List ℕ → Work → Type 0
+IsAskedFor text w = IsOfFile text w ⊎ IsOfScript text w
 
 -- the text that the words ask for was added to the output, every byte of it
 pub record Prints (w : Work) : Type 0 where
@@ -94,13 +110,13 @@ message_of file TooLong = codes "scrape: too long " ++ (file ++ codes "\n")
 -- the cause of each refusal
 abbrev pub IsCause : Refusal → Work → Type 0
 IsCause BadWords w = w.asked ≡ None
-IsCause Absent w = IsSomeAnd w.asked (λ a. LacksFile w.shelf.before a.file)
+IsCause Absent w = IsSomeAnd w.asked (OfFile (λ a. LacksFile w.shelf.before a.file))
 IsCause (Config fault) w = (bytes : List ℕ) × Reads Check bytes w × IsFault bytes fault
 IsCause (Script fault) w = (bytes : List ℕ) × Reads Replay bytes w × IsOnlyFault bytes fault
-IsCause ReadFault w = IsSome w.asked
+IsCause ReadFault w = IsSomeAnd w.asked (OfFile (λ a. ⊤))
 IsCause WriteFault w = PrintsFront w
 IsCause NoMemory w = ⊤
-IsCause TooLong w = IsSomeAnd w.asked (λ a. HasLongerFile w.shelf.before a.file (limit_of a.command))
+IsCause TooLong w = IsSomeAnd w.asked (OfFile (λ a. HasLongerFile w.shelf.before a.file (limit_of a.command)))
 
 -- what it leaves of the shelf: one count risen, of three refusals, and nothing else changed
 abbrev pub LeavesShelf : Refusal → Use ShelfSeen → Type 0

@@ -1,4 +1,5 @@
 pub mod Arguments
+pub mod Askings
 pub mod Words
 pub mod Checks
 pub mod Scripts

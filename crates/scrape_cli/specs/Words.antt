@@ -1,51 +1,95 @@
 -- What the words of the command line ask for.
-use Rattle.std.specs.Prelude.{ℕ, List, [], ◌∷◌, Bool, false, codes, Option, Some, None, option_map, option_and_then, if◌then◌else◌}
+use Rattle.std.specs.Prelude.{ℕ, ◌*◌, ◌^◌, ⊥, List, [], ◌∷◌, length, Bool, false, ◌&&◌, ◌==◌, nat_le, nat_lt, codes, Option, Some, None, option_map, option_and_then, if◌then◌else◌}
 use Rattle.std.specs.Option.{option_map_or}
 use Rattle.std.specs.Str.{bytes_eq}
+use Rattle.std.specs.Str.Parse.{digits_value}
 use Rattle.clap.specs.Kinds.{Kinds}
-use Rattle.clap.specs.Words.{Row, first_of}
-use Rattle.scrape_cli.specs.Arguments.{kept_id, file_id, fault_in, rows_in}
+use Rattle.clap.specs.Words.{Row, Text, first_of}
+use Rattle.value_text.specs.Values.{digits}
+use Rattle.synth.specs.Scripts.{plan}
+use Rattle.synth.specs.declared.scripts.Plan.{Plan}
+use Rattle.scrape_cli.specs.Arguments.{kept_id, file_id, seed_id, targets_id, scrapes_id, fault_in, rows_in}
+use Rattle.scrape_cli.specs.Askings.{Asking, asking}
+use Rattle.scrape_cli.specs.declared.words.Verb.{Verb}
+use Rattle.scrape_cli.specs.declared.words.Verb.TheVariants as verb
 use Rattle.scrape_cli.specs.declared.words.Command.{Command}
 use Rattle.scrape_cli.specs.declared.words.Command.TheVariants.{Replay, Check}
-
--- what the program is asked for: a command, whether with `--kept`, and the name of its file
-pub record Asking : Type 0 where
-  pub command : Command
-  pub kept : Bool
-  pub file : List ℕ
-
-abbrev pub asking : Bool → List ℕ → Command → Asking
-asking kept file command = record { command = command; kept = kept; file = file }
+use Rattle.scrape_cli.specs.declared.words.Asked.{Asked}
+use Rattle.scrape_cli.specs.declared.words.Asked.TheVariants.{File, Synth}
 
 -- the command of a word
-abbrev pub command_named : List ℕ → Option Command
-command_named word = if bytes_eq word (codes "replay") then Some Replay else (if bytes_eq word (codes "check") then Some Check else None)
+abbrev pub verb_named : List ℕ → Option Verb
+verb_named word =
+    if bytes_eq word (codes "replay") then Some verb.Replay
+    else if bytes_eq word (codes "check") then Some verb.Check
+    else if bytes_eq word (codes "synth") then Some verb.Synth
+    else None
 
 -- the flag was given: its value is then `true`
 abbrev pub is_kept : List Row → Bool
 is_kept rows = option_map_or (λ value. bytes_eq value (codes "true")) (first_of kept_id rows) false
 
--- the command, with the values that its arguments have
-abbrev pub asking_by : Command → List Row → Option Asking
-asking_by command rows = option_map (λ file. asking (is_kept rows) file command) (first_of file_id rows)
+-- a command over the file that was named
+abbrev pub asked_by_file : Command → List Row → Option Asked
+asked_by_file command rows = option_map (λ file. File (asking (is_kept rows) file command)) (first_of file_id rows)
+
+-- 1 to 10 digits
+abbrev pub is_number : List ℕ → Bool
+is_number text = (digits text == length text) && (nat_le 1 (length text) && nat_le (length text) 10)
+
+-- the number that they spell, where it is below a limit
+unfoldable pub number_below : ℕ → List ℕ → Option ℕ
+number_below limit text = if is_number text && nat_lt (digits_value 10 text) limit then Some (digits_value 10 text) else None
+
+-- the number that was given for an argument
+abbrev pub number_in : Text → ℕ → List Row → Option ℕ
+number_in id limit rows = option_and_then (number_below limit) (first_of id rows)
+
+-- how large a script may be: 1 to 10,000 targets, up to 1,000 scrapes of each, and at most 20,000 in all
+unfoldable pub is_plan : Plan → Bool
+is_plan p = nat_le 1 p.targets && nat_le (p.targets * p.scrapes) 20000
+
+abbrev pub unless_large : Plan → Option Asked
+unless_large p = if is_plan p then Some (Synth p) else None
+
+-- the script of a seed, a number of targets and a number of scrapes
+abbrev pub asked_by_numbers : Option ℕ → Option ℕ → Option ℕ → Option Asked
+asked_by_numbers (Some seed) (Some targets) (Some scrapes) = unless_large (plan seed targets scrapes)
+asked_by_numbers _ _ _ = None
+
+-- a command with the values that its arguments have
+abbrev pub asked_by : Verb → List Row → Option Asked
+asked_by verb.Replay rows = asked_by_file Replay rows
+asked_by verb.Check rows = asked_by_file Check rows
+asked_by verb.Synth rows = asked_by_numbers (number_in seed_id (2 ^ 32) rows) (number_in targets_id 10001 rows) (number_in scrapes_id 1001 rows)
 
 -- nothing is asked for by words that are refused
-abbrev pub unless_refused : Kinds → Option Asking → Option Asking
+abbrev pub unless_refused : Kinds → Option Asked → Option Asked
 unless_refused [] asked = asked
 unless_refused (k ∷ kinds) asked = None
 
 -- what the words ask a command for, of which the first is its own: nothing where its grammar doesn't take them
-unfoldable pub asked_of : Command → List (List ℕ) → Option Asking
-asked_of command words = unless_refused (fault_in command words) (asking_by command (rows_in command words))
+unfoldable pub asked_of : Verb → List (List ℕ) → Option Asked
+asked_of v words = unless_refused (fault_in v words) (asked_by v (rows_in v words))
 
 -- what the words ask for: the first is the command, and those behind it are what the command's grammar takes
-abbrev pub asked_in : List (List ℕ) → Option Asking
+abbrev pub asked_in : List (List ℕ) → Option Asked
 asked_in [] = None
-asked_in (word ∷ words) = option_and_then (λ command. asked_of command (word ∷ words)) (command_named word)
+asked_in (word ∷ words) = option_and_then (λ v. asked_of v (word ∷ words)) (verb_named word)
+
+-- the name of the file that is asked for; none where there is no file
+abbrev pub file_asked : Asked → List ℕ
+file_asked (File a) = a.file
+file_asked (Synth p) = []
 
 -- the name of the file in these words
 abbrev pub file_in : List (List ℕ) → List ℕ
-file_in words = option_map_or (λ (a : Asking). a.file) (asked_in words) []
+file_in words = option_map_or file_asked (asked_in words) []
+
+-- a file is asked for, and something holds of that
+abbrev pub OfFile : (Asking → Type 0) → Asked → Type 0
+OfFile P (File a) = P a
+OfFile P (Synth p) = ⊥
 
 -- a script is at most 256 MiB long, and a configuration 4 MiB
 abbrev pub limit_of : Command → ℕ

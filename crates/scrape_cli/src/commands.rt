@@ -1,20 +1,27 @@
 //! The commands of the program.
-ghost use Rattle.std.specs.Prelude.{◌≡◌, ◌≤◌, Bool, length, Some, IfOk, IfErr, OnOk};
-ghost use Rattle.outside.specs.Objects.{SinkSeen, used, HasFile, IsUntouched};
+ghost use Rattle.std.specs.Prelude.{◌≡◌, ◌≤◌, Bool, length, Some, IfOk, IfErr, OnOk, IsErrOf};
+ghost use Rattle.outside.specs.Objects.{ShelfSeen, SinkSeen, used, HasFile, IsUntouched};
 ghost use Rattle.scrape_cli.specs.Ends.{work, WorkEnds, IsRefused};
+ghost use Rattle.scrape_cli.specs.Askings.{asking};
 ghost use Rattle.scrape_cli.specs.Words as words;
+ghost use Rattle.scrape_cli.specs.declared.words.Asked.TheVariants.{File, Synth};
+ghost use Rattle.book_text.specs.Summaries.{summary_text};
+ghost use Rattle.scrape_machine.specs.Machine.{book_of};
+ghost use Rattle.synth.specs.Scripts.{script_events};
 ghost use Rattle.scrape_cli.specs.declared.words.Command.TheVariants.{Replay, Check};
 
 use crate::checks::{conf_of, print_ok};
+use crate::means::Means;
 use crate::refusals::Refusal;
 use crate::replays::replayed;
-use crate::words::{Asked, Command, limit_of};
-use book_text::{PrintError, print_book};
-use journal_text::ScriptError;
-use label_set::Blob;
+use crate::words::{Asked, Command, OfFile, Workload, limit_of};
+use book_text::{PrintError, print_book, summary_of};
+use journal_text::{ScriptError, texts_tell_apart};
+use label_set::{Blob, NoMemory};
 use outside::{Shelf, ShelfError, Sink};
 use scrape_config::ConfError;
 use std::alloc::Global;
+use synth::make_script;
 
 /// Reads the file of a command.
 fn read_file<S: Shelf>(
@@ -27,7 +34,7 @@ fn read_file<S: Shelf>(
     ensures short { IfOk result (λ bytes. length bytes ≤ words.limit_of command) }
     ensures untouched { OnOk result (IsUntouched (used (S.seen shelf.old) (S.seen shelf.new))) }
     ensures refused { (kept : Bool) (out : SinkSeen) → IfErr result (λ r. IsRefused r
-        (work (Some (words.asking kept file.now command)) (used (S.seen shelf.old) (S.seen shelf.new)) (used out out))) }
+        (work (Some (File (asking kept file.now command))) (used (S.seen shelf.old) (S.seen shelf.new)) (used out out))) }
 {
     match shelf.read_file(alloc, file, limit_of(command)) {
         Ok(bytes) => Ok(bytes),
@@ -40,25 +47,25 @@ fn read_file<S: Shelf>(
 
 /// Replays a script and prints the book of its journal, each line with its verdict where that is wanted.
 fn replay<S: Shelf, O: Sink>(
-    alloc: Global,
+    means: Means,
     kept: bool,
     script: &str,
     shelf: &mut S,
     out: &mut O,
 ) -> Result<(), Refusal>
     ensures { WorkEnds result
-        (work (Some (words.asking kept script.now Replay)) (used (S.seen shelf.old) (S.seen shelf.new)) (used (O.seen out.old) (O.seen out.new))) }
+        (work (Some (File (asking kept script.now Replay))) (used (S.seen shelf.old) (S.seen shelf.new)) (used (O.seen out.old) (O.seen out.new))) }
 {
-    let bytes = match read_file(alloc, Command::Replay, script, shelf) {
+    let bytes = match read_file(means.alloc, Command::Replay, script, shelf) {
         Ok(bytes) => bytes,
         Err(refusal) => return Err(refusal),
     };
-    let core = match replayed(alloc, bytes.as_slice()) {
+    let core = match replayed(means, bytes.as_slice()) {
         Ok(core) => core,
         Err(ScriptError::Bad(fault)) => return Err(Refusal::Script(fault)),
         Err(ScriptError::NoMemory) => return Err(Refusal::NoMemory),
     };
-    match print_book(alloc, kept, core.book(), out) {
+    match print_book(means.alloc, kept, core.book(), out) {
         Ok(()) => Ok(()),
         Err(PrintError::WriteFault) => Err(Refusal::WriteFault),
         Err(PrintError::NoMemory) => Err(Refusal::NoMemory),
@@ -73,7 +80,7 @@ fn check<S: Shelf, O: Sink>(
     out: &mut O,
 ) -> Result<(), Refusal>
     ensures { (kept : Bool) → WorkEnds result
-        (work (Some (words.asking kept file.now Check)) (used (S.seen shelf.old) (S.seen shelf.new)) (used (O.seen out.old) (O.seen out.new))) }
+        (work (Some (File (asking kept file.now Check))) (used (S.seen shelf.old) (S.seen shelf.new)) (used (O.seen out.old) (O.seen out.new))) }
 {
     let bytes = match read_file(alloc, Command::Check, file, shelf) {
         Ok(bytes) => bytes,
@@ -91,9 +98,51 @@ fn check<S: Shelf, O: Sink>(
     }
 }
 
+/// The summary of a script that is made: its text goes the way of a replayed script.
+fn summary_for(means: Means, load: &Workload) -> Result<Vec<u8>, NoMemory>
+    ensures { IfOk result (λ text. text.items ≡ summary_text (length (script_events load.now)) (book_of (script_events load.now))) }
+{
+    texts_tell_apart();
+    let script = make_script(means.alloc, load.seed, load.targets, load.scrapes)?;
+    match replayed(means, script.as_slice()) {
+        Ok(core) => summary_of(means.alloc, core.events(), core.book()),
+        Err(_) => Err(NoMemory),
+    }
+}
+
+/// Prints the summary of a script that is made.
+fn synth<O: Sink>(means: Means, load: &Workload, out: &mut O) -> Result<(), Refusal>
+    ensures { (shelf : ShelfSeen) → WorkEnds result (work (Some (Synth load.now)) (used shelf shelf) (used (O.seen out.old) (O.seen out.new))) }
+{
+    let text = match summary_for(means, load) {
+        Ok(text) => text,
+        Err(NoMemory) => return Err(Refusal::NoMemory),
+    };
+    match out.put(&text) {
+        Ok(()) => Ok(()),
+        Err(_) => Err(Refusal::WriteFault),
+    }
+}
+
+/// Does what a command over a file was asked for.
+fn perform_file<S: Shelf, O: Sink>(
+    means: Means,
+    asked: &OfFile<'_>,
+    shelf: &mut S,
+    out: &mut O,
+) -> Result<(), Refusal>
+    ensures { WorkEnds result
+        (work (Some (File asked.now)) (used (S.seen shelf.old) (S.seen shelf.new)) (used (O.seen out.old) (O.seen out.new))) }
+{
+    match asked.command {
+        Command::Replay => replay(means, asked.kept, asked.file, shelf, out),
+        Command::Check => check(means.alloc, asked.file, shelf, out),
+    }
+}
+
 /// Does what was asked for.
 pub fn perform<S: Shelf, O: Sink>(
-    alloc: Global,
+    means: Means,
     asked: &Asked<'_>,
     shelf: &mut S,
     out: &mut O,
@@ -101,8 +150,8 @@ pub fn perform<S: Shelf, O: Sink>(
     ensures { WorkEnds result
         (work (Some asked.now) (used (S.seen shelf.old) (S.seen shelf.new)) (used (O.seen out.old) (O.seen out.new))) }
 {
-    match asked.command {
-        Command::Replay => replay(alloc, asked.kept, asked.file, shelf, out),
-        Command::Check => check(alloc, asked.file, shelf, out),
+    match asked {
+        Asked::File(of_file) => perform_file(means, of_file, shelf, out),
+        Asked::Synth(load) => synth(means, load, out),
     }
 }

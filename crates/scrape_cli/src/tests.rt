@@ -1,14 +1,18 @@
 //! What text can't show: outside objects that fail at a call, and texts at their limits. All else is a case in `tests/cases/`.
 mod cases;
 
+use crate::means::Means;
 use crate::tool::tool;
 use label_set::{Blob, Name, NoMemory};
+use md5::{Digest, Md5};
 use outside::{
     CallList, FileList, MemShelf, MemSink, Shelf, ShelfError, StoredFile, SureShelf, SureSink,
 };
 use std::alloc::Global;
+use std::hash::RandomState;
 use std::process::Abort;
 use std::test::Fail;
+use synth::make_script;
 
 /// A configuration of one job with one target.
 const ONE_JOB: &str =
@@ -30,6 +34,14 @@ struct Ran {
     status: u8,
     out: MemSink,
     err: MemSink,
+}
+
+/// What the program has of the machine that a test runs on.
+fn means_of(rt: &HostRuntime) -> Result<Means, Fail> {
+    Ok(Means {
+        alloc: rt.alloc(),
+        seed: RandomState::new(rt)?,
+    })
 }
 
 fn words_of(alloc: Global, words: &[&str]) -> Result<Vec<String>, Fail> {
@@ -60,15 +72,16 @@ fn fails(alloc: Global, calls: &[u64]) -> Result<CallList, NoMemory> {
 
 /// Runs the program over a shelf, and an output of a room of which some puts fail.
 fn run_over<S: Shelf>(
-    alloc: Global,
+    means: Means,
     words: &[String],
     shelf: &mut S,
     room: usize,
     put_fails: &[u64],
 ) -> Result<Ran, NoMemory> {
+    let alloc = means.alloc;
     let mut out = MemSink::new(alloc, room, fails(alloc, put_fails)?)?;
     let mut err = MemSink::new(alloc, ROOM, fails(alloc, &[])?)?;
-    let finished = tool(alloc, words, shelf, &mut out, &mut err);
+    let finished = tool(means, words, shelf, &mut out, &mut err);
     Ok(Ran {
         status: finished.status,
         out,
@@ -77,10 +90,11 @@ fn run_over<S: Shelf>(
 }
 
 /// Runs a command on the file `s` where nothing outside fails.
-fn run_on(alloc: Global, command: &str, text: &[u8]) -> Result<Ran, Fail> {
+fn run_on(means: Means, command: &str, text: &[u8]) -> Result<Ran, Fail> {
+    let alloc = means.alloc;
     let words = words_of(alloc, &[command, "s"])?;
     let mut shelf = SureShelf::new(files(alloc, text)?)?;
-    Ok(run_over(alloc, words.as_slice(), &mut shelf, ROOM, &[])?)
+    Ok(run_over(means, words.as_slice(), &mut shelf, ROOM, &[])?)
 }
 
 /// It ended with this status, output and message.
@@ -123,16 +137,17 @@ impl Shelf for FullShelf {
 
 #[test]
 fn files_that_are_not_read(rt: HostRuntime) -> Result<(), Fail> {
-    let alloc = rt.alloc();
+    let means = means_of(&rt)?;
+    let alloc = means.alloc;
     for command in ["replay", "check"] {
         let words = words_of(alloc, &[command, "s"])?;
         let mut failing = MemShelf::new(files(alloc, b"{}")?, fails(alloc, &[0])?)?;
-        let ran = run_over(alloc, words.as_slice(), &mut failing, ROOM, &[])?;
+        let ran = run_over(means, words.as_slice(), &mut failing, ROOM, &[])?;
         assert_left(&rt, &ran, 6, b"", b"scrape: read fault\n");
         let mut long = LongShelf { overs: 0 };
-        let ran = run_over(alloc, words.as_slice(), &mut long, ROOM, &[])?;
+        let ran = run_over(means, words.as_slice(), &mut long, ROOM, &[])?;
         assert_left(&rt, &ran, 9, b"", b"scrape: too long s\n");
-        let ran = run_over(alloc, words.as_slice(), &mut FullShelf, ROOM, &[])?;
+        let ran = run_over(means, words.as_slice(), &mut FullShelf, ROOM, &[])?;
         assert_left(&rt, &ran, 8, b"", b"scrape: no memory\n");
     }
     Ok(())
@@ -152,15 +167,16 @@ fn long_script(alloc: Global, lines: usize) -> Result<Vec<u8>, Fail> {
 
 #[test]
 fn each_put_of_a_long_output_may_fail(rt: HostRuntime) -> Result<(), Fail> {
-    let alloc = rt.alloc();
+    let means = means_of(&rt)?;
+    let alloc = means.alloc;
     let script = long_script(alloc, 4000)?;
     let words = words_of(alloc, &["replay", "s"])?;
     let mut shelf = SureShelf::new(files(alloc, script.as_slice())?)?;
-    let whole = run_over(alloc, words.as_slice(), &mut shelf, ROOM, &[])?;
+    let whole = run_over(means, words.as_slice(), &mut shelf, ROOM, &[])?;
     assert_eq!(rt; whole.status, 0);
     let mut put = 0;
     for call in 0..3 {
-        let ran = run_over(alloc, words.as_slice(), &mut shelf, ROOM, &[call])?;
+        let ran = run_over(means, words.as_slice(), &mut shelf, ROOM, &[call])?;
         assert_eq!(rt; ran.status, 7);
         assert!(rt; whole.out.bytes().starts_with(ran.out.bytes()));
         assert!(rt; ran.err.bytes() == b"scrape: write fault\n".as_slice());
@@ -168,20 +184,21 @@ fn each_put_of_a_long_output_may_fail(rt: HostRuntime) -> Result<(), Fail> {
         put = ran.out.bytes().len();
     }
     let short = whole.out.bytes().len().saturating_sub(1);
-    let ran = run_over(alloc, words.as_slice(), &mut shelf, short, &[])?;
+    let ran = run_over(means, words.as_slice(), &mut shelf, short, &[])?;
     assert_eq!(rt; ran.status, 7);
-    let ran = run_over(alloc, words.as_slice(), &mut shelf, ROOM, &[3])?;
+    let ran = run_over(means, words.as_slice(), &mut shelf, ROOM, &[3])?;
     assert_left(&rt, &ran, 0, whole.out.bytes(), b"");
     Ok(())
 }
 
 #[test]
 fn lines_that_are_not_taken(rt: HostRuntime) -> Result<(), Fail> {
-    let alloc = rt.alloc();
+    let means = means_of(&rt)?;
+    let alloc = means.alloc;
     let words = words_of(alloc, &["check", "s"])?;
     let mut shelf = SureShelf::new(files(alloc, ONE_JOB.as_bytes())?)?;
     for (room, calls) in [(ROOM, &[0].as_slice()), (4, &[].as_slice())] {
-        let ran = run_over(alloc, words.as_slice(), &mut shelf, room, calls)?;
+        let ran = run_over(means, words.as_slice(), &mut shelf, room, calls)?;
         assert_left(&rt, &ran, 7, b"", b"scrape: write fault\n");
     }
     Ok(())
@@ -189,13 +206,14 @@ fn lines_that_are_not_taken(rt: HostRuntime) -> Result<(), Fail> {
 
 #[test]
 fn status_stands_where_the_message_is_not_taken(rt: HostRuntime) -> Result<(), Fail> {
-    let alloc = rt.alloc();
+    let means = means_of(&rt)?;
+    let alloc = means.alloc;
     let words = words_of(alloc, &["replay", "none"])?;
     let mut shelf = SureShelf::new(files(alloc, b"")?)?;
     let mut out = SureSink::new()?;
     for call in 0..4 {
         let mut err = MemSink::new(alloc, ROOM, fails(alloc, &[call])?)?;
-        let finished = tool(alloc, words.as_slice(), &mut shelf, &mut out, &mut err);
+        let finished = tool(means, words.as_slice(), &mut shelf, &mut out, &mut err);
         assert_eq!(rt; finished.status, 3);
         assert!(rt; b"scrape: absent none\n".starts_with(err.bytes()));
     }
@@ -225,14 +243,15 @@ fn wide(alloc: Global, jobs: u8, fields: &str) -> Result<Vec<u8>, Fail> {
 
 #[test]
 fn all_jobs_list_at_most_100000_targets(rt: HostRuntime) -> Result<(), Fail> {
-    let alloc = rt.alloc();
-    let full = run_on(alloc, "check", wide(alloc, 10, "")?.as_slice())?;
+    let means = means_of(&rt)?;
+    let alloc = means.alloc;
+    let full = run_on(means, "check", wide(alloc, 10, "")?.as_slice())?;
     assert_left(&rt, &full, 0, b"ok 10\n", b"");
-    let more = run_on(alloc, "check", wide(alloc, 11, "")?.as_slice())?;
+    let more = run_on(means, "check", wide(alloc, 11, "")?.as_slice())?;
     assert_left(&rt, &more, 4, b"", b"scrape: config TooMany  100000\n");
     // a pattern is told before the crowd
     let pattern = r#""relabel_configs":[{"action":"drop","regex":"("}],"#;
-    let ran = run_on(alloc, "check", wide(alloc, 11, pattern)?.as_slice())?;
+    let ran = run_on(means, "check", wide(alloc, 11, pattern)?.as_slice())?;
     let told = b"scrape: config Rule /scrape_configs/0/relabel_configs/0/regex\n";
     assert_left(&rt, &ran, 4, b"", told);
     Ok(())
@@ -240,13 +259,58 @@ fn all_jobs_list_at_most_100000_targets(rt: HostRuntime) -> Result<(), Fail> {
 
 #[test]
 fn configurations_of_4_mib_are_read(rt: HostRuntime) -> Result<(), Fail> {
-    let alloc = rt.alloc();
+    let means = means_of(&rt)?;
+    let alloc = means.alloc;
     let mut text = Vec::from_slice(alloc, b"{}")?;
     text.resize(4_194_304, b' ')?;
-    let full = run_on(alloc, "check", text.as_slice())?;
+    let full = run_on(means, "check", text.as_slice())?;
     assert_left(&rt, &full, 0, b"ok 0\n", b"");
     text.push(b' ')?;
-    let longer = run_on(alloc, "check", text.as_slice())?;
+    let longer = run_on(means, "check", text.as_slice())?;
     assert_left(&rt, &longer, 9, b"", b"scrape: too long s\n");
+    Ok(())
+}
+
+/// Puts a number in front of a text, as a line with a word.
+fn line_of(alloc: Global, text: &mut Vec<u8>, word: &str, number: u64) -> Result<(), Fail> {
+    let line = format!(in alloc; "{word} {number}\n")?;
+    Ok(text.extend_from_slice(line.as_bytes())?)
+}
+
+#[test]
+fn the_summary_of_a_script_is_that_of_its_replay(rt: HostRuntime) -> Result<(), Fail> {
+    let means = means_of(&rt)?;
+    let alloc = means.alloc;
+    for (targets, scrapes) in [(3, 4), (1, 1), (2, 0)] {
+        let script = make_script(alloc, 4294967295, targets, scrapes)?;
+        let book = run_on(means, "replay", script.as_slice())?;
+        assert_eq!(rt; book.status, 0);
+        // so many events, and so many entries of each kind, by counting in the journal: a page has 90 samples, of which each next one
+        // lacks ten; the five reports of a scrape come each time; at the end each of the last series is marked
+        let (targets, scrapes) = (targets as u64, scrapes as u64);
+        let scraped = targets * scrapes.min(1);
+        let (samples, reports) = (90 * targets * scrapes, 5 * targets * scrapes);
+        let (stale, ends) = (scraped * (10 * scrapes + 80), 5 * scraped);
+        let mut wanted = Vec::new(alloc);
+        line_of(alloc, &mut wanted, "events", 4 + scrapes * (targets + 1))?;
+        line_of(
+            alloc,
+            &mut wanted,
+            "entries",
+            samples + stale + reports + ends,
+        )?;
+        line_of(alloc, &mut wanted, "sample", samples)?;
+        line_of(alloc, &mut wanted, "stale", stale)?;
+        line_of(alloc, &mut wanted, "report", reports)?;
+        line_of(alloc, &mut wanted, "report-stale", ends)?;
+        let digest = hex::encode(alloc, Md5::digest(book.out.bytes()))?;
+        wanted.extend_from_slice(format!(in alloc; "digest {digest}\n")?.as_bytes())?;
+        let targets = targets.to_string(alloc)?;
+        let scrapes = scrapes.to_string(alloc)?;
+        let words = words_of(alloc, &["synth", "4294967295", &targets, &scrapes])?;
+        let mut shelf = SureShelf::new(files(alloc, b"")?)?;
+        let ran = run_over(means, words.as_slice(), &mut shelf, ROOM, &[])?;
+        assert_left(&rt, &ran, 0, wanted.as_slice(), b"");
+    }
     Ok(())
 }

@@ -9,15 +9,16 @@ ghost use Rattle.scrape_laws.specs.Runs.{ClosedRunsLaw};
 ghost use Rattle.scrape_laws.specs.Late.{LateLaw};
 ghost use Rattle.scrape_cli.specs.Ends as spec;
 ghost use Rattle.scrape_cli.specs.Laws.{Causes, Complete, NoCountFell, IsStatus};
-ghost use Rattle.scrape_cli.specs.Words.{asked_in, file_in};
+ghost use Rattle.scrape_cli.specs.Words.{asked_in, file_in, file_asked};
 
 use crate::arguments::{WordsError, asked_in};
 use crate::commands::perform;
+use crate::means::Means;
 use crate::messages::say;
 use crate::refusals::Refusal;
+use crate::words::Asked;
 use outside::{Shelf, Sink};
 use scrape_laws::laws::{closed_runs, late, markers};
-use std::alloc::Global;
 
 /// What the program ended with.
 #[derive(Clone, Copy, PartialEq, Eq, Debug)]
@@ -33,9 +34,19 @@ struct Ending<'a> {
     file: &'a str,
 }
 
+/// The name of the file that is asked for; none where there is no file.
+fn file_of<'a>(asked: &Asked<'a>) -> &'a str
+    ensures { result.now ≡ file_asked asked.now }
+{
+    match asked {
+        Asked::File(of_file) => of_file.file,
+        Asked::Synth(_) => "",
+    }
+}
+
 /// Does what the words say. What is said of its end by the name is what is said by the file in the words.
 fn run<'a, S: Shelf, O: Sink>(
-    alloc: Global,
+    means: Means,
     words: &'a [String],
     shelf: &mut S,
     out: &mut O,
@@ -45,10 +56,10 @@ fn run<'a, S: Shelf, O: Sink>(
     ensures speaks { (err : Use SinkSeen) → spec.Speaks result.end result.file.now err →
         spec.Speaks result.end (file_in (map string_bytes words.entry.now)) err }
 {
-    match asked_in(alloc, words) {
+    match asked_in(means.alloc, words) {
         Ok(asked) => Ending {
-            end: perform(alloc, &asked, shelf, out),
-            file: asked.file,
+            end: perform(means, &asked, shelf, out),
+            file: file_of(&asked),
         },
         Err(WordsError::Bad) => Ending {
             end: Err(Refusal::BadWords),
@@ -100,7 +111,7 @@ fn status_at(end: &Result<(), Refusal>) -> u8
 ///
 /// | status | comes |
 /// |---|---|
-/// | 0 | `replay`: the script was replayed and the whole text of its book, with verdicts where `--kept` was given, added to `out`; `check`: the configuration has no fault, and the line with the number of its jobs was added |
+/// | 0 | `replay`: the script was replayed and the whole text of its book, with verdicts where `--kept` was given, added to `out`; `check`: the configuration has no fault, and the line with the number of its jobs was added; `synth`: the script of the numbers was made and replayed, and the summary of its book added |
 /// | 2 | exactly where the words are none of the program's, but for want of memory |
 /// | 3 | the shelf has no file of the name, and counted that |
 /// | 4 | `check`: the configuration has a fault, which the message names |
@@ -113,7 +124,7 @@ fn status_at(end: &Result<(), Refusal>) -> u8
 /// `markers`, `closed_runs` and `late` hold of every journal, so of the one that a script spells: in the book that is printed each closed run of a tracked series
 /// has exactly one stale marker, after it, no marker stands elsewhere, and a fetch that was cancelled adds nothing.
 pub fn tool<S: Shelf, O: Sink, E: Sink>(
-    alloc: Global,
+    means: Means,
     words: &[String],
     shelf: &mut S,
     out: &mut O,
@@ -135,7 +146,7 @@ pub fn tool<S: Shelf, O: Sink, E: Sink>(
     markers();
     closed_runs();
     late();
-    let ending = run(alloc, words, shelf, out);
+    let ending = run(means, words, shelf, out);
     tell(err, ending.file, &ending.end);
     Finished {
         status: status_at(&ending.end),

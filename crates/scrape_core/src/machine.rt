@@ -20,6 +20,7 @@ use scrape_laws::laws::{
 };
 use scrape_machine::Answer;
 use std::alloc::Global;
+use std::hash::RandomState;
 use std::marker::Model;
 use std::sync::ledger::Ledger;
 
@@ -45,20 +46,35 @@ impl Model for Core {
 }
 
 impl Core {
-    /// A core to which nothing has happened.
+    /// A core to which nothing has happened. The hashes of its book have a fixed seed: for series that no stranger names.
     pub fn new(alloc: Global) -> Result<Core, NoMemory>
         ensures { IfOk result (λ c. c ≡ []) }
     {
-        Ok(Core {
+        Ok(Core::over(alloc, Book::new(alloc)?))
+    }
+
+    /// The same, with a seed for the hashes of its book: who doesn't know it can't name many series that share a hash.
+    pub fn seeded(alloc: Global, seed: RandomState) -> Result<Core, NoMemory>
+        ensures { IfOk result (λ c. c ≡ []) }
+    {
+        Ok(Core::over(alloc, Book::seeded(alloc, seed)?))
+    }
+
+    /// A core over a book without entries.
+    fn over(alloc: Global, book: Book) -> Core
+        requires { book.entries ≡ [] }
+        ensures { result ≡ [] }
+    {
+        Core {
             journal: Journal::new(alloc),
-            book: Book::new(alloc)?,
+            book,
             state: State {
                 jobs: Vec::new(alloc),
                 lives: Vec::new(alloc),
                 started: Vec::new(alloc),
                 halted: false,
             },
-        })
+        }
     }
 
     /// Takes an event: the answer is the defined one after the journal, which then ends with the event, and the book is that of the new journal.

@@ -20,12 +20,14 @@ mod limits;
 mod relabelling;
 mod reloads;
 mod scripts;
+mod synths;
 mod targets;
 mod updates;
 mod verdicts;
 mod words;
 
-use super::{ROOM, Ran, run_over};
+use super::{ROOM, Ran, means_of, run_over};
+use crate::means::Means;
 use label_set::{Blob, Name, NoMemory};
 use outside::{FileList, StoredFile, SureShelf};
 use std::alloc::{AllocError, Global};
@@ -34,10 +36,11 @@ use std::str;
 use std::test::Fail;
 
 /// All cases, by subject.
-const TEXTS: [&str; 15] = [
+const TEXTS: [&str; 16] = [
     words::CASES,
     flags::CASES,
     scripts::CASES,
+    synths::CASES,
     broken::CASES,
     reloads::CASES,
     updates::CASES,
@@ -255,7 +258,8 @@ fn flaw_of(alloc: Global, case: &Case, ran: &Ran) -> Result<Option<String>, Allo
 }
 
 /// Runs a case; says what is wrong, if anything is.
-fn judged(alloc: Global, text: &str) -> Result<Option<String>, Fail> {
+fn judged(means: Means, text: &str) -> Result<Option<String>, Fail> {
+    let alloc = means.alloc;
     let mut case = match case_of(alloc, text) {
         Ok(case) => case,
         Err(Flaw::Misread(why)) => return Ok(Some(String::from_str(alloc, why)?)),
@@ -266,20 +270,20 @@ fn judged(alloc: Global, text: &str) -> Result<Option<String>, Fail> {
     };
     let files = std::mem::replace(&mut case.files, none);
     let mut shelf = SureShelf::new(files)?;
-    let ran = run_over(alloc, case.words.as_slice(), &mut shelf, ROOM, &[])?;
+    let ran = run_over(means, case.words.as_slice(), &mut shelf, ROOM, &[])?;
     Ok(flaw_of(alloc, &case, &ran)?)
 }
 
 #[test]
 fn cases_end_as_they_say(rt: HostRuntime) -> Result<(), Fail> {
-    let alloc = rt.alloc();
+    let means = means_of(&rt)?;
     let mut count: u64 = 0;
     let mut failed: u64 = 0;
     for text in TEXTS {
         for block in text.split("\n== ").skip(1) {
             let (name, rest) = block.split_once('\n').unwrap_or((block, ""));
             count = count.saturating_add(1);
-            if let Some(flaw) = judged(alloc, rest)? {
+            if let Some(flaw) = judged(means, rest)? {
                 failed = failed.saturating_add(1);
                 println!(rt; "case {name}: {flaw}")?;
             }
