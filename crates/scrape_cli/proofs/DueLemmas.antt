@@ -1,6 +1,6 @@
 -- Which status is due of a call that ended.
 use Rattle.std.proofs.Common.{◌≡◌, ◌⊎◌, ℕ, ◌<◌, ◌≤◌, List, [], length, sym, refl, ap, ◌∙◌, inl, inr, arith, subst, Option, None, Some}
-use Rattle.std.specs.Prelude.{Result, Ok, Err, IsSome, IsSomeAnd, IfSome, IsOkAnd}
+use Rattle.std.specs.Prelude.{Result, Ok, Err, IsSomeAnd, IfSome, IsOkAnd}
 use Rattle.std.specs.Option.{option_map_or}
 use Rattle.outside.specs.declared.objects.StoredFile.{StoredFile}
 use Rattle.outside.specs.Objects.{file_of, HasFile, LacksFile, HasLongerFile}
@@ -13,9 +13,13 @@ use Rattle.jobs_in_force.specs.declared.jobs.Filed.{Filed}
 use Rattle.config_fields.specs.declared.fault.ConfFault.{ConfFault}
 use Rattle.scrape_cli.specs.Checks.{IsFault, IsConf, fault_message}
 use Rattle.scrape_cli.specs.Scripts.{fault_message as script_message}
-use Rattle.scrape_cli.specs.Words.{Asking, asking, asked_in, file_in, limit_of}
-use Rattle.scrape_cli.specs.Ends.{Call, work_of, Reads, IsOutput, IsAskedFor, WorkEnds, Speaks, IsSaid, Ended, status_at}
-use Rattle.scrape_cli.specs.Laws.{Complete, IsTold, TellsNone, TellsLonger, IsRead, IsSound, IsUncounted, IsFreely, Spells, refused_at}
+use Rattle.synth.specs.declared.scripts.Plan.{Plan}
+use Rattle.scrape_cli.specs.Askings.{Asking, asking}
+use Rattle.scrape_cli.specs.Words.{OfFile, asked_in, file_in, file_asked, limit_of}
+use Rattle.scrape_cli.specs.declared.words.Asked.{Asked}
+use Rattle.scrape_cli.specs.declared.words.Asked.TheVariants.{File, Synth}
+use Rattle.scrape_cli.specs.Ends.{Call, work_of, Reads, IsOutput, IsOfFile, IsOfScript, IsAskedFor, WorkEnds, Speaks, IsSaid, Ended, status_at}
+use Rattle.scrape_cli.specs.Laws.{Complete, IsTold, TellsNone, TellsLonger, IsRead, IsWritten, IsSound, IsUncounted, IsFreely, Spells, refused_at}
 use Rattle.scrape_cli.specs.declared.words.Command.{Command}
 use Rattle.scrape_cli.specs.declared.words.Command.TheVariants.{Replay, Check}
 use Rattle.scrape_cli.specs.declared.refusals.Refusal.{Refusal}
@@ -70,6 +74,9 @@ longer_lacks : (files : Option (List StoredFile)) (name : List ℕ) (limit : ℕ
 longer_lacks None name limit t h = t
 longer_lacks (Some fs) name limit t h = longer_none (file_of name fs) limit h t
 
+same_file_asked : (a b : Asking) → File a ≡ File b → a ≡ b
+same_file_asked a b e = cc
+
 -- faults of configurations
 no_fault : (said : Result (List Filed) ConfFault) (jobs : List Filed) (fault : ConfFault) → said ≡ Ok jobs → said ≡ Err fault → ⊥
 no_fault said jobs fault e h = absurd cc
@@ -78,66 +85,89 @@ one_fault : (said : Result (List Filed) ConfFault) (fault found : ConfFault) →
 one_fault said fault found e h = cc
 
 module _ (c : Call) where
-  asked_file : (a : Asking) → asked_in c.words ≡ Some a → file_in c.words ≡ a.file
-  asked_file a e = ap (λ (o : Option Asking). option_map_or (λ (b : Asking). b.file) o []) e
+  asked_file : (a : Asking) → asked_in c.words ≡ Some (File a) → file_in c.words ≡ a.file
+  asked_file a e = ap (λ (o : Option Asked). option_map_or file_asked o []) e
 
-  asked_same : (a b : Asking) → asked_in c.words ≡ Some a → asked_in c.words ≡ Some b → a ≡ b
-  asked_same a b e f = some_same a b (sym e ∙ f)
+  asked_same : (a b : Asking) → asked_in c.words ≡ Some (File a) → asked_in c.words ≡ Some (File b) → a ≡ b
+  asked_same a b e f = same_file_asked a b (some_same (File a) (File b) (sym e ∙ f))
 
   -- of what was asked for
-  asked_has : (P : Asking → Type 0) (a : Asking) → asked_in c.words ≡ Some a → IsSomeAnd (asked_in c.words) P → P a
-  asked_has P a e h = subst (λ (o : Option Asking). IsSomeAnd o P) e h
+  asked_has : (P : Asking → Type 0) (a : Asking) → asked_in c.words ≡ Some (File a) → IsSomeAnd (asked_in c.words) (OfFile P) → P a
+  asked_has P a e h = subst (λ (o : Option Asked). IsSomeAnd o (OfFile P)) e h
 
-  is_asked : (o : Option Asking) → o ≡ None → IsSome o → ⊥
-  is_asked None e h = absurd cc
-  is_asked (Some a) e h = absurd cc
-
-  some_asked : (o : Option Asking) (P : Asking → Type 0) → o ≡ None → IsSomeAnd o P → ⊥
+  some_asked : (o : Option Asked) (P : Asked → Type 0) → o ≡ None → IsSomeAnd o P → ⊥
   some_asked None P e h = h
   some_asked (Some a) P e h = absurd cc
 
   read_asked : (m : Command) (b : List ℕ) → asked_in c.words ≡ None → Reads m b (work_of c) → ⊥
   read_asked m b e r = let at = r.asked in absurd cc
 
+  text_asked : (text : List ℕ) → asked_in c.words ≡ None → IsAskedFor text (work_of c) → ⊥
+  text_asked text e (inl f) = read_asked f.command f.bytes e f.reads
+  text_asked text e (inr m) = let at = m.asked in absurd cc
+
   -- the file of a command that was read has the name in the words
   read_file : (m : Command) (b : List ℕ) (r : Reads m b (work_of c)) → HasFile c.shelf.before (file_in c.words) b
   read_file m b r = subst (λ (n : List ℕ). HasFile c.shelf.before n b) (sym (asked_file (asking r.kept r.file m) r.asked)) r.has
 
   words_due : (end : Result (Unit {0}) Refusal) → WorkEnds end (work_of c) → asked_in c.words ≡ None → IsFreely 2 (status_at end)
-  words_due (Ok u) w e = absurd (read_asked _ _ e w.prints.asked_for.reads)
+  words_due (Ok u) w e = absurd (text_asked _ e w.prints.asked_for)
   words_due (Err BadWords) w e = inl refl
   words_due (Err Absent) w e = absurd (some_asked (asked_in c.words) _ e w.cause)
   words_due (Err (Config f)) w e = absurd (read_asked _ _ e w.cause.1)
   words_due (Err (Script f)) w e = absurd (read_asked _ _ e w.cause.1)
-  words_due (Err ReadFault) w e = absurd (is_asked (asked_in c.words) e w.cause)
-  words_due (Err WriteFault) w e = absurd (read_asked _ _ e w.cause.asked_for.reads)
+  words_due (Err ReadFault) w e = absurd (some_asked (asked_in c.words) _ e w.cause)
+  words_due (Err WriteFault) w e = absurd (text_asked _ e w.cause.asked_for)
   words_due (Err NoMemory) w e = inr refl
   words_due (Err TooLong) w e = absurd (some_asked (asked_in c.words) _ e w.cause)
 
-  module _ (a : Asking) (asked : asked_in c.words ≡ Some a) where
+  -- a script that is made
+  module _ (p : Plan) (asked : asked_in c.words ≡ Some (Synth p)) where
+    no_file : (P : Asking → Type 0) → IsSomeAnd (asked_in c.words) (OfFile P) → ⊥
+    no_file P h = subst (λ (o : Option Asked). IsSomeAnd o (OfFile P)) asked h
+
+    none_read : (m : Command) (b : List ℕ) → Reads m b (work_of c) → ⊥
+    none_read m b r = let at = r.asked in absurd cc
+
+    made_due : IsWritten c → (end : Result (Unit {0}) Refusal) → WorkEnds end (work_of c) → IsFreely 0 (status_at end)
+    made_due n (Ok u) w = inl refl
+    made_due n (Err BadWords) w = let at = w.cause in absurd cc
+    made_due n (Err Absent) w = absurd (no_file _ w.cause)
+    made_due n (Err (Config f)) w = absurd (none_read _ _ w.cause.1)
+    made_due n (Err (Script f)) w = absurd (none_read _ _ w.cause.1)
+    made_due n (Err ReadFault) w = absurd (no_file _ w.cause)
+    made_due n (Err WriteFault) w = absurd (n w.cause.put.counted)
+    made_due n (Err NoMemory) w = inr refl
+    made_due n (Err TooLong) w = absurd (no_file _ w.cause)
+
+  module _ (a : Asking) (asked : asked_in c.words ≡ Some (File a)) where
+    of_file : (text : List ℕ) → IsAskedFor text (work_of c) → IsOfFile text (work_of c)
+    of_file text (inl f) = f
+    of_file text (inr m) = let at = m.asked in absurd cc
+
     not_none : asked_in c.words ≡ None → ⊥
     not_none e = absurd cc
 
     asked_command : (m : Command) (b : List ℕ) → Reads m b (work_of c) → a.command ≡ m
     asked_command m b r = ap (λ (z : Asking). z.command) (asked_same a (asking r.kept r.file m) asked r.asked)
 
-    lacks : IsSomeAnd (asked_in c.words) (λ z. LacksFile c.shelf.before z.file) → LacksFile c.shelf.before (file_in c.words)
+    lacks : IsSomeAnd (asked_in c.words) (OfFile (λ z. LacksFile c.shelf.before z.file)) → LacksFile c.shelf.before (file_in c.words)
     lacks h = subst (LacksFile c.shelf.before) (sym (asked_file a asked)) (asked_has (λ z. LacksFile c.shelf.before z.file) a asked h)
 
-    longer : IsSomeAnd (asked_in c.words) (λ z. HasLongerFile c.shelf.before z.file (limit_of z.command)) →
+    longer : IsSomeAnd (asked_in c.words) (OfFile (λ z. HasLongerFile c.shelf.before z.file (limit_of z.command))) →
         HasLongerFile c.shelf.before (file_in c.words) (limit_of a.command)
     longer h =
         subst (λ (n : List ℕ). HasLongerFile c.shelf.before n (limit_of a.command)) (sym (asked_file a asked))
         (asked_has (λ z. HasLongerFile c.shelf.before z.file (limit_of z.command)) a asked h)
 
     missing_due : TellsNone c → IsRead c → (end : Result (Unit {0}) Refusal) → WorkEnds end (work_of c) → IsFreely 3 (status_at end)
-    missing_due t n (Ok u) w = absurd (none_has c.shelf.before.files (file_in c.words) _ t (read_file _ _ w.prints.asked_for.reads))
+    missing_due t n (Ok u) w = absurd (none_has c.shelf.before.files (file_in c.words) _ t (read_file _ _ (of_file _ w.prints.asked_for).reads))
     missing_due t n (Err BadWords) w = absurd (not_none w.cause)
     missing_due t n (Err Absent) w = inl refl
     missing_due t n (Err (Config f)) w = absurd (none_has c.shelf.before.files (file_in c.words) _ t (read_file _ _ w.cause.1))
     missing_due t n (Err (Script f)) w = absurd (none_has c.shelf.before.files (file_in c.words) _ t (read_file _ _ w.cause.1))
     missing_due t n (Err ReadFault) w = absurd (n w.shelf.counted)
-    missing_due t n (Err WriteFault) w = absurd (none_has c.shelf.before.files (file_in c.words) _ t (read_file _ _ w.cause.asked_for.reads))
+    missing_due t n (Err WriteFault) w = absurd (none_has c.shelf.before.files (file_in c.words) _ t (read_file _ _ (of_file _ w.cause.asked_for).reads))
     missing_due t n (Err NoMemory) w = inr refl
     missing_due t n (Err TooLong) w = absurd (none_longer c.shelf.before.files (file_in c.words) _ t (longer w.cause))
 
@@ -149,13 +179,13 @@ module _ (c : Call) where
     not_long m b t r = longer_has c.shelf.before.files (file_in c.words) b (limit_of a.command) t (read_file m b r) (read_short m b r)
 
     longer_due : TellsLonger a.command c → IsRead c → (end : Result (Unit {0}) Refusal) → WorkEnds end (work_of c) → IsFreely 9 (status_at end)
-    longer_due t n (Ok u) w = absurd (not_long _ _ t w.prints.asked_for.reads)
+    longer_due t n (Ok u) w = absurd (not_long _ _ t (of_file _ w.prints.asked_for).reads)
     longer_due t n (Err BadWords) w = absurd (not_none w.cause)
     longer_due t n (Err Absent) w = absurd (longer_lacks c.shelf.before.files (file_in c.words) _ t (lacks w.cause))
     longer_due t n (Err (Config f)) w = absurd (not_long _ _ t w.cause.1)
     longer_due t n (Err (Script f)) w = absurd (not_long _ _ t w.cause.1)
     longer_due t n (Err ReadFault) w = absurd (n w.shelf.counted)
-    longer_due t n (Err WriteFault) w = absurd (not_long _ _ t w.cause.asked_for.reads)
+    longer_due t n (Err WriteFault) w = absurd (not_long _ _ t (of_file _ w.cause.asked_for).reads)
     longer_due t n (Err NoMemory) w = inr refl
     longer_due t n (Err TooLong) w = inl refl
 
@@ -181,10 +211,10 @@ module _ (c : Call) where
     told_bytes : (n : Command) (b : List ℕ) → Reads n b (work_of c) → b ≡ bytes
     told_bytes n b r = same_file c.shelf.before.files (file_in c.words) bytes b t.file (read_file n b r)
 
-    told_found : IsSomeAnd (asked_in c.words) (λ z. LacksFile c.shelf.before z.file) → ⊥
+    told_found : IsSomeAnd (asked_in c.words) (OfFile (λ z. LacksFile c.shelf.before z.file)) → ⊥
     told_found h = not_lacking c.shelf.before.files (file_in c.words) bytes t.file (lacks (asking t.kept (file_in c.words) m) t.asked h)
 
-    told_short : IsSomeAnd (asked_in c.words) (λ z. HasLongerFile c.shelf.before z.file (limit_of z.command)) → ⊥
+    told_short : IsSomeAnd (asked_in c.words) (OfFile (λ z. HasLongerFile c.shelf.before z.file (limit_of z.command))) → ⊥
     told_short h = not_longer c.shelf.before.files (file_in c.words) bytes (limit_of m) t.file (longer (asking t.kept (file_in c.words) m) t.asked h) t.short
 
     told_asked : asked_in c.words ≡ None → ⊥
@@ -214,7 +244,9 @@ module _ (c : Call) where
     told_spelled Replay b text r o none = none o.0 o.1.journal (o.1.text ∙ told_bytes Replay bytes t Replay b r)
 
     asked_spelled : (text : List ℕ) → IsAskedFor text (work_of c) → SpellsNone bytes → ⊥
-    asked_spelled text a none = told_spelled a.command a.bytes text a.reads a.output none
+    asked_spelled text a none =
+        let f = of_file (asking t.kept (file_in c.words) Replay) t.asked text a in
+        told_spelled f.command f.bytes text f.reads f.output none
 
     unspelled_due : SpellsNone bytes → IsRead c → (end : Result (Unit {0}) Refusal) → WorkEnds end (work_of c) → IsFreely 5 (status_at end)
     unspelled_due s n (Ok u) w = absurd (asked_spelled _ w.prints.asked_for s)
@@ -249,7 +281,9 @@ module _ (c : Call) where
         no_fault (loaded [] bytes) o.0 fault (subst (λ (x : List ℕ). IsConf x o.0) (told_bytes Check bytes t Check b r) o.1) h
 
     asked_conf : (text : List ℕ) → IsAskedFor text (work_of c) → (fault : ConfFault) → IsFault bytes fault → ⊥
-    asked_conf text a fault h = told_conf a.command a.bytes text a.reads a.output fault h
+    asked_conf text a fault h =
+        let f = of_file (asking t.kept (file_in c.words) Check) t.asked text a in
+        told_conf f.command f.bytes text f.reads f.output fault h
 
     refused_due : (fault : ConfFault) → IsFault bytes fault → IsRead c → (end : Result (Unit {0}) Refusal) → WorkEnds end (work_of c) → IsFreely 4 (status_at end)
     refused_due fault h n (Ok u) w = absurd (asked_conf _ w.prints.asked_for fault h)
@@ -284,7 +318,7 @@ module _ (c : Call) where
 pub complete_by : (status : ℕ) (c : Call) → Ended status c → Complete status c
 complete_by status c e = record {
   words = λ none. freely 2 (words_due c e.end e.work_ends none);
-  missing = λ some tells read. at_asked (asked_in c.words) refl some (λ a asked. freely 3 (missing_due c a asked tells read e.end e.work_ends));
+  missing = λ a asked tells read. freely 3 (missing_due c a asked tells read e.end e.work_ends);
   longer = λ a asked tells read. freely 9 (longer_due c a asked tells read e.end e.work_ends);
   replayed = λ bytes t s sound. freely 0 (replayed_due c bytes t s sound e.end e.work_ends);
   unspelled = λ bytes t s read. freely 5 (unspelled_due c bytes t s read e.end e.work_ends);
@@ -292,6 +326,7 @@ complete_by status c e = record {
   checked = λ bytes jobs t k sound. freely 0 (checked_due c bytes t jobs k sound e.end e.work_ends);
   refused = λ bytes fault t is read. freely 4 (refused_due c bytes t fault is read e.end e.work_ends);
   told = λ bytes fault t is four. told_due c bytes t fault is e.end e.work_ends e.speaks (sym e.status_is ∙ four);
+  made = λ p asked written. freely 0 (made_due c p asked written e.end e.work_ends);
   untold = λ a asked n. at_last a (untold_due c a asked n e.end e.work_ends);
 }
   where
@@ -300,7 +335,3 @@ complete_by status c e = record {
 
     at_last : (a : Asking) → IsFreely 0 (status_at e.end) ⊎ (status_at e.end ≡ refused_at a.command) → IsFreely 0 status ⊎ (status ≡ refused_at a.command)
     at_last a h = subst (λ n. IsFreely 0 n ⊎ (n ≡ refused_at a.command)) (sym e.status_is) h
-
-    at_asked : (o : Option Asking) → asked_in c.words ≡ o → IsSome o → ((a : Asking) → asked_in c.words ≡ Some a → IsFreely 3 status) → IsFreely 3 status
-    at_asked None is some f = absurd (is_asked c None refl some)
-    at_asked (Some a) is some f = f a is

@@ -11,10 +11,11 @@ use Rattle.clap.specs.declared.error.kind.ErrorKind.TheVariants.{OutOfMemory}
 use Rattle.clap.specs.declared.parser.matches.ArgMatches.{ArgMatches}
 use Rattle.clap.proofs.OnLiterals.{clap_on_literals}
 use Rattle.clap.proofs.WalkLemmas.{first_value-rows}
-use Rattle.scrape_cli.specs.Arguments.{replay_app, check_app, app_for, fault_in, rows_in, kept_id, file_id}
-use Rattle.scrape_cli.specs.Words.{Asking, asking, asked_of, asked_in, file_in, asking_by, unless_refused, is_kept}
-use Rattle.scrape_cli.specs.declared.words.Command.{Command}
-use Rattle.scrape_cli.specs.declared.words.Command.TheVariants.{Replay, Check}
+use Rattle.scrape_cli.specs.Arguments.{replay_app, check_app, synth_app, app_for, fault_in, rows_in, kept_id}
+use Rattle.scrape_cli.specs.Words.{asked_of, asked_in, asked_by, file_in, file_asked, unless_refused, is_kept}
+use Rattle.scrape_cli.specs.declared.words.Verb.{Verb}
+use Rattle.scrape_cli.specs.declared.words.Verb.TheVariants.{Replay, Check, Synth}
+use Rattle.scrape_cli.specs.declared.words.Asked.{Asked}
 
 free_replay : is_simple_and_free replay_app ≡ true
 unfolding replay_app clap_on_literals
@@ -24,6 +25,10 @@ free_check : is_simple_and_free check_app ≡ true
 unfolding check_app clap_on_literals
 free_check = refl
 
+free_synth : is_simple_and_free synth_app ≡ true
+unfolding synth_app clap_on_literals
+free_synth = refl
+
 simple_replay : is_simple replay_app ≡ true
 unfolding replay_app clap_on_literals
 simple_replay = refl
@@ -32,15 +37,21 @@ simple_check : is_simple check_app ≡ true
 unfolding check_app clap_on_literals
 simple_check = refl
 
-is_free : (command : Command) → is_simple_and_free (app_for command) ≡ true
+simple_synth : is_simple synth_app ≡ true
+unfolding synth_app clap_on_literals
+simple_synth = refl
+
+is_free : (command : Verb) → is_simple_and_free (app_for command) ≡ true
 is_free Replay = free_replay
 is_free Check = free_check
+is_free Synth = free_synth
 
-has_simple : (command : Command) → is_simple (app_for command) ≡ true
+has_simple : (command : Verb) → is_simple (app_for command) ≡ true
 has_simple Replay = simple_replay
 has_simple Check = simple_check
+has_simple Synth = simple_synth
 
-module _ (command : Command) (words : List Text) (app : App) (is : app ≡ app_for command) where
+module _ (command : Verb) (words : List Text) (app : App) (is : app ≡ app_for command) where
   -- words that are taken have no fault
   pub sound_by : (is_simple_and_free app ≡ true → fault_of app words ≡ []) → fault_in command words ≡ []
   unfolding fault_in
@@ -65,34 +76,24 @@ is_true value = option_map_or (λ (v : List ℕ). bytes_eq v (codes "true")) val
 pub kept_by : (m : ArgMatches) (value : Option (List ℕ)) → value ≡ first_value (found_of m) kept_id → is_true value ≡ is_kept (rows_of (found_of m))
 kept_by m value is = ap is_true (is ∙ first_value-rows (found_of m) kept_id)
 
-pub file_by : (m : ArgMatches) (value : Option (List ℕ)) → value ≡ first_value (found_of m) file_id → value ≡ first_of file_id (rows_of (found_of m))
-file_by m value is = is ∙ first_value-rows (found_of m) file_id
+pub word_by : (id : Text) (m : ArgMatches) (value : Option (List ℕ)) → value ≡ first_value (found_of m) id → value ≡ first_of id (rows_of (found_of m))
+word_by id m value is = is ∙ first_value-rows (found_of m) id
 
 -- what is asked for by values
-unless_none : (kinds : Kinds) (asked : Option Asking) → kinds ≢ [] → unless_refused kinds asked ≡ None
+unless_none : (kinds : Kinds) (asked : Option Asked) → kinds ≢ [] → unless_refused kinds asked ≡ None
 unless_none [] asked some = absurd (some refl)
 unless_none (k ∷ kinds) asked some = refl
 
-module _ (command : Command) (words : List Text) where
+module _ (command : Verb) (words : List Text) where
   pub asked_none : fault_in command words ≢ [] → asked_of command words ≡ None
   unfolding asked_of
-  asked_none h = unless_none (fault_in command words) (asking_by command (rows_in command words)) h
+  asked_none h = unless_none (fault_in command words) (asked_by command (rows_in command words)) h
 
-  pub asked_is : (rows : List Row) → fault_in command words ≡ [] → rows ≡ rows_in command words → asked_of command words ≡ asking_by command rows
+  pub asked_is : (rows : List Row) → fault_in command words ≡ [] → rows ≡ rows_in command words → asked_of command words ≡ asked_by command rows
   unfolding asked_of
   asked_is rows sound are =
-      ap (λ (ks : Kinds). unless_refused ks (asking_by command (rows_in command words))) sound ∙ ap (asking_by command) (sym are)
-
-module _ (command : Command) (rows : List Row) where
-  abbrev of_file : Option (List ℕ) → Option Asking
-  of_file file = option_map (λ (f : List ℕ). asking (is_kept rows) f command) file
-
-  pub asking_some : (file : List ℕ) (kept : Bool) → Some file ≡ first_of file_id rows → kept ≡ is_kept rows → asking_by command rows ≡ Some (asking kept file command)
-  asking_some file kept is flag = sym (ap of_file is) ∙ ap (λ (k : Bool). Some (asking k file command)) (sym flag)
-
-  pub asking_none : None ≡ first_of file_id rows → asking_by command rows ≡ None
-  asking_none is = sym (ap of_file is)
+      ap (λ (ks : Kinds). unless_refused ks (asked_by command (rows_in command words))) sound ∙ ap (asked_by command) (sym are)
 
 -- the name of the file that is asked for
-pub file_asked : (words : List Text) (a : Asking) → asked_in words ≡ Some a → a.file ≡ file_in words
-file_asked words a is = sym (ap (λ (o : Option Asking). option_map_or (λ (b : Asking). b.file) o []) is)
+pub file_of_words : (words : List Text) (a : Asked) → asked_in words ≡ Some a → file_asked a ≡ file_in words
+file_of_words words a is = sym (ap (λ (o : Option Asked). option_map_or file_asked o []) is)

@@ -6,16 +6,16 @@ use Rattle.scrape_cli.proofs.arguments.matches_in.Goals as goal
 
 pub returns-in-Ok-clause-sound : goal.returns-in-Ok-clause-sound
 returns-in-Ok-clause-sound c =
-    sound_by c.args.command (map string_bytes c.args.words.now) (app_of c.in_ok-grammar.grammar) c.in_ok-grammar.ensures c.in-Ok.ensures.kinds
+    sound_by c.args.verb (map string_bytes c.args.words.now) (app_of c.in_ok-grammar.grammar) c.in_ok-grammar.ensures c.in-Ok.ensures.kinds
 
 pub returns-in-Ok-clause-rows : goal.returns-in-Ok-clause-rows
 returns-in-Ok-clause-rows c =
-    rows_by c.args.command (map string_bytes c.args.words.now) (app_of c.in_ok-grammar.grammar) c.in_ok-grammar.ensures c.in-Ok.matches c.in-Ok.ensures.matches
+    rows_by c.args.verb (map string_bytes c.args.words.now) (app_of c.in_ok-grammar.grammar) c.in_ok-grammar.ensures c.in-Ok.matches c.in-Ok.ensures.matches
 
 pub returns : goal.returns
 returns c = record {
   sound = tt;
   rows = tt;
-  refused = λ _. refused_by c.args.command (map string_bytes c.args.words.now) (app_of c.in_ok-grammar.grammar) c.in_ok-grammar.ensures
+  refused = λ _. refused_by c.args.verb (map string_bytes c.args.words.now) (app_of c.in_ok-grammar.grammar) c.in_ok-grammar.ensures
       c.in-Err.error c.in-Err.ensures.kinds (λ memory. c.in_default.not-OutOfMemory (c.kind.ensures ∙ memory));
 }
