@@ -1,8 +1,9 @@
 -- A script event by event.
-use Rattle.std.proofs.Common.{◌≡◌, List, [], ◌∷◌, ◌++◌, reverse, sym, ap, subst, ◌∙◌, append_assoc}
+use Rattle.std.proofs.Common.{◌≡◌, ℕ, List, [], ◌∷◌, ◌++◌, reverse, sym, ap, subst, ◌∙◌, append_assoc}
 use Rattle.std.proofs.lemmas.List.{reverse-append}
 use Rattle.journal_text.specs.declared.events.Event.{Event}
-use Rattle.journal_text.specs.Events.{IsJournal}
+use Rattle.journal_text.specs.Events.{IsJournal, journal_text}
+use Rattle.journal_text.specs.Faults.{IsJournalOf}
 use Rattle.journal_text.proofs.JournalLemmas.{Next, next_of}
 
 -- an event that stands next in a journal, behind those that were taken
@@ -15,3 +16,7 @@ after_next js core e ys h = append_assoc core (e ∷ []) (reverse ys) ∙ h
 
 pub next_fits : (js core : List Event) (e : Event) (ys : List Event) → IsJournal js → core ++ e ∷ reverse ys ≡ js → Next core e
 next_fits js core e ys j h = next_of core e (reverse ys) (subst IsJournal (sym h) j)
+
+-- the text of a journal is replayed as that journal
+pub same_script : (core es : List Event) (bytes : List ℕ) → IsJournalOf bytes core → IsJournal es → bytes ≡ journal_text es → core ≡ es
+same_script core es bytes of is text = sym (of.only es is (sym text))

@@ -16,7 +16,7 @@ use crate::refusals::Refusal;
 use crate::replays::replayed;
 use crate::words::{Asked, Command, OfFile, Workload, limit_of};
 use book_text::{PrintError, print_book, summary_of};
-use journal_text::{ScriptError, texts_tell_apart};
+use journal_text::ScriptError;
 use label_set::{Blob, NoMemory};
 use outside::{Shelf, ShelfError, Sink};
 use scrape_config::ConfError;
@@ -102,7 +102,6 @@ fn check<S: Shelf, O: Sink>(
 fn summary_for(means: Means, load: &Workload) -> Result<Vec<u8>, NoMemory>
     ensures { IfOk result (λ text. text.items ≡ summary_text (length (script_events load.now)) (book_of (script_events load.now))) }
 {
-    texts_tell_apart();
     let script = make_script(means.alloc, load.seed, load.targets, load.scrapes)?;
     match replayed(means, script.as_slice()) {
         Ok(core) => summary_of(means.alloc, core.events(), core.book()),
