@@ -1,0 +1,15 @@
+pub mod FrontLemmas
+pub mod HeadLemmas
+pub mod ChunkLemmas
+pub mod TrailerLemmas
+pub mod BodyLemmas
+pub mod DecoderLemmas
+pub mod FieldLemmas
+pub mod FrameLemmas
+pub mod StepLemmas
+pub mod SizeLemmas
+pub mod UniqueLemmas
+pub mod SendLemmas
+pub mod RequestLemmas
+pub mod LimitLemmas
+pub mod ReceiveLemmas

@@ -1,0 +1,14 @@
+use Rattle.std.proofs.Common.{◌∙◌, ap, sym, subst}
+use Rattle.http_fetch.specs.declared.stages.Stage.{Stage}
+use Rattle.http_fetch.specs.declared.stages.Stage.TheVariants.{Line}
+use Rattle.http_fetch.specs.Stages.{Steps, after_line}
+use Rattle.http_fetch.proofs.StepLemmas.{line-step, line-never}
+use Rattle.http_fetch.proofs.stages.line_step.Goals as goal
+
+pub returns-in-Found : goal.returns-in-Found
+returns-in-Found c =
+    subst (λ (n : Stage). Steps Line c.args.limit c.args.got c.args.text.now n c.in-Found.len) (sym (c.after_line.ensures ∙ ap (after_line c.in-Found.size) c.saturating_sub.ensures))
+    (line-step c.args.text.now c.in-Found.len c.in-Found.size c.args.limit c.args.got c.in-Found.ensures)
+
+pub returns-in-Never : goal.returns-in-Never
+returns-in-Never c = rw (c.lost.ensures.next, c.lost.ensures.used) (line-never c.args.text.now c.args.limit c.args.got c.requires c.in-Never.ensures)

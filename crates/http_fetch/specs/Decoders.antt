@@ -1,0 +1,30 @@
+-- What a decoder stands for.
+use Rattle.std.specs.Prelude.{◌≡◌, ℕ, ◌⊎◌, List, ◌++◌, ◌↔◌}
+use Rattle.http_fetch.specs.declared.decoder.Decoder.{Decoder}
+use Rattle.outside.specs.declared.replies.Reply.{Reply}
+use Rattle.http_fetch.specs.Replies.{Http, IsOver, IsEnded}
+use Rattle.http_fetch.specs.Stages.{Stands}
+
+-- the decoder has taken b under the limit: whatever follows, b with it gives what the decoder's place gives
+pub record StandsFor (d : Decoder) (limit : ℕ) (b : List ℕ) : Type 0 where
+  pub limit_is : d.limit ≡ limit
+  pub stands : Stands limit d.stage d.body.items d.pending.items b
+
+-- nothing changed but room
+pub record SameParts (old new : Decoder) : Type 0 where
+  pub limit : new.limit ≡ old.limit
+  pub stage : new.stage ≡ old.stage
+  pub body : new.body.items ≡ old.body.items
+  pub pending : new.pending.items ≡ old.pending.items
+
+-- each continuation gives the same reply
+abbrev pub IsSettled : List ℕ → ℕ → Type 0
+IsSettled b limit = (more : List ℕ) (r : Reply) → Http b limit r ↔ Http (b ++ more) limit r
+
+-- the bytes hold a whole reply that doesn't go to the end of the link, or the body is known to be longer than the limit
+abbrev pub MustEnd : List ℕ → ℕ → Type 0
+MustEnd b limit = ((status : ℕ) × (bytes : List ℕ) × IsEnded b limit status bytes) ⊎ IsOver 8 b limit
+
+-- the rest is the end of the text
+abbrev pub LeavesOff : List ℕ → List ℕ → Type 0
+LeavesOff text rest = (front : List ℕ) × (text ≡ front ++ rest)

@@ -1,0 +1,9 @@
+pub mod Fields
+pub mod Replies
+pub mod Reading
+pub mod Stages
+pub mod Decoders
+pub mod Laws
+pub mod Requests
+pub mod Links
+pub mod Fetches

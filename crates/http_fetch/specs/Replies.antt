@@ -1,0 +1,175 @@
+-- The reply that the bytes of a link give, which ends after them.
+use Rattle.std.specs.Prelude.{◌≡◌, ◌≢◌, ℕ, ◌+◌, ◌<◌, ◌≤◌, ◌⊎◌, Bool, true, false, not, ◌==◌, List, [], ◌∷◌, ◌++◌, length, map}
+use Rattle.std.specs.List.{list_all}
+use Rattle.httparse.specs.Ascii.{carriage_return, line_feed}
+use Rattle.httparse.specs.Grammar.{ResponseHead, print_response, ReadsResponse, status_code, ChunkLine, print_chunk_line, ReadsChunkLine, chunk_size, LineEnd, print_end}
+use Rattle.httparse.specs.Spans.{name_and_value}
+use Rattle.http_fetch.specs.declared.fields.Framing.{Framing}
+use Rattle.http_fetch.specs.declared.fields.Framing.TheVariants.{Refused, Length, Chunks, ToEnd}
+use Rattle.outside.specs.declared.replies.Reply.{Reply}
+use Rattle.outside.specs.declared.replies.Reply.TheVariants.{Body, Lost, Garbled, Unsent, Oversize}
+use Rattle.http_fetch.specs.Fields.{framing}
+
+-- the text is the head h, and then rest
+pub record HeadAt (text : List ℕ) (h : ResponseHead) (rest : List ℕ) : Type 0 where
+  pub reads : ReadsResponse text h rest
+  pub few : length h.fields ≤ 64
+  pub short : length (print_response h) ≤ 65536
+
+-- the head says that another follows
+abbrev pub IsInterim : ResponseHead → Type 0
+IsInterim h = (100 ≤ status_code h) × (status_code h < 200)
+
+-- the text is these heads, after each of which another follows, and then rest
+abbrev pub Interims : List ResponseHead → List ℕ → List ℕ → Type 0
+Interims [] text rest = text ≡ rest
+Interims (h ∷ hs) text rest = (after : List ℕ) × HeadAt text h after × IsInterim h × Interims hs after rest
+
+-- the text is at most n such heads, the head h, after which none follows, and then rest
+pub record Reaches (n : ℕ) (text : List ℕ) (h : ResponseHead) (rest : List ℕ) : Type 0 where
+  pub interims : List ResponseHead
+  pub few : length interims ≤ n
+  pub mid : List ℕ
+  pub passed : Interims interims text mid
+  pub head : HeadAt mid h rest
+  pub final : 200 ≤ status_code h
+
+-- the text is the chunk line l, and then rest
+pub record LineAt (text : List ℕ) (l : ChunkLine) (rest : List ℕ) : Type 0 where
+  pub reads : ReadsChunkLine text l rest
+  pub short : length (print_chunk_line l) ≤ 256
+
+-- the text is a chunk, its line, its bytes and CR LF, and then rest
+pub record ChunkAt (text bytes rest : List ℕ) : Type 0 where
+  pub line : ChunkLine
+  pub reads : LineAt text line (bytes ++ carriage_return ∷ line_feed ∷ rest)
+  pub size : chunk_size line ≡ length bytes
+  pub some : 0 < length bytes
+
+-- the text is a chunk of each of these, and then rest
+abbrev pub Parts : List (List ℕ) → List ℕ → List ℕ → Type 0
+Parts [] text rest = text ≡ rest
+Parts (bytes ∷ more) text rest = (after : List ℕ) × ChunkAt text bytes after × Parts more after rest
+
+-- all these bytes
+abbrev pub joined : List (List ℕ) → List ℕ
+joined [] = []
+joined (bytes ∷ more) = bytes ++ joined more
+
+-- a byte of a trailer line
+abbrev pub is_text : ℕ → Bool
+is_text b = not (b == line_feed)
+
+-- the line without its line feed is that of the empty line
+abbrev pub is_blank : List ℕ → Bool
+is_blank [] = true
+is_blank (b ∷ []) = b == carriage_return
+is_blank (b ∷ c ∷ bs) = false
+
+-- the line has no line feed, and is not the empty line
+pub record IsTrailer (t : List ℕ) : Type 0 where
+  pub one : list_all is_text t ≡ true
+  pub some : is_blank t ≡ false
+
+-- the text is these lines, each with a line feed behind it, the empty line, and then rest
+abbrev pub Trailers : List (List ℕ) → List ℕ → List ℕ → Type 0
+Trailers [] text rest = (e : LineEnd) × (text ≡ print_end e ++ rest)
+Trailers (t ∷ ts) text rest = (after : List ℕ) × IsTrailer t × (text ≡ t ++ line_feed ∷ after) × Trailers ts after rest
+
+-- how many bytes these lines have
+abbrev pub trailer_len : List (List ℕ) → ℕ
+trailer_len [] = 0
+trailer_len (t ∷ ts) = length t + 1 + trailer_len ts
+
+-- the text begins with trailers in so much room, and the empty line
+pub record HasTrailers (room : ℕ) (text : List ℕ) : Type 0 where
+  pub lines : List (List ℕ)
+  pub rest : List ℕ
+  pub reads : Trailers lines text rest
+  pub short : trailer_len lines ≤ room
+
+-- the text begins with chunks of these bytes, the line of an empty one, and trailers
+pub record IsChunked (text bytes : List ℕ) : Type 0 where
+  pub parts : List (List ℕ)
+  pub mid : List ℕ
+  pub reads : Parts parts text mid
+  pub line : ChunkLine
+  pub after : List ℕ
+  pub last : LineAt mid line after
+  pub empty : chunk_size line ≡ 0
+  pub trailers : HasTrailers 65536 after
+  pub all : bytes ≡ joined parts
+
+-- the text begins with chunks and a further chunk line whose sizes sum to more than room
+pub record ExceedsInChunks (text : List ℕ) (room : ℕ) : Type 0 where
+  pub parts : List (List ℕ)
+  pub mid : List ℕ
+  pub reads : Parts parts text mid
+  pub line : ChunkLine
+  pub after : List ℕ
+  pub next : LineAt mid line after
+  pub more : room < length (joined parts) + chunk_size line
+
+-- the text has these bytes in front
+abbrev pub HasFront : List ℕ → List ℕ → Type 0
+HasFront text bytes = (rest : List ℕ) × (text ≡ bytes ++ rest)
+
+-- the text behind a head is a whole body of these bytes, and what follows it
+abbrev pub IsBody : Framing → List ℕ → List ℕ → Type 0
+IsBody Refused text bytes = ⊥
+IsBody (Length n) text bytes = (length bytes ≡ n) × HasFront text bytes
+IsBody Chunks text bytes = IsChunked text bytes
+IsBody ToEnd text bytes = text ≡ bytes
+
+-- the text behind a head shows that the body has more than room bytes
+abbrev pub Exceeds : Framing → List ℕ → ℕ → Type 0
+Exceeds Refused text room = ⊥
+Exceeds (Length n) text room = room < n
+Exceeds Chunks text room = ExceedsInChunks text room
+Exceeds ToEnd text room = room < length text
+
+-- how the body goes behind a head
+abbrev pub framing_of : ResponseHead → Framing
+framing_of h = framing (map name_and_value h.fields)
+
+-- a head of the code, then text, is a whole reply: at 200 a body within the limit, else none
+abbrev pub WholeAfter : ℕ → Framing → List ℕ → ℕ → ℕ → List ℕ → Type 0
+WholeAfter code f text limit status bytes =
+    (status ≡ code) × (((code ≢ 200) × (bytes ≡ [])) ⊎ ((code ≡ 200) × IsBody f text bytes × (length bytes ≤ limit)))
+
+-- a head of the code, then text, shows a body that is longer than the limit
+abbrev pub OverAfter : ℕ → Framing → List ℕ → ℕ → Type 0
+OverAfter code f text limit = (code ≡ 200) × Exceeds f text limit
+
+-- behind at most n heads after which another follows, the text begins with a whole reply
+pub record IsWhole (n : ℕ) (text : List ℕ) (limit status : ℕ) (bytes : List ℕ) : Type 0 where
+  pub head : ResponseHead
+  pub rest : List ℕ
+  pub reaches : Reaches n text head rest
+  pub whole : WholeAfter (status_code head) (framing_of head) rest limit status bytes
+
+-- or it shows a body that is longer than the limit
+pub record IsOver (n : ℕ) (text : List ℕ) (limit : ℕ) : Type 0 where
+  pub head : ResponseHead
+  pub rest : List ℕ
+  pub reaches : Reaches n text head rest
+  pub over : OverAfter (status_code head) (framing_of head) rest limit
+
+-- the reply that the bytes give
+abbrev pub Http : List ℕ → ℕ → Reply → Type 0
+Http b limit (Body status bytes) = IsWhole 8 b limit status bytes
+Http b limit Oversize = IsOver 8 b limit
+Http b limit Garbled = ((status : ℕ) (bytes : List ℕ) → ¬ (IsWhole 8 b limit status bytes)) × ¬ (IsOver 8 b limit)
+Http b limit Lost = ⊥
+Http b limit Unsent = ⊥
+
+-- a head of the code, then text, is a whole reply that ends before the link may
+abbrev pub EndsAfter : ℕ → Framing → List ℕ → ℕ → ℕ → List ℕ → Type 0
+EndsAfter code f text limit status bytes = WholeAfter code f text limit status bytes × ((code ≢ 200) ⊎ (f ≢ ToEnd))
+
+-- b holds a whole reply, which does not go to the end of the link
+pub record IsEnded (b : List ℕ) (limit status : ℕ) (bytes : List ℕ) : Type 0 where
+  pub head : ResponseHead
+  pub rest : List ℕ
+  pub reaches : Reaches 8 b head rest
+  pub ends : EndsAfter (status_code head) (framing_of head) rest limit status bytes

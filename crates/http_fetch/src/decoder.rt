@@ -1,0 +1,180 @@
+//! The decoder.
+ghost use Rattle.std.specs.Prelude.{◌≡◌, ◌++◌, ℕ, [], List, ◌<◌, ◌≤◌, ◌+◌, ◌-◌, length, take, drop, IfOk, OnOk, OnErr, Ok, false, vec_len, vec_capacity};
+ghost use Rattle.http_fetch.specs.Replies.{Http};
+ghost use Rattle.http_fetch.specs.Stages.{Fits, Leads, Waits, is_done};
+ghost use Rattle.http_fetch.specs.Decoders.{StandsFor, SameParts, IsSettled, MustEnd, LeavesOff};
+
+use crate::pieces::{behind, front};
+use crate::stages::{Stage, body_step, frame_step, is_body, is_done};
+use label_set::{Blob, NoMemory};
+use outside::Reply;
+use std::alloc::Global;
+
+/// Whether more bytes can change the reply.
+#[derive(Clone, Copy, PartialEq, Eq, Debug)]
+pub enum Fed {
+    /// They can.
+    More,
+    /// Whatever follows, the reply is the same.
+    Done,
+}
+
+/// A decoder of a reply that comes in pieces.
+#[derive(Drop, Debug)]
+pub struct Decoder {
+    limit: u64,
+    stage: Stage,
+    body: Vec<u8>,
+    pending: Vec<u8>,
+}
+
+/// Where a run over some bytes ends, and what it leaves of them.
+#[derive(Clone, Copy)]
+struct Left<'a> {
+    stage: Stage,
+    rest: &'a [u8],
+}
+
+/// Adds bytes that there is room for.
+fn add(body: &mut Vec<u8>, bytes: &[u8])
+    requires { vec_len body.old + length bytes.now ≤ vec_capacity body.old }
+    ensures items { body.new.items ≡ body.old.items ++ bytes.now }
+    ensures len { vec_len body.new ≡ vec_len body.old + length bytes.now }
+    ensures capacity { vec_capacity body.old ≤ vec_capacity body.new }
+{
+    let _ = body.extend_from_slice(bytes);
+}
+
+/// How many bytes there are.
+fn count_of(body: &Vec<u8>) -> u64
+    ensures { result ≡ length body.now.items }
+{
+    body.len() as u64
+}
+
+/// Goes over the bytes as far as they reach.
+fn run<'a>(mut stage: Stage, limit: u64, body: &mut Vec<u8>, text: &'a [u8]) -> Left<'a>
+    requires { vec_len body.old + length text.now ≤ vec_capacity body.old }
+    ensures leads { Fits stage limit body.old.items → Leads limit stage body.old.items text.now result.stage body.new.items result.rest.now }
+    ensures waits { Fits stage limit body.old.items → Waits result.stage result.rest.now }
+    ensures rest { LeavesOff text.now result.rest.now }
+{
+    let mut rest = text;
+    while !rest.is_empty() {
+        if is_done(stage) {
+            return Left { stage, rest };
+        }
+        let got = count_of(body);
+        if is_body(stage) {
+            let step = body_step(stage, limit, got, rest.len());
+            add(body, front(rest, step.used));
+            stage = step.next;
+            rest = behind(rest, step.used);
+        } else {
+            let Some(step) = frame_step(stage, limit, got, rest) else {
+                return Left { stage, rest };
+            };
+            stage = step.next;
+            rest = behind(rest, step.used);
+        }
+    }
+    Left { stage, rest }
+}
+
+/// Keeps so many bytes at the end.
+fn keep_end(pending: &mut Vec<u8>, count: usize)
+    requires { count ≤ vec_len pending.old }
+    ensures { pending.new.items ≡ drop (length pending.old.items - count) pending.old.items }
+{
+    let used = pending.len() - count;
+    pending.rotate_left(used);
+    pending.truncate(count);
+}
+
+/// Goes on over what was pending and a piece. An error leaves the bytes as they were.
+fn advance(
+    stage: Stage,
+    limit: u64,
+    body: &mut Vec<u8>,
+    pending: &mut Vec<u8>,
+    piece: &[u8],
+) -> Result<Stage, NoMemory>
+    ensures leads { IfOk result (λ next. Fits stage limit body.old.items → Leads limit stage body.old.items (pending.old.items ++ piece.now) next body.new.items pending.new.items) }
+    ensures waits { IfOk result (λ next. Fits stage limit body.old.items → Waits next pending.new.items) }
+    ensures body { OnErr result (body.new.items ≡ body.old.items) }
+    ensures pending { OnErr result (pending.new.items ≡ pending.old.items) }
+{
+    body.reserve(pending.len() + piece.len())?;
+    pending.extend_from_slice(piece)?;
+    let left = run(stage, limit, body, pending);
+    let count = left.rest.len();
+    let next = left.stage;
+    keep_end(pending, count);
+    Ok(next)
+}
+
+impl Decoder {
+    /// A decoder that has taken nothing.
+    pub fn new(alloc: Global, limit: u64) -> Result<Decoder, NoMemory>
+        ensures { IfOk result (λ d. StandsFor d limit []) }
+    {
+        Ok(Decoder {
+            limit,
+            stage: Stage::Heads { left: 8 },
+            body: Vec::new(alloc),
+            pending: Vec::new(alloc),
+        })
+    }
+
+    /// Takes the next piece.
+    pub fn feed(&mut self, piece: &[u8]) -> Result<Fed, NoMemory>
+        ensures stands { OnOk result ((limit : ℕ) (b : List ℕ) → StandsFor self.old limit b → StandsFor self.new limit (b ++ piece.now)) }
+        ensures err { OnErr result (SameParts self.old self.new) }
+        ensures done { result ≡ Ok Fed.Done → (limit : ℕ) (b : List ℕ) → StandsFor self.old limit b → IsSettled (b ++ piece.now) limit }
+        ensures more { result ≡ Ok Fed.More → (limit : ℕ) (b : List ℕ) → StandsFor self.old limit b → ¬ (MustEnd (b ++ piece.now) limit) }
+    {
+        if is_done(self.stage) {
+            return Ok(Fed::Done);
+        }
+        self.stage = advance(
+            self.stage,
+            self.limit,
+            &mut self.body,
+            &mut self.pending,
+            piece,
+        )?;
+        if is_done(self.stage) {
+            return Ok(Fed::Done);
+        }
+        Ok(Fed::More)
+    }
+
+    /// The reply, where the link ends here.
+    pub fn end(self) -> Reply
+        ensures reply { (limit : ℕ) (b : List ℕ) → StandsFor self limit b → Http b limit result }
+        ensures only { (limit : ℕ) (b : List ℕ) → StandsFor self limit b → (r : Reply) → Http b limit r → r ≡ result }
+    {
+        match self.stage {
+            Stage::Whole { status } => Reply::Body {
+                status,
+                bytes: Blob { bytes: self.body },
+            },
+            Stage::Open => Reply::Body {
+                status: 200,
+                bytes: Blob { bytes: self.body },
+            },
+            Stage::Over => Reply::Oversize,
+            _ => Reply::Garbled,
+        }
+    }
+}
+
+/// The reply that the bytes of a link give which ends after them.
+pub fn decode(alloc: Global, bytes: &[u8], limit: u64) -> Result<Reply, NoMemory>
+    ensures reply { IfOk result (λ r. Http bytes.now limit r) }
+    ensures only { IfOk result (λ r. (s : Reply) → Http bytes.now limit s → s ≡ r) }
+{
+    let mut decoder = Decoder::new(alloc, limit)?;
+    decoder.feed(bytes)?;
+    Ok(decoder.end())
+}
