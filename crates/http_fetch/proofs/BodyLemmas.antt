@@ -3,8 +3,10 @@ use Rattle.std.proofs.Common.{◌≡◌, ℕ, ◌+◌, ◌-◌, ◌<◌, ◌≤�
 use Rattle.std.proofs.lemmas.List.{nil_from_length, length-take-le}
 use Rattle.http_fetch.specs.declared.stages.Stage.{Stage}
 use Rattle.http_fetch.specs.declared.stages.Stage.TheVariants.{Length, Data, Open, Whole, Over}
-use Rattle.http_fetch.specs.Replies.{ExceedsInChunks, HasFront}
-use Rattle.http_fetch.specs.Stages.{Same, Leads, Grown, More, MoreData, ExceedsData, Fits}
+use Rattle.http_fetch.specs.Chunks.{ExceedsInChunks}
+use Rattle.http_fetch.specs.Replies.{HasFront}
+use Rattle.http_fetch.specs.Stages.{Same, Leads, Fits}
+use Rattle.http_fetch.specs.Expected.{Grown, More, MoreData, ExceedsData}
 use Rattle.http_fetch.proofs.FrontLemmas.{fronts}
 
 -- what comes behind u, of what has u in front

@@ -6,9 +6,10 @@ use Rattle.std.proofs.lemmas.List.{nil_from_length}
 use Rattle.httparse.specs.Grammar.{ChunkLine, chunk_size}
 use Rattle.http_fetch.specs.declared.stages.Stage.{Stage}
 use Rattle.http_fetch.specs.declared.stages.Stage.TheVariants.{Line, Data, Trailer, Over}
-use Rattle.http_fetch.specs.Replies.{LineAt, ChunkAt, Parts, joined, IsChunked, ExceedsInChunks, HasTrailers}
+use Rattle.http_fetch.specs.Chunks.{LineAt, ChunkAt, Parts, joined, IsChunked, ExceedsInChunks, HasTrailers}
 use Rattle.http_fetch.specs.Reading.{NoLine, NoEnd}
-use Rattle.http_fetch.specs.Stages.{Leads, Grown, More, MoreData, ExceedsData}
+use Rattle.http_fetch.specs.Stages.{Leads}
+use Rattle.http_fetch.specs.Expected.{Grown, More, MoreData, ExceedsData}
 use Rattle.http_fetch.proofs.FrontLemmas.{line-unique, line-append}
 
 -- a reply that only grows goes on where the text does
@@ -147,7 +148,7 @@ module _ (text : List ℕ) (l : ChunkLine) (rest : List ℕ) (here : LineAt text
 
   line-last : chunk_size l ≡ 0 → Leads limit Line got text (Trailer 65536) got rest
   line-last empty = record {
-    fits = fits;
+    fits = (fits, omega arith);
     same = λ more. record {
       whole = grown (λ bytes w. ⊎_elim
           (λ (a : (chunk_size l ≡ 0) × HasTrailers 65536 (rest ++ more) × (bytes ≡ [])). (a.1, a.2))

@@ -5,7 +5,8 @@ use Rattle.std.proofs.lemmas.Bool.Decides.{nat_tests}
 use Rattle.httparse.specs.Grammar.{ResponseHead, ChunkLine, status_code, print_response, print_chunk_line, ReadsResponse, HasNoResponse, HasNoChunkLine}
 use Rattle.httparse.specs.Spans.{IsChunkLineAt, ResponseOverflows}
 use Rattle.http_fetch.specs.declared.fields.Framing.{Framing}
-use Rattle.http_fetch.specs.Replies.{framing_of, is_text, is_blank, HasTrailers}
+use Rattle.http_fetch.specs.Replies.{framing_of}
+use Rattle.http_fetch.specs.Chunks.{is_text, is_blank, HasTrailers}
 use Rattle.http_fetch.specs.Reading.{HasHead, NoHead, HasLine, NoLine}
 use Rattle.http_fetch.proofs.FrontLemmas.{fronts}
 use Rattle.httparse.proofs.GrammarLemmas.{response_unique, ReadsResponse-append}

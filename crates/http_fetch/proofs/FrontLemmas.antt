@@ -4,7 +4,8 @@ use Rattle.std.specs.List.{list_all}
 use Rattle.httparse.specs.Grammar.{ResponseHead, ChunkLine}
 use Rattle.httparse.proofs.GrammarLemmas.{response_unique, ReadsResponse-append}
 use Rattle.httparse.proofs.ChunkLemmas.{chunk_line_unique, ReadsChunkLine-append}
-use Rattle.http_fetch.specs.Replies.{HeadAt, LineAt, is_text}
+use Rattle.http_fetch.specs.Replies.{HeadAt}
+use Rattle.http_fetch.specs.Chunks.{LineAt, is_text}
 
 pub head-unique : {text : List ℕ} {h k : ResponseHead} {r q : List ℕ} → HeadAt text h r → HeadAt text k q → (h ≡ k) × (r ≡ q)
 head-unique {text} {h} {k} {r} {q} x y = response_unique text h k r q x.reads y.reads

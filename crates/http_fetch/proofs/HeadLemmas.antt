@@ -10,7 +10,9 @@ use Rattle.http_fetch.specs.declared.stages.Stage.{Stage}
 use Rattle.http_fetch.specs.declared.stages.Stage.TheVariants.{Heads, Length, Line, Open, Whole, Over, Never}
 use Rattle.http_fetch.specs.Replies.{HeadAt, Interims, IsInterim, Reaches, IsWhole, IsOver, WholeAfter, OverAfter, framing_of, IsBody}
 use Rattle.http_fetch.specs.Reading.{NoHead}
-use Rattle.http_fetch.specs.Stages.{Leads, Grown, More, WholeFrom, OverFrom, after_good, Fits}
+use Rattle.http_fetch.specs.Stages.{Leads, WholeFrom, OverFrom, Fits}
+use Rattle.http_fetch.specs.Expected.{Grown, More}
+use Rattle.http_fetch.specs.Steps.{after_good}
 use Rattle.http_fetch.proofs.FrontLemmas.{head-unique, head-append}
 
 -- a head behind which none follows is the one that is reached

@@ -3,6 +3,7 @@ pub mod HeadLemmas
 pub mod ChunkLemmas
 pub mod TrailerLemmas
 pub mod BodyLemmas
+pub mod PlaceLemmas
 pub mod DecoderLemmas
 pub mod FieldLemmas
 pub mod FrameLemmas

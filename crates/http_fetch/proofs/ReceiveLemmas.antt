@@ -1,12 +1,11 @@
 -- What was read of a link.
-use Rattle.std.proofs.Common.{◌≡◌, ℕ, ◌+◌, ◌^◌, ◌<◌, ◌≤◌, List, [], ◌++◌, length, take, Option, Some, None, IfSome, refl, sym, ap, ◌∙◌, subst, arith, append_assoc, append-nil, length-append}
+use Rattle.std.proofs.Common.{◌≡◌, ℕ, ◌+◌, ◌<◌, ◌≤◌, List, [], ◌++◌, length, take, Option, Some, None, IfSome, refl, sym, ap, ◌∙◌, subst, arith, append_assoc, append-nil, length-append}
 use Rattle.std.proofs.lemmas.List.{length-take-le}
 use Rattle.outside.specs.declared.replies.Reply.{Reply}
 use Rattle.outside.specs.declared.replies.Reply.TheVariants.{Body, Lost, Garbled, Unsent, Oversize}
-use Rattle.outside.specs.Objects.{Use, used, Rose}
+use Rattle.outside.specs.Objects.{used, Rose}
 use Rattle.outside.specs.Sources.{Gives, IsAtEnd}
 use Rattle.outside.specs.Links.{LinkSeen, GaveOfLink, Broke}
-use Rattle.outside.specs.Fetches.{IsReplyInLimits}
 use Rattle.http_fetch.specs.declared.decoder.Decoder.{Decoder}
 use Rattle.http_fetch.specs.declared.stages.Stage.TheVariants.{Heads}
 use Rattle.http_fetch.specs.Replies.{Http}
@@ -14,7 +13,6 @@ use Rattle.http_fetch.specs.Decoders.{StandsFor, MustEnd, IsSettled}
 use Rattle.http_fetch.specs.Links.{HasRead, IsReplyOf, RepliesTo}
 use Rattle.http_fetch.proofs.DecoderLemmas.{must-not-end, stands-new}
 use Rattle.http_fetch.proofs.SizeLemmas.{no-later}
-use Rattle.http_fetch.proofs.LimitLemmas.{http-limits}
 
 gives-none : (o : Option (List ℕ)) → Gives [] o o
 gives-none None = tt
@@ -99,8 +97,10 @@ reply-end a m e d limit count reply r gave end h =
 pub reply-done : (a m e : LinkSeen) (d : Decoder) (limit count : ℕ) (piece : List ℕ) (reply : Reply) (r : HasRead (used a m) d limit count) → GaveOfLink piece (used m e) →
     Http (r.bytes ++ piece) limit reply → IsSettled (r.bytes ++ piece) limit → IsReplyOf limit reply (used a e)
 reply-done a m e d limit count piece reply r gave h settled =
-    of-bytes limit (r.bytes ++ piece) reply a e h (gave-faults m e piece gave ∙ same-faults a m d limit count r,
-    whatever-left a.left e.left limit (r.bytes ++ piece) reply (gives-more a.left m.left e.left r.bytes piece r.left gave.left) (λ more. (settled more reply).0 h))
+    of-bytes limit (r.bytes ++ piece) reply a e h (
+      gave-faults m e piece gave ∙ same-faults a m d limit count r,
+      whatever-left a.left e.left limit (r.bytes ++ piece) reply (gives-more a.left m.left e.left r.bytes piece r.left gave.left) (λ more. (settled more reply).0 h),
+    )
 
 pub reply-last : (a m : LinkSeen) (d : Decoder) (limit count : ℕ) → HasRead (used a m) d limit count → limit ≤ 67108864 → 34359738368 ≤ count → IsReplyOf limit Garbled (used a m)
 reply-last a m d limit count r small long =

@@ -1,7 +1,7 @@
 -- What was sent over a link, piece by piece.
-use Rattle.std.proofs.Common.{rules, ◌≡◌, ℕ, ◌<◌, ◌≤◌, List, [], ◌++◌, length, take, drop, Option, Some, None, IfSome, Result, Ok, Err, Bool, true, false, refl, sym, ap, ◌∙◌, subst, arith, append_assoc, append-nil}
+use Rattle.std.proofs.Common.{rules, ◌≡◌, ℕ, List, [], ◌++◌, take, drop, Option, Some, None, IfSome, Result, Ok, Err, false, refl, sym, ap, ◌∙◌, subst, append_assoc, append-nil}
 use Rattle.std.proofs.lemmas.List.{take-append-drop}
-use Rattle.outside.specs.Objects.{Use, used, Rose}
+use Rattle.outside.specs.Objects.{used, Rose}
 use Rattle.outside.specs.Links.{LinkSeen, WasDialled, TookToSend, Broke}
 use Rattle.std.specs.Result.{OnOk, is_err}
 use Rattle.outside.specs.declared.requests.Request.{Request}

@@ -5,7 +5,8 @@ use Rattle.httparse.specs.Grammar.{ResponseHead, status_code, ChunkLine, chunk_s
 use Rattle.http_fetch.specs.declared.fields.Framing.{Framing}
 use Rattle.http_fetch.specs.declared.fields.Framing.TheVariants as framings
 use Rattle.outside.specs.declared.replies.Reply.TheVariants.{Garbled}
-use Rattle.http_fetch.specs.Replies.{HeadAt, Interims, Reaches, LineAt, ChunkAt, Parts, joined, Trailers, trailer_len, IsChunked, ExceedsInChunks, IsBody, Exceeds, framing_of, IsWhole, IsOver, IsEnded, Http}
+use Rattle.http_fetch.specs.Replies.{HeadAt, Interims, Reaches, IsBody, Exceeds, framing_of, IsWhole, IsOver, IsEnded, Http}
+use Rattle.http_fetch.specs.Chunks.{LineAt, ChunkAt, Parts, joined, Trailers, trailer_len, IsChunked, ExceedsInChunks}
 use Rattle.http_fetch.specs.Decoders.{MustEnd}
 use Rattle.http_fetch.proofs.FrontLemmas.{fronts}
 

@@ -6,9 +6,11 @@ use Rattle.httparse.specs.Spans.{name_and_value}
 use Rattle.http_fetch.specs.declared.fields.Framing.{Framing}
 use Rattle.http_fetch.specs.declared.stages.Stage.{Stage}
 use Rattle.http_fetch.specs.declared.stages.Stage.TheVariants.{Heads, Line, Data, Trailer, Whole, Never}
-use Rattle.http_fetch.specs.Replies.{framing_of, is_blank, HasTrailers}
+use Rattle.http_fetch.specs.Replies.{framing_of}
+use Rattle.http_fetch.specs.Chunks.{is_blank, HasTrailers}
 use Rattle.http_fetch.specs.Reading.{HasHead, NoHead, HasLine, NoLine, NoEnd, HasText}
-use Rattle.http_fetch.specs.Stages.{Leads, Steps, WholeFrom, OverFrom, after_head, after_line}
+use Rattle.http_fetch.specs.Stages.{Leads, WholeFrom, OverFrom}
+use Rattle.http_fetch.specs.Steps.{Steps, after_head, after_line}
 use Rattle.http_fetch.proofs.HeadLemmas.{head-next, no-whole, no-over}
 use Rattle.http_fetch.proofs.ChunkLemmas.{line-next, end-next, no-chunked, no-exceeds, no-data, no-exceeds-data}
 use Rattle.http_fetch.proofs.TrailerLemmas.{trailer-next, trailer-last}

@@ -5,7 +5,7 @@ use Rattle.std.proofs.lemmas.Bool.Decides.{nat_tests}
 use Rattle.std.proofs.lemmas.List.Folds.{list_all-append}
 use Rattle.httparse.specs.Grammar.{LineEnd, crlf, lf, print_end}
 use Rattle.http_fetch.specs.declared.stages.Stage.TheVariants.{Trailer, Whole}
-use Rattle.http_fetch.specs.Replies.{HasTrailers, Trailers, trailer_len, is_text, is_blank}
+use Rattle.http_fetch.specs.Chunks.{HasTrailers, Trailers, trailer_len, is_text, is_blank}
 use Rattle.http_fetch.specs.Stages.{Leads}
 use Rattle.http_fetch.proofs.FrontLemmas.{lines, both}
 use Rattle.http_fetch.proofs.ChunkLemmas.{grown}
@@ -101,13 +101,13 @@ pub full-trailers : {room : ℕ} (text more : List ℕ) → list_all is_text tex
 full-trailers text more none some full w = full-by text more w.rest w.lines none some full w.reads w.short
 
 -- the steps
-module _ (t text rest : List ℕ) (one : list_all is_text t ≡ true) (here : text ≡ t ++ 10 ∷ rest) (room limit : ℕ) (got : List ℕ) (fits : length got ≤ limit) where
+module _ (t text rest : List ℕ) (one : list_all is_text t ≡ true) (here : text ≡ t ++ 10 ∷ rest) (room limit : ℕ) (got : List ℕ) (fits : (length got ≤ limit) × (room ≤ 65536)) where
   here-more : (more : List ℕ) → text ++ more ≡ t ++ 10 ∷ (rest ++ more)
   here-more more = ap (λ (x : List ℕ). x ++ more) here ∙ append_assoc t (10 ∷ rest) more
 
   pub trailer-next : is_blank t ≡ false → length t < room → Leads limit (Trailer room) got text (Trailer (room - length t - 1)) got rest
   trailer-next some small = record {
-    fits = fits;
+    fits = (fits.0, (let narrow : room ≤ 65536 = fits.1 in omega (arith, narrow)));
     same = λ more. record {
       whole = grown (λ bytes w. ((trailers-behind room t (rest ++ more) (text ++ more) one some (here-more more) w.0).1, w.1));
       whole_back = grown (λ bytes w. (trailers-before room t (rest ++ more) (text ++ more) one some (here-more more) small w.0, w.1));
@@ -118,7 +118,7 @@ module _ (t text rest : List ℕ) (one : list_all is_text t ≡ true) (here : te
 
   pub trailer-last : is_blank t ≡ true → Leads limit (Trailer room) got text (Whole 200) got rest
   trailer-last blank = record {
-    fits = fits;
+    fits = fits.0;
     same = λ more. record {
       whole = λ s c w. (w.good, w.all ∙ ap (λ (x : List ℕ). got ++ x) w.more.1 ∙ append-nil got);
       whole_back = λ s c w. record { good = w.0; rest = []; more = (trailers-last room t (rest ++ more) (text ++ more) blank (here-more more), refl); within = omega arith; all = w.1 ∙ sym (append-nil got) };

@@ -6,7 +6,8 @@ use Rattle.http_fetch.specs.declared.fields.Framing.{Framing}
 use Rattle.http_fetch.specs.declared.fields.Framing.TheVariants as framings
 use Rattle.outside.specs.declared.replies.Reply.{Reply}
 use Rattle.outside.specs.declared.replies.Reply.TheVariants.{Body, Lost, Garbled, Unsent, Oversize}
-use Rattle.http_fetch.specs.Replies.{HeadAt, Interims, Reaches, LineAt, ChunkAt, Parts, joined, IsBody, Exceeds, framing_of, WholeAfter, OverAfter, IsWhole, IsOver, Http}
+use Rattle.http_fetch.specs.Replies.{HeadAt, Interims, Reaches, IsBody, Exceeds, framing_of, WholeAfter, OverAfter, IsWhole, IsOver, Http}
+use Rattle.http_fetch.specs.Chunks.{LineAt, ChunkAt, Parts, joined}
 use Rattle.http_fetch.proofs.FrontLemmas.{fronts, head-unique, line-unique}
 
 -- two fronts of one length are one

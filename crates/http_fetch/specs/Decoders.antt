@@ -1,14 +1,22 @@
 -- What a decoder stands for.
-use Rattle.std.specs.Prelude.{◌≡◌, ℕ, ◌⊎◌, List, ◌++◌, ◌↔◌}
+use Rattle.std.specs.Prelude.{◌≡◌, ℕ, false, ◌⊎◌, ◌≤◌, length, List, ◌++◌, ◌↔◌}
 use Rattle.http_fetch.specs.declared.decoder.Decoder.{Decoder}
 use Rattle.outside.specs.declared.replies.Reply.{Reply}
 use Rattle.http_fetch.specs.Replies.{Http, IsOver, IsEnded}
 use Rattle.http_fetch.specs.Stages.{Stands}
+use Rattle.http_fetch.specs.Steps.{is_done}
+use Rattle.http_fetch.specs.Reading.{IsShort}
 
--- the decoder has taken b under the limit: whatever follows, b with it gives what the decoder's place gives
+-- the decoder has taken b under the limit: whatever follows, b with it gives what the decoder's place gives;
+-- of the bytes that it took it holds the body so far and, until it is done, a short text that waits for its end
 pub record StandsFor (d : Decoder) (limit : ℕ) (b : List ℕ) : Type 0 where
   pub limit_is : d.limit ≡ limit
   pub stands : Stands limit d.stage d.body.items d.pending.items b
+  pub short : is_done d.stage ≡ false → IsShort d.pending.items
+
+-- of all that it took the decoder holds a body within the limit, and a text that waits for its end and is short
+abbrev pub HoldsLittle : Decoder → ℕ → Type 0
+HoldsLittle d limit = (length d.body.items ≤ limit) × IsShort d.pending.items
 
 -- nothing changed but room
 pub record SameParts (old new : Decoder) : Type 0 where

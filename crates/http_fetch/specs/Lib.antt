@@ -1,7 +1,10 @@
 pub mod Fields
+pub mod Chunks
 pub mod Replies
 pub mod Reading
+pub mod Expected
 pub mod Stages
+pub mod Steps
 pub mod Decoders
 pub mod Laws
 pub mod Requests

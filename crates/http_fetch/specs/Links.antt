@@ -1,5 +1,5 @@
 -- What is sent over a link and what comes back, by what the link tells.
-use Rattle.std.specs.Prelude.{◌≡◌, ℕ, ◌-◌, ◌≤◌, ℤ, pos, List, [], ◌++◌, length, Option, Some, IfSome}
+use Rattle.std.specs.Prelude.{◌≡◌, ℕ, ◌-◌, ◌≤◌, ℤ, pos, List, ◌++◌, length, Option, Some, IfSome}
 use Rattle.value_text.specs.Numbers.{number}
 use Rattle.outside.specs.declared.requests.Request.{Request}
 use Rattle.outside.specs.declared.replies.Reply.{Reply}

@@ -1,8 +1,10 @@
 //! The decoder.
-ghost use Rattle.std.specs.Prelude.{◌≡◌, ◌++◌, ℕ, [], List, ◌<◌, ◌≤◌, ◌+◌, ◌-◌, length, take, drop, IfOk, OnOk, OnErr, Ok, false, vec_len, vec_capacity};
+ghost use Rattle.std.specs.Prelude.{◌≡◌, ◌++◌, ℕ, [], List, ◌<◌, ◌≤◌, ◌+◌, ◌-◌, length, take, drop, IfOk, OnOk, OnErr, Ok, false, vec_len, vec_capacity, max};
 ghost use Rattle.http_fetch.specs.Replies.{Http};
-ghost use Rattle.http_fetch.specs.Stages.{Fits, Leads, Waits, is_done};
-ghost use Rattle.http_fetch.specs.Decoders.{StandsFor, SameParts, IsSettled, MustEnd, LeavesOff};
+ghost use Rattle.http_fetch.specs.Stages.{Fits, Leads, Waits};
+ghost use Rattle.http_fetch.specs.Steps.{is_done};
+ghost use Rattle.http_fetch.specs.Reading.{IsShort};
+ghost use Rattle.http_fetch.specs.Decoders.{StandsFor, HoldsLittle, SameParts, IsSettled, MustEnd, LeavesOff};
 
 use crate::pieces::{behind, front};
 use crate::stages::{Stage, body_step, frame_step, is_body, is_done};
@@ -57,6 +59,7 @@ fn run<'a>(mut stage: Stage, limit: u64, body: &mut Vec<u8>, text: &'a [u8]) -> 
     requires { vec_len body.old + length text.now ≤ vec_capacity body.old }
     ensures leads { Fits stage limit body.old.items → Leads limit stage body.old.items text.now result.stage body.new.items result.rest.now }
     ensures waits { Fits stage limit body.old.items → Waits result.stage result.rest.now }
+    ensures short { Fits stage limit body.old.items → is_done result.stage ≡ false → IsShort result.rest.now }
     ensures rest { LeavesOff text.now result.rest.now }
 {
     let mut rest = text;
@@ -91,6 +94,21 @@ fn keep_end(pending: &mut Vec<u8>, count: usize)
     pending.truncate(count);
 }
 
+/// Makes room for so many bytes more: twice as much as there was, but no more than the limit and these, or just enough.
+fn make_room(body: &mut Vec<u8>, more: usize, limit: u64) -> Result<(), NoMemory>
+    ensures items { body.new.items ≡ body.old.items }
+    ensures room { OnOk result (vec_len body.new + more ≤ vec_capacity body.new) }
+    ensures most { vec_len body.old ≤ limit → vec_capacity body.new ≤ max (vec_capacity body.old) (limit + more) }
+{
+    let wanted = body.len().saturating_add(more);
+    let most = (limit as usize).saturating_add(more);
+    let double = body.capacity().saturating_mul(2);
+    if body.capacity() < wanted {
+        body.reserve_exact(double.min(most).max(wanted) - body.len())?;
+    }
+    Ok(())
+}
+
 /// Goes on over what was pending and a piece. An error leaves the bytes as they were.
 fn advance(
     stage: Stage,
@@ -101,11 +119,18 @@ fn advance(
 ) -> Result<Stage, NoMemory>
     ensures leads { IfOk result (λ next. Fits stage limit body.old.items → Leads limit stage body.old.items (pending.old.items ++ piece.now) next body.new.items pending.new.items) }
     ensures waits { IfOk result (λ next. Fits stage limit body.old.items → Waits next pending.new.items) }
+    ensures short { IfOk result (λ next. Fits stage limit body.old.items → is_done next ≡ false → IsShort pending.new.items) }
     ensures body { OnErr result (body.new.items ≡ body.old.items) }
     ensures pending { OnErr result (pending.new.items ≡ pending.old.items) }
 {
-    body.reserve(pending.len() + piece.len())?;
-    pending.extend_from_slice(piece)?;
+    make_room(body, pending.len() + piece.len(), limit)?;
+    pending.reserve(piece.len())?;
+    if pending.is_empty() {
+        let left = run(stage, limit, body, piece);
+        add(pending, left.rest);
+        return Ok(left.stage);
+    }
+    add(pending, piece);
     let left = run(stage, limit, body, pending);
     let count = left.rest.len();
     let next = left.stage;
@@ -132,6 +157,7 @@ impl Decoder {
         ensures err { OnErr result (SameParts self.old self.new) }
         ensures done { result ≡ Ok Fed.Done → (limit : ℕ) (b : List ℕ) → StandsFor self.old limit b → IsSettled (b ++ piece.now) limit }
         ensures more { result ≡ Ok Fed.More → (limit : ℕ) (b : List ℕ) → StandsFor self.old limit b → ¬ (MustEnd (b ++ piece.now) limit) }
+        ensures held { result ≡ Ok Fed.More → (limit : ℕ) (b : List ℕ) → StandsFor self.old limit b → HoldsLittle self.new limit }
     {
         if is_done(self.stage) {
             return Ok(Fed::Done);

@@ -2,8 +2,8 @@
 ghost use Rattle.std.specs.Prelude.{◌≡◌, ℕ, List, ◌<◌, ◌≤◌, length};
 ghost use Rattle.std.specs.List.{prefix_len};
 ghost use Rattle.http_fetch.specs.Reading.{IsLine, IsEnd, IsTrailerAt};
-ghost use Rattle.http_fetch.specs.Replies as spec;
-ghost use Rattle.http_fetch.specs.Replies.{is_text};
+ghost use Rattle.http_fetch.specs.Chunks as spec;
+ghost use Rattle.http_fetch.specs.Chunks.{is_text};
 
 use httparse::{Status, parse_chunk_size};
 

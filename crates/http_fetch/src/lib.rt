@@ -5,15 +5,21 @@
 
 pub mod decoder;
 pub mod exchange;
+#[cfg(test)]
+mod fetch_tests;
 mod fields;
 mod frames;
 mod heads;
+#[cfg(test)]
+mod hostile_tests;
 pub mod http_fetch;
 pub mod laws;
 mod pieces;
 pub mod receive;
 pub mod requests;
 pub mod stages;
+#[cfg(test)]
+mod tests;
 
 pub use decoder::{Decoder, Fed, decode};
 pub use http_fetch::HttpFetch;

@@ -9,7 +9,8 @@ use std::alloc::Global;
 use value_text::write_seconds3;
 
 /// The lines that each request has: what is taken, not compressed, and who asks.
-const SAME_LINES: &[u8] = b"Accept: text/plain;version=0.0.4;q=1,*/*;q=0.1\r\nAccept-Encoding: identity\r\nUser-Agent: scrape/1\r\n";
+const SAME_LINES: &[u8] =
+    b"Accept: text/plain;version=0.0.4;q=1,*/*;q=0.1\r\nAccept-Encoding: identity\r\nUser-Agent: scrape/1\r\n";
 
 /// The line that asks for no further request, and the empty line behind it.
 const LAST_LINES: &[u8] = b"Connection: close\r\n\r\n";
@@ -36,7 +37,12 @@ pub fn text_of(alloc: Global, request: &Request) -> Result<Vec<u8>, NoMemory>
     let mut text = Vec::new(alloc);
     add(&mut text, b"GET ", target, b" HTTP/1.1\r\n")?;
     add(&mut text, b"Host: ", authority, b"\r\n")?;
-    add(&mut text, SAME_LINES, b"X-Prometheus-Scrape-Timeout-Seconds: ", seconds.as_slice())?;
+    add(
+        &mut text,
+        SAME_LINES,
+        b"X-Prometheus-Scrape-Timeout-Seconds: ",
+        seconds.as_slice(),
+    )?;
     add(&mut text, b"\r\n", LAST_LINES, b"")?;
     Ok(text)
 }

@@ -1,7 +1,7 @@
 //! The places in a reply.
 ghost use Rattle.std.specs.Prelude.{◌≡◌, ℕ, ◌+◌, ◌-◌, ◌<◌, ◌≤◌, ◌++◌, List, length, drop, take, min, true, false};
-ghost use Rattle.http_fetch.specs.Stages as spec;
-ghost use Rattle.http_fetch.specs.Stages.{LeadsBehind, LeadsInside};
+ghost use Rattle.http_fetch.specs.Steps as spec;
+ghost use Rattle.http_fetch.specs.Steps.{LeadsBehind, LeadsInside};
 
 use crate::fields::Framing;
 use crate::frames::{End, Line, Trailer, end_at, line_at, trailer_at};

@@ -1,7 +1,8 @@
 use Rattle.std.proofs.Common.{◌≡◌, ◌-◌, length, sym, arith, refl, length-drop}
 use Rattle.std.proofs.lemmas.List.{nil_from_length, length-take-le}
 use Rattle.std.proofs.lemmas.Bool.Decides.{nat_tests}
-use Rattle.http_fetch.proofs.DecoderLemmas.{leads-trans, waits-at-end, behind-left}
+use Rattle.http_fetch.proofs.PlaceLemmas.{leads-trans}
+use Rattle.http_fetch.proofs.DecoderLemmas.{waits-at-end, behind-left}
 use Rattle.http_fetch.proofs.decoder.run.Goals as goal
 
 pub loop-rest-preserved-then-is_body : goal.loop-rest-preserved-then-is_body

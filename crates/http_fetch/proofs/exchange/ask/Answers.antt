@@ -12,5 +12,5 @@ returns-clause-sent g c =
     let e = g.L.Link.seen c.receive.new.link in
     IfOk-weaker c.receive.result (λ (r : Reply). IsReplyInLimits r) (λ (r : Reply). SendsRequest c.args.request.now r (used a e))
     (λ r _. sends c.args.request.now c.args.text.now r a (g.L.Link.seen c.dial.new.self) (g.L.Link.seen c.send.new.link) e c.requires.text
-        (at-ok c.dial.result c.if-is_err.ensures.value c.dial.ensures.dialled) (at-ok c.send.result c.if-is_err-2.ensures.value c.send.ensures.sent) c.receive.ensures.sent)
+    (at-ok c.dial.result c.if-is_err.ensures.value c.dial.ensures.dialled) (at-ok c.send.result c.if-is_err-2.ensures.value c.send.ensures.sent) c.receive.ensures.sent)
     c.receive.ensures.limits

@@ -4,7 +4,7 @@ use Rattle.outside.specs.Fetches.{IsTimeout}
 use Rattle.std.specs.List.{flat_map}
 use Rattle.value_text.specs.Numbers.{seconds3, number}
 use Rattle.outside.specs.declared.requests.Request.{Request}
-use Rattle.http_fetch.specs.Requests.{request_text, request_lines, ended_line}
+use Rattle.http_fetch.specs.Requests.{request_text, ended_line}
 use Rattle.http_fetch.proofs.RequestLemmas.{lines, text-is}
 use Rattle.http_fetch.proofs.requests.text_of.Goals as goal
 

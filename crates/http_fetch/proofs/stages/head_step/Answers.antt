@@ -1,7 +1,7 @@
 use Rattle.std.proofs.Common.{sym, subst}
 use Rattle.http_fetch.specs.declared.stages.Stage.{Stage}
 use Rattle.http_fetch.specs.declared.stages.Stage.TheVariants.{Heads}
-use Rattle.http_fetch.specs.Stages.{Steps}
+use Rattle.http_fetch.specs.Steps.{Steps}
 use Rattle.http_fetch.proofs.StepLemmas.{head-step, head-never}
 use Rattle.http_fetch.proofs.stages.head_step.Goals as goal
 

@@ -1,7 +1,7 @@
 use Rattle.std.proofs.Common.{◌∙◌, ap, sym, subst}
 use Rattle.http_fetch.specs.declared.stages.Stage.{Stage}
 use Rattle.http_fetch.specs.declared.stages.Stage.TheVariants.{Line}
-use Rattle.http_fetch.specs.Stages.{Steps, after_line}
+use Rattle.http_fetch.specs.Steps.{Steps, after_line}
 use Rattle.http_fetch.proofs.StepLemmas.{line-step, line-never}
 use Rattle.http_fetch.proofs.stages.line_step.Goals as goal
 

@@ -6,7 +6,7 @@ use Rattle.http_fetch.specs.declared.stages.Stage.TheVariants.{Heads, Length, Li
 use Rattle.http_fetch.specs.declared.decoder.Decoder.{Decoder}
 use Rattle.http_fetch.specs.Replies.{Http}
 use Rattle.http_fetch.specs.Decoders.{StandsFor}
-use Rattle.http_fetch.proofs.DecoderLemmas.{answer, http-answer, only-answer}
+use Rattle.http_fetch.proofs.PlaceLemmas.{answer, http-answer, only-answer}
 use Rattle.http_fetch.proofs.decoder.Decoder.end.Goals as goal
 
 -- the reply of a decoder, where its place is known

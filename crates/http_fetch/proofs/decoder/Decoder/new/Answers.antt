@@ -1,6 +1,6 @@
-use Rattle.std.proofs.Common.{refl}
+use Rattle.std.proofs.Common.{refl, arith}
 use Rattle.http_fetch.proofs.DecoderLemmas.{stands-new}
 use Rattle.http_fetch.proofs.decoder.Decoder.new.Goals as goal
 
 pub returns : goal.returns
-returns c = record { limit_is = refl; stands = rw (c.new.ensures.items, c.new-2.ensures.items) (stands-new c.args.limit) }
+returns c = record { limit_is = refl; stands = rw (c.new.ensures.items, c.new-2.ensures.items) (stands-new c.args.limit); short = λ _. rw c.new-2.ensures.items (omega arith) }
