@@ -2,7 +2,6 @@
 ghost use Rattle.std.specs.Prelude.{◌≡◌, ◌≤◌, [], false, pos, IfOk, OnOk, OnErr, Some};
 ghost use Rattle.outside.specs.declared.requests.Scheme.TheVariants.{Http, Https};
 ghost use Rattle.outside.specs.Objects.{used, IsUntouched};
-ghost use Rattle.outside.specs.Calls.{told_calls};
 ghost use Rattle.outside.specs.Fetches.{IsTimeout, IsInLimits, IsUnsentRightly, Tells, CountsReply};
 ghost use Rattle.http_fetch.specs.Links.{IsReplyOf, SendsRequest, WasTimed};
 ghost use Rattle.http_fetch.specs.Fetches.{fetch_seen};
@@ -36,19 +35,18 @@ impl<L: Link, K: Clock> HttpFetch<L, K> {
 }
 
 impl<L: Link, K: Clock> Fetch for HttpFetch<L, K> {
-    ghost use Rattle.outside.specs.Calls.{told_calls};
     ghost use Rattle.http_fetch.specs.Fetches.{fetch_seen};
 
-    ghost seen = { λ f. fetch_seen (told_calls f.told.items) (L.seen f.link) };
+    ghost seen = { λ f. fetch_seen f.told.items (L.seen f.link) };
 
     fn fetch(&mut self, alloc: Global, request: &Request) -> Result<Fetched, NoMemory>
         requires limit { request.now.limit ≤ 67108864 }
         requires timeout { IsTimeout request.now.timeout }
         ensures limits { IfOk result (λ f. IsInLimits f) }
         ensures unsent { IfOk result (λ f. IsUnsentRightly request.now f) }
-        ensures counts { IfOk result (λ f. CountsReply f.reply (used (fetch_seen (told_calls self.old.told.items) (L.seen self.old.link)) (fetch_seen (told_calls self.new.told.items) (L.seen self.new.link)))) }
-        ensures told { IfOk result (λ f. Tells request.now f (used (fetch_seen (told_calls self.old.told.items) (L.seen self.old.link)) (fetch_seen (told_calls self.new.told.items) (L.seen self.new.link)))) }
-        ensures none { OnErr result (IsUntouched (used (fetch_seen (told_calls self.old.told.items) (L.seen self.old.link)) (fetch_seen (told_calls self.new.told.items) (L.seen self.new.link)))) }
+        ensures counts { IfOk result (λ f. CountsReply f.reply (used (fetch_seen self.old.told.items (L.seen self.old.link)) (fetch_seen self.new.told.items (L.seen self.new.link)))) }
+        ensures told { IfOk result (λ f. Tells request.now f (used (fetch_seen self.old.told.items (L.seen self.old.link)) (fetch_seen self.new.told.items (L.seen self.new.link)))) }
+        ensures none { OnErr result (IsUntouched (used (fetch_seen self.old.told.items (L.seen self.old.link)) (fetch_seen self.new.told.items (L.seen self.new.link)))) }
         ensures reply { request.now.scheme ≡ Http → IfOk result (λ f. IsReplyOf request.now.limit f.reply (used (L.seen self.old.link) (L.seen self.new.link))) }
         ensures sent { request.now.scheme ≡ Http → IfOk result (λ f. SendsRequest request.now f.reply (used (L.seen self.old.link) (L.seen self.new.link))) }
         ensures took { request.now.scheme ≡ Http → IfOk result (λ f. WasTimed f.took (used (K.seen self.old.clock) (K.seen self.new.clock))) }
