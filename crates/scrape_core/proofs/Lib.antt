@@ -1,1 +1,4 @@
 pub mod StateLemmas
+pub mod RecordLemmas
+pub mod ReaderLemmas
+pub mod NowLemmas

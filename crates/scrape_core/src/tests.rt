@@ -218,3 +218,59 @@ fn refusals_of_step(rt: HostRuntime) -> Result<(), Fail> {
     answers::<Brand>(&rt, rt.alloc(), Blank::new(1))?;
     Ok(())
 }
+
+/// What the core says between events.
+fn readers<L: Ledger>(rt: &impl Abort, alloc: Global, blank: Blank) -> Result<(), NoMemory>
+    requires name { blank.name ≡ L.name }
+    requires parts { blank.parts ≡ L.parts }
+    requires some { 0 < blank.parts }
+{
+    let mut steps = Steps::<L>::open(blank);
+    let mut core = Core::new(alloc)?;
+    assert_eq!(rt; core.wake(), None);
+    let _ = load(alloc, &mut core, &mut steps, 7, CONF)?;
+    assert_eq!(rt; core.jobs().len(), 1);
+    assert_eq!(rt; core.wake(), Some(7));
+    assert!(rt; core.due(7));
+    let _ = sweep(alloc, &mut core, &mut steps, 7)?;
+    assert_eq!(rt; core.started(), 1);
+    assert!(rt; !core.due(60_007));
+    assert_eq!(rt; core.wake(), None);
+    let Some(request) = core.request(alloc, 0)? else {
+        return Err(NoMemory);
+    };
+    assert_eq!(rt; request.authority.as_str(), "a:1");
+    assert_eq!(rt; request.target.as_str(), "/metrics");
+    assert!(rt; core.request(alloc, 1)?.is_none());
+    let _ = lost(alloc, &mut core, &mut steps, 0)?;
+    assert!(rt; core.request(alloc, 0)?.is_none());
+    assert_eq!(rt; core.wake(), Some(60_007));
+    Ok(())
+}
+
+#[test]
+fn readers_between_events(rt: HostRuntime) -> Result<(), Fail> {
+    readers::<Brand>(&rt, rt.alloc(), Blank::new(1))?;
+    Ok(())
+}
+
+/// A halt at the last moment.
+fn halted<L: Ledger>(rt: &impl Abort, alloc: Global, blank: Blank) -> Result<(), NoMemory>
+    requires name { blank.name ≡ L.name }
+    requires parts { blank.parts ≡ L.parts }
+    requires some { 0 < blank.parts }
+{
+    let mut steps = Steps::<L>::open(blank);
+    let mut core = Core::new(alloc)?;
+    core.halt();
+    assert_eq!(rt; core.events(), 1);
+    assert!(rt; !core.due(0));
+    let swept = sweep(alloc, &mut core, &mut steps, 0)?;
+    assert_said(rt, alloc, &swept, "Halted")
+}
+
+#[test]
+fn halt_with_kept_room(rt: HostRuntime) -> Result<(), Fail> {
+    halted::<Brand>(&rt, rt.alloc(), Blank::new(1))?;
+    Ok(())
+}
