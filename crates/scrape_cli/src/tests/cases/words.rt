@@ -106,21 +106,6 @@ y 2
 scrape: bad words
 -- status 2
 
-== synth_is_not_built
-$ synth 1 0 1
--- file s
-scrape-journal 1
-load 0 76
-{"scrape_configs":[{"job_name":"j","static_configs":[{"targets":["a:1"]}]}]}
-sweep 0
-body 15 0 200 8
-x 1
-y 2
-
--- err
-scrape: bad words
--- status 2
-
 == command_in_capitals
 $ Replay s
 -- file s
