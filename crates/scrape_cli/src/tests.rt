@@ -271,46 +271,65 @@ fn configurations_of_4_mib_are_read(rt: HostRuntime) -> Result<(), Fail> {
     Ok(())
 }
 
-/// Puts a number in front of a text, as a line with a word.
-fn line_of(alloc: Global, text: &mut Vec<u8>, word: &str, number: u64) -> Result<(), Fail> {
+/// Adds a word and a number as a line.
+fn push_number(alloc: Global, text: &mut Vec<u8>, word: &str, number: u64) -> Result<(), Fail> {
     let line = format!(in alloc; "{word} {number}\n")?;
     Ok(text.extend_from_slice(line.as_bytes())?)
+}
+
+/// The summary of a script of so many targets and scrapes, by counting in its journal, with the digest of its book. A page has 90 samples,
+/// of which each next one lacks ten; the five reports of a scrape come each time; at the end each of the last series is marked.
+fn summary_of(alloc: Global, targets: u64, scrapes: u64, book: &[u8]) -> Result<Vec<u8>, Fail> {
+    let all = targets.saturating_mul(scrapes);
+    let scraped = targets.saturating_mul(scrapes.min(1));
+    let samples = all.saturating_mul(90);
+    let stale = all
+        .saturating_mul(10)
+        .saturating_add(scraped.saturating_mul(80));
+    let reports = all.saturating_mul(5);
+    let ends = scraped.saturating_mul(5);
+    let mut text = Vec::new(alloc);
+    let events = all.saturating_add(scrapes).saturating_add(4);
+    push_number(alloc, &mut text, "events", events)?;
+    let entries = samples.saturating_add(stale).saturating_add(reports);
+    push_number(alloc, &mut text, "entries", entries.saturating_add(ends))?;
+    push_number(alloc, &mut text, "sample", samples)?;
+    push_number(alloc, &mut text, "stale", stale)?;
+    push_number(alloc, &mut text, "report", reports)?;
+    push_number(alloc, &mut text, "report-stale", ends)?;
+    let digest = hex::encode(alloc, Md5::digest(book))?;
+    text.extend_from_slice(format!(in alloc; "digest {digest}\n")?.as_bytes())?;
+    Ok(text)
+}
+
+/// The summary of a script is that of the book which its replay prints.
+fn assert_summed(
+    rt: &impl Abort,
+    means: Means,
+    script: &[u8],
+    targets: u64,
+    scrapes: u64,
+) -> Result<(), Fail> {
+    let alloc = means.alloc;
+    let book = run_on(means, "replay", script)?;
+    assert_eq!(rt; book.status, 0);
+    let wanted = summary_of(alloc, targets, scrapes, book.out.bytes())?;
+    let targets = targets.to_string(alloc)?;
+    let scrapes = scrapes.to_string(alloc)?;
+    let words = words_of(alloc, &["synth", "4294967295", &targets, &scrapes])?;
+    let mut shelf = SureShelf::new(files(alloc, b"")?)?;
+    let ran = run_over(means, words.as_slice(), &mut shelf, ROOM, &[])?;
+    assert_left(rt, &ran, 0, wanted.as_slice(), b"");
+    Ok(())
 }
 
 #[test]
 fn the_summary_of_a_script_is_that_of_its_replay(rt: HostRuntime) -> Result<(), Fail> {
     let means = means_of(&rt)?;
-    let alloc = means.alloc;
-    for (targets, scrapes) in [(3, 4), (1, 1), (2, 0)] {
-        let script = make_script(alloc, 4294967295, targets, scrapes)?;
-        let book = run_on(means, "replay", script.as_slice())?;
-        assert_eq!(rt; book.status, 0);
-        // so many events, and so many entries of each kind, by counting in the journal: a page has 90 samples, of which each next one
-        // lacks ten; the five reports of a scrape come each time; at the end each of the last series is marked
-        let (targets, scrapes) = (targets as u64, scrapes as u64);
-        let scraped = targets * scrapes.min(1);
-        let (samples, reports) = (90 * targets * scrapes, 5 * targets * scrapes);
-        let (stale, ends) = (scraped * (10 * scrapes + 80), 5 * scraped);
-        let mut wanted = Vec::new(alloc);
-        line_of(alloc, &mut wanted, "events", 4 + scrapes * (targets + 1))?;
-        line_of(
-            alloc,
-            &mut wanted,
-            "entries",
-            samples + stale + reports + ends,
-        )?;
-        line_of(alloc, &mut wanted, "sample", samples)?;
-        line_of(alloc, &mut wanted, "stale", stale)?;
-        line_of(alloc, &mut wanted, "report", reports)?;
-        line_of(alloc, &mut wanted, "report-stale", ends)?;
-        let digest = hex::encode(alloc, Md5::digest(book.out.bytes()))?;
-        wanted.extend_from_slice(format!(in alloc; "digest {digest}\n")?.as_bytes())?;
-        let targets = targets.to_string(alloc)?;
-        let scrapes = scrapes.to_string(alloc)?;
-        let words = words_of(alloc, &["synth", "4294967295", &targets, &scrapes])?;
-        let mut shelf = SureShelf::new(files(alloc, b"")?)?;
-        let ran = run_over(means, words.as_slice(), &mut shelf, ROOM, &[])?;
-        assert_left(&rt, &ran, 0, wanted.as_slice(), b"");
-    }
-    Ok(())
+    let script = make_script(means.alloc, 4294967295, 3, 4)?;
+    assert_summed(&rt, means, script.as_slice(), 3, 4)?;
+    let script = make_script(means.alloc, 4294967295, 1, 1)?;
+    assert_summed(&rt, means, script.as_slice(), 1, 1)?;
+    let script = make_script(means.alloc, 4294967295, 2, 0)?;
+    assert_summed(&rt, means, script.as_slice(), 2, 0)
 }
