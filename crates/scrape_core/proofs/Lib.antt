@@ -1,4 +1,1 @@
 pub mod StateLemmas
-pub mod RecordLemmas
-pub mod ReaderLemmas
-pub mod NowLemmas

@@ -1,4 +1,1 @@
 pub mod Kept
-pub mod Readers
-pub mod Records
-pub mod Wakes

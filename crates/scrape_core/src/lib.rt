@@ -9,7 +9,6 @@ mod changes;
 mod events;
 mod finishes;
 pub mod machine;
-mod readers;
 pub mod state;
 mod turns;
 
