@@ -45,7 +45,7 @@ line_len n i small few =
     let path : length (decimal i ++ (codes "\"} " ++ (decimal (n + i) ++ codes "\n"))) ≡ length (decimal i) + length (codes "\"} " ++ (decimal (n + i) ++ codes "\n")) =
     length-append (decimal i) (codes "\"} " ++ (decimal (n + i) ++ codes "\n")) in
     let code : length (decimal (200 + i) ++ (codes "\",path=\"/p" ++ (decimal i ++ (codes "\"} " ++ (decimal (n + i) ++ codes "\n")))))
-        ≡ length (decimal (200 + i)) + length (codes "\",path=\"/p" ++ (decimal i ++ (codes "\"} " ++ (decimal (n + i) ++ codes "\n")))) =
+    ≡ length (decimal (200 + i)) + length (codes "\",path=\"/p" ++ (decimal i ++ (codes "\"} " ++ (decimal (n + i) ++ codes "\n")))) =
     length-append (decimal (200 + i)) (codes "\",path=\"/p" ++ (decimal i ++ (codes "\"} " ++ (decimal (n + i) ++ codes "\n")))) in
     omega (arith, value, path, code, length_wide (n + i) (omega arith), length_wide i (omega arith), length_wide (200 + i) (omega arith))
 

@@ -26,7 +26,7 @@ loop-place-preserved c =
           let at : slice_get entries place ≡ Some e = sym w.in-Some.ensures in
           record {
             counts = λ k. rw w.counts-is
-            (w.count-counts.ensures k ∙ ap (λ n. n + cond (is_kind k e.kind) 1 0) (c.loop-place.invariant.counts k) ∙ sym (count_more entries place e k at));
+                (w.count-counts.ensures k ∙ ap (λ n. n + cond (is_kind k e.kind) 1 0) (c.loop-place.invariant.counts k) ∙ sym (count_more entries place e k at));
             digest = rw (w.hasher-is, text_more entries place e at) (w.in_ok-digest_line.ensures (book_text (take place entries)) c.loop-place.invariant.digest);
           }
       | in_default w ↦ absurd (none_past entries place (sym c.entry.ensures ∙ ap option_copied w.in_default.is) (omega arith))

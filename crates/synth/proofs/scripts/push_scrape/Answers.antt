@@ -18,9 +18,9 @@ loop-target-preserved c =
     let t = c.loop-target.target in
     record {
       events =
-        (rw c.in_ok-bytes.ensures.page at c.in_ok-push_reply.ensures.joined)
-        ∙ ap (λ z. z ++ f t ∷ []) c.loop-target.invariant.events
-        ∙ append_assoc old (first ∷ map f (upto t)) (f t ∷ [])
-        ∙ sym (ap (λ z. old ++ first ∷ z) (map_more f t));
+          (rw c.in_ok-bytes.ensures.page at c.in_ok-push_reply.ensures.joined)
+          ∙ ap (λ z. z ++ f t ∷ []) c.loop-target.invariant.events
+          ∙ append_assoc old (first ∷ map f (upto t)) (f t ∷ [])
+          ∙ sym (ap (λ z. old ++ first ∷ z) (map_more f t));
       now = c.in_ok-push_reply.ensures.now ∙ c.loop-target.invariant.now;
     }

@@ -14,9 +14,9 @@ loop-scrape-preserved c =
     let s = c.loop-scrape.scrape in
     record {
       events =
-        c.in_ok-push_scrape.ensures.joined
-        ∙ ap (λ z. z ++ f s) c.loop-scrape.invariant.events
-        ∙ append_assoc old (flat_map f (upto s)) (f s)
-        ∙ sym (ap (λ z. old ++ z) (flat_more f s));
+          c.in_ok-push_scrape.ensures.joined
+          ∙ ap (λ z. z ++ f s) c.loop-scrape.invariant.events
+          ∙ append_assoc old (flat_map f (upto s)) (f s)
+          ∙ sym (ap (λ z. old ++ z) (flat_more f s));
       now = omega (arith, c.in_ok-push_scrape.ensures.now);
     }
