@@ -4,3 +4,4 @@ pub mod JoinLemmas
 pub mod LentLemmas
 pub mod MergeLemmas
 pub mod NameLemmas
+pub mod SortLemmas

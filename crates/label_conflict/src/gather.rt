@@ -8,7 +8,7 @@ ghost use Rattle.label_set.specs.Sets.{IsSet};
 ghost use Rattle.label_conflict.specs.Merging as spec;
 ghost use Rattle.label_conflict.specs.Merging.{bears, names_of, name_label, apart_from, settled};
 ghost use Rattle.label_conflict.specs.Names.{under};
-ghost use Rattle.label_conflict.specs.Orders.{by_length};
+ghost use Rattle.label_conflict.specs.Orders.{by_length, by_name};
 
 use crate::free::free_name;
 use crate::names::Names;
@@ -43,6 +43,16 @@ pub fn push_all<'a>(out: &mut Vec<Label<'a>>, set: &'a LabelSet) -> Result<(), N
 {
     for label in set.labels() {
         out.push(label)?;
+    }
+    Ok(())
+}
+
+/// Adds all of some labels.
+pub fn push_list<'a>(out: &mut Vec<Label<'a>>, labels: &[Label<'a>]) -> Result<(), NoMemory>
+    ensures { OnOk result (map pair_of out.new.items ≡ map pair_of out.old.items ++ map pair_of labels.now) }
+{
+    for label in labels {
+        out.push(*label)?;
     }
     Ok(())
 }
@@ -94,6 +104,12 @@ fn shared_names<'a>(
     Ok(out)
 }
 
+fn name_order(one: Label<'_>, other: Label<'_>) -> Ordering
+    ensures { result ≡ by_name (pair_of one.entry) (pair_of other.entry) }
+{
+    one.name.cmp(other.name)
+}
+
 fn length_order(one: Label<'_>, other: Label<'_>) -> Ordering
     ensures { result ≡ by_length (pair_of one.entry) (pair_of other.entry) }
 {
@@ -101,6 +117,14 @@ fn length_order(one: Label<'_>, other: Label<'_>) -> Ordering
         .len()
         .cmp(&other.name.len())
         .then(one.name.cmp(other.name))
+}
+
+/// Puts labels into the order of their names.
+pub fn sort_by_name(labels: &mut Vec<Label<'_>>)
+    ensures moved { IsPermutation labels.old.items labels.new.items }
+    ensures sorted { IsSorted (λ one other. by_name (pair_of one) (pair_of other)) labels.new.items }
+{
+    labels.sort_unstable_by(|one, other| name_order(*one, *other));
 }
 
 /// Puts labels into the order of their names' lengths, and then of their names.

@@ -7,6 +7,8 @@ mod free;
 mod gather;
 mod names;
 mod sample;
+mod target;
 
 pub use free::always_free;
 pub use sample::{merge, merge_lent};
+pub use target::{LentTarget, labels_in};

@@ -74,6 +74,13 @@ impl<'l, 'a> Names<'l, 'a> {
         })
     }
 
+    /// The labels.
+    pub fn labels(&self) -> &[Label<'a>]
+        ensures { map pair_of result.now ≡ self.now }
+    {
+        self.labels
+    }
+
     /// Whether one of the labels bears a name.
     pub fn bear(&self, name: &str) -> bool
         ensures { result ≡ bears self.now name.now }

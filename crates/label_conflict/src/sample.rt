@@ -7,10 +7,18 @@ ghost use Rattle.label_set.specs.SetText.{metric_label};
 ghost use Rattle.label_conflict.specs.Merging.{bears, names_of, name_label, apart_from, settled, joined, merged};
 ghost use Rattle.label_set.specs.Lasts.{with_labels};
 
-use crate::gather::{conflicts, new_names, push_all, push_apart, push_name, push_valued, renamed};
+use crate::gather::{
+    conflicts, new_names, push_apart, push_list, push_name, push_valued, renamed, sort_by_name,
+};
 use crate::names::Names;
+use crate::target::{LentTarget, labels_in};
 use label_set::{Label, LabelSet, NoMemory, Pair, lent};
 use std::alloc::Global;
+
+/// Room for the labels of a line and a target, and the metric name.
+fn room_for(exposed: &[Label<'_>], target: &[Label<'_>]) -> usize {
+    exposed.len().saturating_add(target.len()).saturating_add(1)
+}
 
 /// The metric name, the labels of the line, and those of the target whose names it doesn't expose.
 fn honored<'a>(
@@ -21,7 +29,7 @@ fn honored<'a>(
 ) -> Result<Vec<Label<'a>>, NoMemory>
     ensures { IfOk result (λ v. map pair_of v.items ≡ joined name.now (map pair_of exposed.now) (map pair_of target.now) true) }
 {
-    let mut labels = Vec::new(alloc);
+    let mut labels = Vec::with_capacity(alloc, room_for(exposed, target))?;
     push_name(&mut labels, name)?;
     push_valued(&mut labels, exposed)?;
     push_apart(&mut labels, target, &Names::of(alloc, exposed)?)?;
@@ -33,16 +41,15 @@ fn without_conflicts<'a>(
     alloc: Global,
     name: &'a str,
     exposed: &[Label<'a>],
-    target: &'a LabelSet,
-    others: &Names<'_, '_>,
+    target: &Names<'_, 'a>,
 ) -> Result<Vec<Label<'a>>, NoMemory>
     ensures { IfOk result (λ v. map pair_of v.items
-        ≡ name_label name.now ++ (apart_from others.now (map pair_of exposed.now) ++ target.now)) }
+        ≡ name_label name.now ++ (apart_from target.now (map pair_of exposed.now) ++ target.now)) }
 {
-    let mut labels = Vec::new(alloc);
+    let mut labels = Vec::with_capacity(alloc, room_for(exposed, target.labels()))?;
     push_name(&mut labels, name)?;
-    push_apart(&mut labels, exposed, others)?;
-    push_all(&mut labels, target)?;
+    push_apart(&mut labels, exposed, target)?;
+    push_list(&mut labels, target.labels())?;
     Ok(labels)
 }
 
@@ -55,9 +62,6 @@ fn settled_set(
     ensures { IfOk result (λ s. s ≡ with_labels [] (settled (map pair_of conflicts.now) (map pair_of labels.now))) }
 {
     let set = LabelSet::of(alloc, labels)?;
-    if conflicts.is_empty() {
-        return Ok(set);
-    }
     let names = new_names(alloc, &Names::of(alloc, labels)?, conflicts)?;
     let given = renamed(alloc, names.as_slice(), conflicts)?;
     set.with_all(alloc, given.as_slice())
@@ -93,19 +97,21 @@ pub fn merge(
     ensures merged { IfOk result (λ s. s ≡ merged name.now exposed.now target.now honor) }
 {
     let exposed = lent(alloc, exposed)?;
-    merge_lent(alloc, name, exposed.as_slice(), target, honor)
+    let labels = labels_in(alloc, target)?;
+    let target = LentTarget::of(alloc, labels.as_slice())?;
+    merge_lent(alloc, name, exposed.as_slice(), &target, honor)
 }
 
-/// The set that `merge` gives, of exposed labels that are lent.
+/// The set that `merge` gives, of exposed labels and a target that are lent.
 ///
 /// # Errors
 ///
 /// Only want of memory refuses.
-pub fn merge_lent(
+pub fn merge_lent<'a>(
     alloc: Global,
-    name: &str,
-    exposed: &[Label<'_>],
-    target: &LabelSet,
+    name: &'a str,
+    exposed: &[Label<'a>],
+    target: &LentTarget<'_, 'a>,
     honor: bool,
 ) -> Result<LabelSet, NoMemory>
     requires names_differ { IsDistinct bytes_eq (names_of (map pair_of exposed.now)) }
@@ -113,15 +119,18 @@ pub fn merge_lent(
     requires no_name_in_target { bears target.now metric_label ≡ false }
     ensures merged { IfOk result (λ s. s ≡ merged name.now (map pair_of exposed.now) target.now honor) }
 {
-    let mut others = Vec::new(alloc);
-    push_all(&mut others, target)?;
+    let borne = target.names();
     if honor {
-        let labels = honored(alloc, name, exposed, others.as_slice())?;
-        return LabelSet::of(alloc, labels.as_slice());
+        let mut labels = honored(alloc, name, exposed, borne.labels())?;
+        sort_by_name(&mut labels);
+        return LabelSet::from_labels(alloc, labels.as_slice());
     }
-    let borne = Names::of(alloc, others.as_slice())?;
-    let found = conflicts(alloc, exposed, &borne)?;
-    let labels = without_conflicts(alloc, name, exposed, target, &borne)?;
+    let found = conflicts(alloc, exposed, borne)?;
+    let mut labels = without_conflicts(alloc, name, exposed, borne)?;
+    if found.is_empty() {
+        sort_by_name(&mut labels);
+        return LabelSet::from_labels(alloc, labels.as_slice());
+    }
     settled_set(alloc, labels.as_slice(), found.as_slice())
 }
 

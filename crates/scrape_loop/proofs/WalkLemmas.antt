@@ -9,11 +9,20 @@ use Rattle.std.proofs.lemmas.List.{take_more}
 use Rattle.std.proofs.lemmas.List.Elements.{filter-append}
 use Rattle.label_set.specs.Sets.{set_cmp, sets_total}
 use Rattle.label_set.specs.declared.texts.Pair.{Pair}
-use Rattle.scrape_loop.specs.Sets.{IsRising, begins_with, from_set, gone, has, unless_first}
+use Rattle.scrape_loop.specs.Sets.{IsRising, after_first, begins_with, from_set, gone, has, is_below_first, unless_found}
 
 -- the order of two sets, turned round
 turned : (x y : List Pair) (o : Ordering) → set_cmp y x ≡ o → set_cmp x y ≡ ordering_reverse o
 turned x y o e = sets_total.antisymm x y ∙ ap ordering_reverse e
+
+not_less : (o : Ordering) → is_eq o ≡ true → is_lt o ≡ false
+not_less Less e = sym e
+not_less Equal e = refl
+not_less Greater e = refl
+
+from_none : (x : List Pair) → from_set x [] ≡ []
+unfolding from_set
+from_none x = refl
 
 -- what is below a set, and what isn't
 module _ (x y : List Pair) (ys : List (List Pair)) where
@@ -29,8 +38,13 @@ module _ (x y : List Pair) (ys : List (List Pair)) where
       let none : prefix_len (λ (z : List Pair). is_lt (set_cmp z x)) (y ∷ ys) ≡ 0 = rw e refl in
       ap (λ n. drop n (y ∷ ys)) none
 
+-- a set that begins some is what a walk to it meets
+pub first_stays : (x : List Pair) (ys : List (List Pair)) → begins_with x ys ≡ true → from_set x ys ≡ ys
+first_stays x [] e = from_none x
+first_stays x (y ∷ ys) e = from-at x y ys (not_less (set_cmp y x) e)
+
 -- no set is among those above it
-above : List Pair → List (List Pair) → Type 0
+unfoldable pub above : List Pair → List (List Pair) → Type 0
 above x ys = AllByRecursion (λ (y : List Pair). set_cmp x y ≡ Less) ys
 
 none-above : (x : List Pair) (ys : List (List Pair)) → above x ys → has x ys ≡ false
@@ -42,6 +56,17 @@ above-more : (x y : List Pair) (ys : List (List Pair)) → set_cmp x y ≡ Less 
 unfolding above
 above-more x y [] e h = tt
 above-more x y (z ∷ zs) e h = (sets_total.trans x y z e h.0, above-more x y zs e h.1)
+
+-- a set below the first of rising ones is below all
+pub rises_more : (x : List Pair) (ys : List (List Pair)) → is_below_first x ys ≡ true → IsRising ys → IsRising (x ∷ ys)
+unfolding IsStrictlySortedBy above
+rises_more x [] e r = (tt, tt)
+rises_more x (y ∷ ys) e r = by_order (set_cmp x y) refl e
+  where
+    by_order : (o : Ordering) → set_cmp x y ≡ o → is_lt o ≡ true → IsRising (x ∷ y ∷ ys)
+    by_order Less f h = ((f, above-more x y ys f r.0), r)
+    by_order Equal f h = absurd cc
+    by_order Greater f h = absurd cc
 
 -- a set is among rising ones where it begins those that aren't below it
 found : (x : List Pair) (ys : List (List Pair)) → IsRising ys → has x ys ≡ begins_with x (from_set x ys)
@@ -69,6 +94,25 @@ kept x z (y ∷ ys) e = by_order (kept x z ys e) (set_cmp y x) refl
     by_order rest Equal f = ap (has z) (from-at x y ys (ap is_lt f))
     by_order rest Greater f = ap (has z) (from-at x y ys (ap is_lt f))
 
+-- and without the set itself nothing is lost of what is above it
+after_kept : (x z : List Pair) (ys : List (List Pair)) → set_cmp x z ≡ Less → has z (after_first x ys) ≡ has z ys
+after_kept x z [] e = refl
+after_kept x z (y ∷ ys) e = by_order (set_cmp y x) refl
+  where
+    by_order : (o : Ordering) → set_cmp y x ≡ o → has z (after_first x (y ∷ ys)) ≡ has z (y ∷ ys)
+    by_order Less f = rw f refl
+    by_order Equal f = rw f (ap (λ b. b || has z ys) (sym (ap is_eq (turned z y Less (sets_total.congr y x z f ∙ e)))))
+    by_order Greater f = rw f refl
+
+after_rises : (x : List Pair) (ys : List (List Pair)) → IsRising ys → IsRising (after_first x ys)
+unfolding IsStrictlySortedBy
+after_rises x [] r = tt
+after_rises x (y ∷ ys) r = by_test (is_eq (set_cmp y x)) refl
+  where
+    by_test : (b : Bool) → is_eq (set_cmp y x) ≡ b → IsRising (after_first x (y ∷ ys))
+    by_test true f = rw f r.1
+    by_test false f = rw f r
+
 still_rises : (x : List Pair) (ys : List (List Pair)) → IsRising ys → IsRising (from_set x ys)
 unfolding from_set IsStrictlySortedBy
 still_rises x [] r = tt
@@ -93,10 +137,10 @@ walk-start xs ys r s = record { rises = r; rest_rises = s; same = all_same xs }
     all_same (x ∷ xs) = (refl, all_same xs)
 
 carried : (x : List Pair) (rest ys more : List (List Pair)) → above x more → AllByRecursion (λ (z : List Pair). has z rest ≡ has z ys) more →
-    AllByRecursion (λ (z : List Pair). has z (from_set x rest) ≡ has z ys) more
+    AllByRecursion (λ (z : List Pair). has z (after_first x (from_set x rest)) ≡ has z ys) more
 unfolding above
 carried x rest ys [] a s = tt
-carried x rest ys (z ∷ more) a s = (kept x z rest a.0 ∙ s.0, carried x rest ys more a.1 s.1)
+carried x rest ys (z ∷ more) a s = (after_kept x z (from_set x rest) a.0 ∙ kept x z rest a.0 ∙ s.0, carried x rest ys more a.1 s.1)
 
 -- no sets rise
 pub none_rise : (xs : List (List Pair)) → xs ≡ [] → IsRising xs
@@ -105,21 +149,21 @@ none_rise xs e = subst IsRising (sym e) tt
 
 -- a step of it: what is gone up to the next place, and the walk from there on
 pub record IsStep (xs : List (List Pair)) (i : ℕ) (x : List Pair) (rest ys : List (List Pair)) : Type 0 where
-  pub told : gone (take (i + 1) xs) ys ≡ gone (take i xs) ys ++ unless_first x (from_set x rest)
-  pub next : Walks (drop (i + 1) xs) (from_set x rest) ys
+  pub told : gone (take (i + 1) xs) ys ≡ gone (take i xs) ys ++ unless_found (begins_with x (from_set x rest)) x
+  pub next : Walks (drop (i + 1) xs) (after_first x (from_set x rest)) ys
 
 module _ (x : List Pair) (more rest ys : List (List Pair)) (w : Walks (x ∷ more) rest ys) where
   here : begins_with x (from_set x rest) ≡ has x ys
   here = sym (found x rest w.rest_rises) ∙ w.same.0
 
-  next : Walks more (from_set x rest) ys
+  next : Walks more (after_first x (from_set x rest)) ys
   unfolding IsStrictlySortedBy above
-  next = record { rises = w.rises.1; rest_rises = still_rises x rest w.rest_rises; same = carried x rest ys more w.rises.0 w.same.1 }
+  next = record { rises = w.rises.1; rest_rises = after_rises x (from_set x rest) (still_rises x rest w.rest_rises); same = carried x rest ys more w.rises.0 w.same.1 }
 
-  alone : gone (x ∷ []) ys ≡ unless_first x (from_set x rest)
+  alone : gone (x ∷ []) ys ≡ unless_found (begins_with x (from_set x rest)) x
   alone = by_test (has x ys) refl
     where
-      by_test : (b : Bool) → has x ys ≡ b → gone (x ∷ []) ys ≡ unless_first x (from_set x rest)
+      by_test : (b : Bool) → has x ys ≡ b → gone (x ∷ []) ys ≡ unless_found (begins_with x (from_set x rest)) x
       by_test true e = rw (e, here, e) refl
       by_test false e = rw (e, here, e) refl
 

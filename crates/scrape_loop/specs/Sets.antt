@@ -1,5 +1,5 @@
 -- Lists of label sets as finite sets: membership, what is gone, each once in rising order.
-use Rattle.std.specs.Prelude.{Bool, not, false, List, [], ◌∷◌, drop, filter, if◌then◌else◌}
+use Rattle.std.specs.Prelude.{Bool, not, true, false, List, [], ◌∷◌, drop, filter, if◌then◌else◌}
 use Rattle.std.specs.List.{list_any, prefix_len}
 use Rattle.std.specs.List.Sorted.{IsStrictlySortedBy}
 use Rattle.std.specs.Ordering.{is_eq, is_lt}
@@ -33,6 +33,16 @@ abbrev pub begins_with : List Pair → List (List Pair) → Bool
 begins_with x [] = false
 begins_with x (y ∷ ys) = is_eq (set_cmp y x)
 
--- a set, unless it is the first of some
-abbrev pub unless_first : List Pair → List (List Pair) → List (List Pair)
-unless_first x ys = if begins_with x ys then [] else x ∷ []
+-- sets without the first, where that is a set
+abbrev pub after_first : List Pair → List (List Pair) → List (List Pair)
+after_first x [] = []
+after_first x (y ∷ ys) = if is_eq (set_cmp y x) then ys else y ∷ ys
+
+-- whether a set is below the first of some, where there is one
+abbrev pub is_below_first : List Pair → List (List Pair) → Bool
+is_below_first x [] = true
+is_below_first x (y ∷ ys) = is_lt (set_cmp x y)
+
+-- a set, unless it was found
+abbrev pub unless_found : Bool → List Pair → List (List Pair)
+unless_found found x = if found then [] else x ∷ []

@@ -2,10 +2,10 @@
 ghost use Rattle.std.specs.Prelude.{◌≡◌, ◌++◌, map, OnOk};
 ghost use Rattle.report_samples.specs.Markers.{stale_entry};
 ghost use Rattle.scrape_loop.specs.Entries as spec;
-ghost use Rattle.scrape_loop.specs.Sets.{IsRising, gone, unless_first};
+ghost use Rattle.scrape_loop.specs.Sets.{IsRising, gone, unless_found};
 ghost use Rattle.scrape_loop.specs.Tracked.{all_sets};
 
-use crate::walk::{begins_with, count_without, from_set};
+use crate::walk::{count_without, meet};
 use label_set::{LabelSet, NoMemory};
 use report_samples::{Entry, Kind, ReportCounts, stale_entry};
 use sample_rows::{Sample, Scrape};
@@ -39,17 +39,17 @@ pub fn push_samples(
     Ok(())
 }
 
-/// Adds a stale marker for a set, unless it is the first of those now.
+/// Adds a stale marker for a set, unless it was found.
 fn push_if_gone(
     entries: &mut Vec<Entry>,
     life: u64,
     moment: i64,
-    now: &[LabelSet],
+    found: bool,
     set: &LabelSet,
 ) -> Result<(), NoMemory>
-    ensures { OnOk result (entries.new.items ≡ entries.old.items ++ map (stale_entry life moment) (unless_first set.now now.now)) }
+    ensures { OnOk result (entries.new.items ≡ entries.old.items ++ map (stale_entry life moment) (unless_found found set.now)) }
 {
-    if begins_with(now, set) {
+    if found {
         return Ok(());
     }
     let entry = stale_entry(life, moment, set)?;
@@ -72,8 +72,9 @@ pub fn push_stale(
 {
     let mut rest = now;
     for set in before {
-        rest = from_set(rest, set);
-        push_if_gone(entries, life, moment, rest, set)?;
+        let met = meet(rest, set);
+        rest = met.above;
+        push_if_gone(entries, life, moment, met.found, set)?;
     }
     Ok(())
 }

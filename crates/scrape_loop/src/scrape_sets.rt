@@ -1,12 +1,13 @@
 //! The sets of a scrape.
-ghost use Rattle.std.specs.Prelude.{◌≡◌, IfOk, is_none};
+ghost use Rattle.std.specs.Prelude.{◌≡◌, IfOk, IsTrue, is_none, true};
 ghost use Rattle.std.specs.List.{list_all};
 ghost use Rattle.sample_rows.specs.declared.scrape.Sample.{Sample as SampleView};
 ghost use Rattle.scrape_loop.specs.Sets.{IsRising, rising};
+ghost use Rattle.scrape_loop.specs.Sets.{is_below_first as below_first};
 ghost use Rattle.scrape_loop.specs.Tracked as spec;
 
 use crate::rising::RisingSets;
-use label_set::{NoMemory, SetList};
+use label_set::{LabelSet, NoMemory, SetList};
 use sample_rows::{Sample, Scrape, ScrapeFault};
 use std::alloc::Global;
 
@@ -112,6 +113,58 @@ fn tracked_list(alloc: Global, samples: &[Sample], all: &RisingSets) -> Result<S
     tracked_sets(alloc, samples)?.list(alloc)
 }
 
+/// Whether a set is below that of the first of some samples, where there is one.
+fn is_below_first(set: &LabelSet, samples: &[Sample]) -> bool
+    ensures { result ≡ below_first set.now (spec.sets_in samples.now) }
+{
+    match samples.first() {
+        None => true,
+        Some(next) => set.cmp(&next.set).is_lt(),
+    }
+}
+
+/// Whether the sets of some samples rise as they stand.
+fn rise(samples: &[Sample]) -> bool
+    ensures { IsTrue result → IsRising (spec.sets_in samples.now) }
+{
+    let mut place = samples.len();
+    while place > 0 {
+        place -= 1;
+        if !is_below_first(&samples[place].set, &samples[place + 1..]) {
+            return false;
+        }
+    }
+    true
+}
+
+/// The sets of some samples, as they stand.
+fn listed(alloc: Global, samples: &[Sample]) -> Result<SetList, NoMemory>
+    ensures { IfOk result (λ l. l ≡ spec.sets_in samples.now) }
+{
+    let mut items = Vec::with_capacity(alloc, samples.len())?;
+    for sample in samples {
+        let set = sample.set.copy()?;
+        items.reserve(1)?;
+        items.push_reserved(set);
+    }
+    Ok(SetList { items })
+}
+
+/// The sets of samples without timestamps of their own, which rise: they are listed, and no tree is made.
+fn risen_sets(alloc: Global, samples: &[Sample]) -> Result<ScrapeSets, NoMemory>
+    requires rises { IsRising (spec.sets_in samples.now) }
+    requires unstamped { list_all (λ (r : SampleView). is_none r.stamp) samples.now ≡ true }
+    ensures tracked { IfOk result (λ s. s.tracked ≡ rising (spec.tracked_in samples.now)) }
+    ensures all { IfOk result (λ s. s.all ≡ rising (spec.sets_in samples.now)) }
+    ensures tracked_rise { IfOk result (λ s. IsRising s.tracked) }
+    ensures all_rise { IfOk result (λ s. IsRising s.all) }
+{
+    Ok(ScrapeSets {
+        tracked: listed(alloc, samples)?,
+        all: listed(alloc, samples)?,
+    })
+}
+
 /// The sets of a scrape.
 pub fn sets_of(alloc: Global, scrape: &Scrape) -> Result<ScrapeSets, NoMemory>
     ensures tracked { IfOk result (λ s. s.tracked ≡ spec.tracked_sets scrape.now) }
@@ -120,6 +173,9 @@ pub fn sets_of(alloc: Global, scrape: &Scrape) -> Result<ScrapeSets, NoMemory>
     ensures all_rise { IfOk result (λ s. IsRising s.all) }
 {
     let samples = samples_in(scrape);
+    if is_unstamped(samples) && rise(samples) {
+        return risen_sets(alloc, samples);
+    }
     let sets = all_sets(alloc, samples)?;
     Ok(ScrapeSets {
         tracked: tracked_list(alloc, samples, &sets)?,

@@ -4,7 +4,7 @@ ghost use Rattle.std.specs.List.{prefix_len};
 ghost use Rattle.std.specs.Ordering.{is_lt};
 ghost use Rattle.label_set.specs.Sets.{set_cmp};
 ghost use Rattle.scrape_loop.specs.Sets as spec;
-ghost use Rattle.scrape_loop.specs.Sets.{IsRising, gone};
+ghost use Rattle.scrape_loop.specs.Sets.{IsRising, after_first, begins_with, gone};
 
 use label_set::LabelSet;
 
@@ -24,28 +24,48 @@ fn below_len(sets: &[LabelSet], set: &LabelSet) -> usize
 
 /// Of rising sets those that aren't below a set.
 #[tactic(auto, unfolding(crate::specs::Sets::from_set))]
-pub fn from_set<'a>(sets: &'a [LabelSet], set: &LabelSet) -> &'a [LabelSet]
+fn from_set<'a>(sets: &'a [LabelSet], set: &LabelSet) -> &'a [LabelSet]
     ensures { result.now ≡ spec.from_set set.now sets.now }
 {
     &sets[below_len(sets, set)..]
 }
 
-/// Whether a set is the first of some.
-pub fn begins_with(sets: &[LabelSet], set: &LabelSet) -> bool
-    ensures { result ≡ spec.begins_with set.now sets.now }
+/// Where a walk over rising sets meets a set: whether the set is among them, and those above it.
+#[derive(Clone, Copy)]
+pub struct Met<'a> {
+    pub found: bool,
+    pub above: &'a [LabelSet],
+}
+
+/// Looks at the first of some sets alone.
+fn met_first<'a>(sets: &'a [LabelSet], set: &LabelSet) -> Met<'a>
+    ensures found { result.found ≡ begins_with set.now sets.now }
+    ensures above { result.above.now ≡ after_first set.now sets.now }
 {
     match sets.first() {
-        Some(first) => first == set,
-        None => false,
+        Some(first) if first == set => Met {
+            found: true,
+            above: &sets[1..],
+        },
+        _ => Met {
+            found: false,
+            above: sets,
+        },
     }
 }
 
-/// How many sets there are of one, unless it is the first of some.
-fn unless_first_len(sets: &[LabelSet], set: &LabelSet) -> usize
-    ensures value { result ≡ length (spec.unless_first set.now sets.now) }
-    ensures few { result ≤ 1 }
+/// Goes on over rising sets up to a set. Where the next one is the set, nothing but that is looked at: two lists of the same sets are
+/// compared for equality alone.
+#[tactic(auto, using(crate::proofs::WalkLemmas::first_stays))]
+pub fn meet<'a>(sets: &'a [LabelSet], set: &LabelSet) -> Met<'a>
+    ensures found { result.found ≡ begins_with set.now (spec.from_set set.now sets.now) }
+    ensures above { result.above.now ≡ after_first set.now (spec.from_set set.now sets.now) }
 {
-    if begins_with(sets, set) { 0 } else { 1 }
+    let met = met_first(sets, set);
+    if met.found {
+        return met;
+    }
+    met_first(from_set(sets, set), set)
 }
 
 /// How many of some rising sets aren't among others.
@@ -57,8 +77,11 @@ pub fn count_without(sets: &[LabelSet], others: &[LabelSet]) -> usize
     let mut count = 0;
     let mut rest = others;
     for set in sets {
-        rest = from_set(rest, set);
-        count += unless_first_len(rest, set);
+        let met = meet(rest, set);
+        rest = met.above;
+        if !met.found {
+            count += 1;
+        }
     }
     count
 }
