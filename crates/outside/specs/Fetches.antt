@@ -7,6 +7,7 @@ use Rattle.outside.specs.declared.replies.Reply.{Reply}
 use Rattle.outside.specs.declared.replies.Reply.TheVariants.{Body, Lost, Unsent}
 use Rattle.outside.specs.declared.calls.Call.{Call}
 use Rattle.outside.specs.Clocks.{IsReading}
+use Rattle.outside.specs.Sizes.{most_body_bytes}
 use Rattle.outside.specs.Objects.{Use, Rose}
 
 -- what fetches: its answered calls, where it tells them, and how often a reply was lost
@@ -25,7 +26,7 @@ IsTimeout (negsuc n) = ⊥
 
 -- a status code of three digits, and at most 64 MiB
 abbrev pub IsReplyInLimits : Reply → Type 0
-IsReplyInLimits (Body status bytes) = (100 ≤ status) × (status ≤ 999) × (length bytes ≤ 67108864)
+IsReplyInLimits (Body status bytes) = (100 ≤ status) × (status ≤ 999) × (length bytes ≤ most_body_bytes)
 IsReplyInLimits _ = Unit {0}
 
 -- what is fetched keeps its limits

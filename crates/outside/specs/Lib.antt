@@ -7,5 +7,7 @@ pub mod Clocks
 pub mod Links
 pub mod Lines
 pub mod Calls
+pub mod Sizes
+pub mod Schemes
 pub mod Fetches
 pub mod Replies

@@ -1,6 +1,7 @@
 ghost use Rattle.std.specs.Prelude.{◌≡◌, ◌≤◌, IfOk, All};
 ghost use Rattle.outside.specs.Fetches.{IsTimeout};
 ghost use Rattle.outside.specs.Replies.{IsReplyToGive};
+ghost use Rattle.outside.specs.Sizes.{most_body_bytes};
 
 use super::*;
 use label_set::{Blob, Name, NoMemory};
@@ -10,7 +11,7 @@ use std::test::Fail;
 use std::thread;
 
 fn request(alloc: Global, scheme: Scheme) -> Result<Request, NoMemory>
-    ensures limit { IfOk result (λ r. r.limit ≤ 67108864) }
+    ensures limit { IfOk result (λ r. r.limit ≤ most_body_bytes) }
     ensures timeout { IfOk result (λ r. IsTimeout r.timeout) }
 {
     Ok(Request {

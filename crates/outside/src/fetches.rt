@@ -34,6 +34,7 @@ impl Model for FetchedList {
 /// What fetches the page of a target.
 pub trait Fetch: Drop {
     ghost use Rattle.outside.specs.Objects.{used, IsUntouched};
+    ghost use Rattle.outside.specs.Sizes.{most_body_bytes};
     ghost use Rattle.outside.specs.Fetches.{FetchSeen, IsTimeout, IsInLimits, IsUnsentRightly, Tells, CountsReply};
 
     /// What contracts see of it: its answered calls, where it tells them, and its count.
@@ -41,7 +42,7 @@ pub trait Fetch: Drop {
 
     /// What came back for a request, and how long it took.
     fn fetch(&mut self, alloc: Global, request: &Request) -> Result<Fetched, NoMemory>
-        requires limit { request.now.limit ≤ 67108864 }
+        requires limit { request.now.limit ≤ most_body_bytes }
         requires timeout { IsTimeout request.now.timeout }
         ensures limits { IfOk result (λ f. IsInLimits f) }
         ensures unsent { IfOk result (λ f. IsUnsentRightly request.now f) }

@@ -1,4 +1,5 @@
 //! What the scrape manager has around it: the requests of scrapes and what came back for them, and the files, sinks, inputs, clocks and links that it is handed.
+//! It also says how a scheme is written, and how long what is handed in may be.
 //! The crates that decide know these types alone, so they reach no file, socket or clock: each object is a trait, with objects in memory
 //! that tell all that they hold, and thin adapters over the real things, which tell nothing.
 //! Contracts see a reply as its variant, with the body as the list of its bytes; of an object they see what it holds, where it tells that,
@@ -15,6 +16,7 @@ pub mod memory;
 pub mod objects;
 pub mod replies;
 pub mod requests;
+pub mod sizes;
 pub mod sockets;
 pub mod sources;
 pub mod streams;
@@ -28,7 +30,8 @@ pub use links::{Link, LinkFault};
 pub use memory::{MemShelf, MemSink, SureShelf, SureSink};
 pub use objects::{CallList, FileList, Shelf, ShelfError, Sink, SinkFault, StoredFile};
 pub use replies::Reply;
-pub use requests::{Fetched, Request, Scheme};
+pub use requests::{Fetched, Request, Scheme, is_scheme, scheme_of, scheme_text};
+pub use sizes::{MOST_BODY_BYTES, MOST_NAME_BYTES, MOST_TEXT_BYTES};
 pub use sockets::TcpLink;
 pub use sources::{MemSource, Source, SourceFault, SureSource};
 pub use streams::{FileSink, StdSource, SystemClock};
