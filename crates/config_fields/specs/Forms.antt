@@ -1,8 +1,10 @@
 -- What the value of a field may be, and what is wrong with it otherwise ("Configuration" of the Prometheus documentation).
-use Rattle.std.specs.Prelude.{ℕ, ◌^◌, ℤ, pos, Bool, true, false, not, ◌&&◌, ◌||◌, ◌==◌, List, length, nat_le, nat_lt, int_le, codes, Option, Some, None, is_some, option_map, option_and_then, if◌then◌else◌}
-use Rattle.std.specs.Str.{bytes_eq, str_eq_ignore_ascii_case}
+use Rattle.std.specs.Prelude.{ℕ, ◌^◌, ℤ, pos, Bool, true, false, not, ◌&&◌, ◌==◌, List, length, nat_le, nat_lt, int_le, codes, Option, Some, None, is_some, option_map, option_and_then, if◌then◌else◌}
+use Rattle.std.specs.Str.{str_eq_ignore_ascii_case}
 use Rattle.label_set.specs.Bytes.{is_label_name}
 use Rattle.value_text.specs.Durations.{duration}
+use Rattle.outside.specs.Sizes.{most_name_bytes}
+use Rattle.outside.specs.Schemes.{is_scheme}
 use Rattle.serde_json.specs.Data.{Data, Num}
 use Rattle.serde_json.specs.Find.{as_bool, as_str, as_number, as_u64}
 use Rattle.relabel.specs.declared.conf.Action.{Action}
@@ -22,13 +24,9 @@ millis_of text = option_and_then (λ n. if nat_le n (2 ^ 40) then Some n else No
 unfoldable pub is_within : ℤ → List ℕ → Bool
 is_within most text = is_some (option_and_then (λ n. if int_le (pos n) most then Some n else None) (millis_of text))
 
--- a name of a job or a file: 1 to 4,096 bytes
+-- a name of a job or a file: a byte or more, up to the most of such a name
 unfoldable pub is_short_name : List ℕ → Bool
-is_short_name text = nat_le 1 (length text) && nat_le (length text) 4096
-
--- `http` or `https`
-unfoldable pub is_scheme : List ℕ → Bool
-is_scheme text = bytes_eq text (codes "http") || bytes_eq text (codes "https")
+is_short_name text = nat_le 1 (length text) && nat_le (length text) most_name_bytes
 
 -- the action of a name, the letters of ASCII in any case
 unfoldable pub action_of : List ℕ → Option Action

@@ -6,6 +6,7 @@ ghost use Rattle.config_fields.specs.Forms as spec;
 
 use crate::fault::Flaw;
 use label_set::is_label_name;
+use outside::{MOST_NAME_BYTES, is_scheme};
 use relabel::Action;
 use serde_json::{Number, Value};
 use value_text::read_duration;
@@ -51,14 +52,6 @@ pub fn millis_of(text: &str) -> Option<i64>
     read_duration(text).ok()
 }
 
-/// Whether a text is `http` or `https`.
-#[tactic(auto, unfolding(crate::specs::Forms::is_scheme))]
-fn is_scheme(text: &str) -> bool
-    ensures { result ≡ spec.is_scheme text.now }
-{
-    text == "http" || text == "https"
-}
-
 /// Whether a text is this name, the letters of ASCII in any case.
 fn is_named(text: &str, name: &str) -> bool
     ensures { result ≡ str_eq_ignore_ascii_case text.now name.now }
@@ -102,7 +95,7 @@ pub fn action_of(text: &str) -> Option<Action>
 fn is_short_name(text: &str) -> bool
     ensures { result ≡ spec.is_short_name text.now }
 {
-    1 <= text.len() && text.len() <= 4096
+    1 <= text.len() && text.len() as u64 <= MOST_NAME_BYTES
 }
 
 #[tactic(auto, unfolding(crate::specs::Forms::is_within))]

@@ -7,6 +7,7 @@ use Rattle.std.specs.Option.{option_map_or, IfSome}
 use Rattle.std.proofs.lemmas.Option.{cond_some, none-some, option_and_then_some}
 use Rattle.std.proofs.lemmas.Slice.Eq.{starts_is}
 use Rattle.std.proofs.lemmas.Bool.Decides.{Decides-eqb}
+use Rattle.outside.specs.Sizes.{most_name_bytes, most_text_bytes, most_body_bytes}
 use Rattle.journal_text.specs.declared.lines.Line.{Line}
 use Rattle.journal_text.specs.declared.lines.Line.TheVariants.{Load, Targets, Tick, Sweep, Body, Lost, Garbled, Unsent, Oversize, Halt}
 use Rattle.journal_text.specs.Lines.{number, line_text, IsMoment, IsWord, InRange}
@@ -122,12 +123,12 @@ halt_line-some bytes p e =
 load_line-some : (bytes : List ℕ) (p : Line × List ℕ) → load_line bytes ≡ Some p → Reads (codes "load ") bytes p
 unfolding load_line
 load_line-some bytes p e =
-    option_and_then_some (λ m. option_map (λ q. (Load m.0 q.0, q.1)) (field 0 4194304 10 m.1)) (moment_field 32 bytes) p e
+    option_and_then_some (λ m. option_map (λ q. (Load m.0 q.0, q.1)) (field 0 most_text_bytes 10 m.1)) (moment_field 32 bytes) p e
     (λ m read then.
     let first = moment_field-some 32 bytes m (omega arith) read in
-    option_map_some (λ q. (Load m.0 q.0, q.1)) (field 0 4194304 10 m.1) p then
+    option_map_some (λ q. (Load m.0 q.0, q.1)) (field 0 most_text_bytes 10 m.1) p then
     (λ q read_len same.
-    let second = field-some 0 4194304 10 q.0 m.1 q.1 (omega arith) (omega arith) read_len in
+    let second = field-some 0 most_text_bytes 10 q.0 m.1 q.1 (omega arith) (omega arith) read_len in
     subst (Reads (codes "load ") bytes) same (record {
       range = (first.range, second.1);
       text = ap (λ r. codes "load " ++ r) (first.text ∙ ap (λ r. decimal (number m.0) ++ 32 ∷ r) second.2) ∙ sym (simp append_assoc);
@@ -137,21 +138,21 @@ targets_line-some : (bytes : List ℕ) (p : Line × List ℕ) → targets_line b
 unfolding targets_line
 targets_line-some bytes p e =
     option_and_then_some
-    (λ m. option_and_then (λ j. option_and_then (λ f. option_map (λ t. (Targets m.0 j.0 f.0 t.0, t.1)) (field 0 4194304 10 f.1)) (field 1 4096 32 j.1)) (field 1 4096 32 m.1))
+    (λ m. option_and_then (λ j. option_and_then (λ f. option_map (λ t. (Targets m.0 j.0 f.0 t.0, t.1)) (field 0 most_text_bytes 10 f.1)) (field 1 most_name_bytes 32 j.1)) (field 1 most_name_bytes 32 m.1))
     (moment_field 32 bytes) p e
     (λ m read then.
     let first = moment_field-some 32 bytes m (omega arith) read in
     option_and_then_some
-    (λ j. option_and_then (λ f. option_map (λ t. (Targets m.0 j.0 f.0 t.0, t.1)) (field 0 4194304 10 f.1)) (field 1 4096 32 j.1))
-    (field 1 4096 32 m.1) p then
+    (λ j. option_and_then (λ f. option_map (λ t. (Targets m.0 j.0 f.0 t.0, t.1)) (field 0 most_text_bytes 10 f.1)) (field 1 most_name_bytes 32 j.1))
+    (field 1 most_name_bytes 32 m.1) p then
     (λ j read_job then_file.
-    let second = field-some 1 4096 32 j.0 m.1 j.1 (omega arith) (omega arith) read_job in
-    option_and_then_some (λ f. option_map (λ t. (Targets m.0 j.0 f.0 t.0, t.1)) (field 0 4194304 10 f.1)) (field 1 4096 32 j.1) p then_file
+    let second = field-some 1 most_name_bytes 32 j.0 m.1 j.1 (omega arith) (omega arith) read_job in
+    option_and_then_some (λ f. option_map (λ t. (Targets m.0 j.0 f.0 t.0, t.1)) (field 0 most_text_bytes 10 f.1)) (field 1 most_name_bytes 32 j.1) p then_file
     (λ f read_file then_len.
-    let third = field-some 1 4096 32 f.0 j.1 f.1 (omega arith) (omega arith) read_file in
-    option_map_some (λ t. (Targets m.0 j.0 f.0 t.0, t.1)) (field 0 4194304 10 f.1) p then_len
+    let third = field-some 1 most_name_bytes 32 f.0 j.1 f.1 (omega arith) (omega arith) read_file in
+    option_map_some (λ t. (Targets m.0 j.0 f.0 t.0, t.1)) (field 0 most_text_bytes 10 f.1) p then_len
     (λ t read_len same.
-    let fourth = field-some 0 4194304 10 t.0 f.1 t.1 (omega arith) (omega arith) read_len in
+    let fourth = field-some 0 most_text_bytes 10 t.0 f.1 t.1 (omega arith) (omega arith) read_len in
     subst (Reads (codes "targets ") bytes) same (record {
       range = (first.range, (second.0, second.1), (third.0, third.1), fourth.1);
       text = ap (λ r. codes "targets " ++ r)
@@ -163,21 +164,21 @@ body_line-some : (bytes : List ℕ) (p : Line × List ℕ) → body_line bytes �
 unfolding body_line
 body_line-some bytes p e =
     option_and_then_some
-    (λ m. option_and_then (λ t. option_and_then (λ s. option_map (λ n. (Body m.0 t.0 s.0 n.0, n.1)) (field 0 67108864 10 s.1)) (field 100 999 32 t.1)) (word_field 32 m.1))
+    (λ m. option_and_then (λ t. option_and_then (λ s. option_map (λ n. (Body m.0 t.0 s.0 n.0, n.1)) (field 0 most_body_bytes 10 s.1)) (field 100 999 32 t.1)) (word_field 32 m.1))
     (moment_field 32 bytes) p e
     (λ m read then.
     let first = moment_field-some 32 bytes m (omega arith) read in
     option_and_then_some
-    (λ t. option_and_then (λ s. option_map (λ n. (Body m.0 t.0 s.0 n.0, n.1)) (field 0 67108864 10 s.1)) (field 100 999 32 t.1))
+    (λ t. option_and_then (λ s. option_map (λ n. (Body m.0 t.0 s.0 n.0, n.1)) (field 0 most_body_bytes 10 s.1)) (field 100 999 32 t.1))
     (word_field 32 m.1) p then
     (λ t read_ticket then_status.
     let second = field-some 0 (2 ^ 64 - 1) 32 t.0 m.1 t.1 (omega arith) (omega arith) read_ticket in
-    option_and_then_some (λ s. option_map (λ n. (Body m.0 t.0 s.0 n.0, n.1)) (field 0 67108864 10 s.1)) (field 100 999 32 t.1) p then_status
+    option_and_then_some (λ s. option_map (λ n. (Body m.0 t.0 s.0 n.0, n.1)) (field 0 most_body_bytes 10 s.1)) (field 100 999 32 t.1) p then_status
     (λ s read_status then_len.
     let third = field-some 100 999 32 s.0 t.1 s.1 (omega arith) (omega arith) read_status in
-    option_map_some (λ n. (Body m.0 t.0 s.0 n.0, n.1)) (field 0 67108864 10 s.1) p then_len
+    option_map_some (λ n. (Body m.0 t.0 s.0 n.0, n.1)) (field 0 most_body_bytes 10 s.1) p then_len
     (λ n read_len same.
-    let fourth = field-some 0 67108864 10 n.0 s.1 n.1 (omega arith) (omega arith) read_len in
+    let fourth = field-some 0 most_body_bytes 10 n.0 s.1 n.1 (omega arith) (omega arith) read_len in
     subst (Reads (codes "body ") bytes) same (record {
       range = (first.range, omega (arith, second.1), (third.0, third.1), fourth.1);
       text = ap (λ r. codes "body " ++ r)
@@ -307,7 +308,7 @@ halt_line-text m rest moment = rw (moment_field-decimal 10 m rest moment refl) r
 load_line-text : (m : ℤ) (len : ℕ) (rest : List ℕ) → InRange (Load m len) → load_line (decimal (number m) ++ 32 ∷ (decimal len ++ 10 ∷ rest)) ≡ Some (Load m len, rest)
 unfolding load_line
 load_line-text m len rest range =
-    rw (moment_field-decimal 32 m (decimal len ++ 10 ∷ rest) range.0 refl, field-decimal 0 4194304 10 len rest (omega arith) range.1 (omega arith) refl) refl
+    rw (moment_field-decimal 32 m (decimal len ++ 10 ∷ rest) range.0 refl, field-decimal 0 most_text_bytes 10 len rest (omega arith) range.1 (omega arith) refl) refl
 
 targets_line-text : (m : ℤ) (job file len : ℕ) (rest : List ℕ) → InRange (Targets m job file len) →
     targets_line (decimal (number m) ++ 32 ∷ (decimal job ++ 32 ∷ (decimal file ++ 32 ∷ (decimal len ++ 10 ∷ rest)))) ≡ Some (Targets m job file len, rest)
@@ -318,9 +319,9 @@ targets_line-text m job file len rest range =
     let job_text : List ℕ = decimal job ++ 32 ∷ file_text in
     rw (
       moment_field-decimal 32 m job_text range.0 refl,
-      field-decimal 1 4096 32 job file_text range.1.0 range.1.1 (omega arith) refl,
-      field-decimal 1 4096 32 file len_text range.2.0 range.2.1 (omega arith) refl,
-      field-decimal 0 4194304 10 len rest (omega arith) range.3 (omega arith) refl,
+      field-decimal 1 most_name_bytes 32 job file_text range.1.0 range.1.1 (omega arith) refl,
+      field-decimal 1 most_name_bytes 32 file len_text range.2.0 range.2.1 (omega arith) refl,
+      field-decimal 0 most_text_bytes 10 len rest (omega arith) range.3 (omega arith) refl,
     ) refl
 
 body_line-text : (m : ℤ) (ticket status len : ℕ) (rest : List ℕ) → InRange (Body m ticket status len) →
@@ -334,7 +335,7 @@ body_line-text m ticket status len rest range =
       moment_field-decimal 32 m ticket_text range.0 refl,
       field-decimal 0 (2 ^ 64 - 1) 32 ticket status_text (omega arith) (omega (arith, range.1)) (omega arith) refl,
       field-decimal 100 999 32 status len_text range.2.0 range.2.1 (omega arith) refl,
-      field-decimal 0 67108864 10 len rest (omega arith) range.3 (omega arith) refl,
+      field-decimal 0 most_body_bytes 10 len rest (omega arith) range.3 (omega arith) refl,
     ) refl
 
 -- a line in range is read

@@ -3,6 +3,7 @@
 use Rattle.std.specs.Prelude.{ℕ, ◌<◌, ◌≤◌, ◌^◌, List, [], ◌∷◌, ◌++◌, codes, ℤ, pos, negsuc}
 use Rattle.std.specs.Fmt.{decimal}
 pub use Rattle.value_text.specs.Numbers.{number}
+use Rattle.outside.specs.Sizes.{most_name_bytes, most_text_bytes, most_body_bytes}
 use Rattle.journal_text.specs.declared.lines.Line.{Line}
 use Rattle.journal_text.specs.declared.lines.Line.TheVariants.{Load, Targets, Tick, Sweep, Body, Lost, Garbled, Unsent, Oversize, Halt}
 
@@ -35,19 +36,19 @@ IsMoment (negsuc n) = ⊥
 
 -- how long the name of a job or of a file may be, in bytes
 abbrev pub IsNameLength : ℕ → Type 0
-IsNameLength n = (1 ≤ n) × (n ≤ 4096)
+IsNameLength n = (1 ≤ n) × (n ≤ most_name_bytes)
 
--- at most 4 MiB
+-- how long a configuration or the list of a file may be
 abbrev pub IsTextLength : ℕ → Type 0
-IsTextLength n = n ≤ 4194304
+IsTextLength n = n ≤ most_text_bytes
 
 -- a status code of three digits
 abbrev pub IsStatus : ℕ → Type 0
 IsStatus n = (100 ≤ n) × (n ≤ 999)
 
--- at most 64 MiB
+-- how long a body may be
 abbrev pub IsBodyLength : ℕ → Type 0
-IsBodyLength n = n ≤ 67108864
+IsBodyLength n = n ≤ most_body_bytes
 
 -- a number of 64 bits
 abbrev pub IsWord : ℕ → Type 0

@@ -5,6 +5,7 @@ ghost use Rattle.journal_text.specs.LineReadings as spec;
 ghost use Rattle.journal_text.specs.declared.lines.Line.{Line};
 
 use crate::numbers::{field, moment};
+use outside::{MOST_BODY_BYTES, MOST_NAME_BYTES, MOST_TEXT_BYTES};
 
 /// The line that an event begins with. Lengths are in bytes.
 #[derive(Clone, Copy, PartialEq, Eq, Debug)]
@@ -53,15 +54,6 @@ pub enum Line {
     },
 }
 
-/// The longest list of targets and the longest configuration, in bytes.
-const MAX_TEXT: u64 = 4_194_304;
-
-/// The longest name of a job or of a file, in bytes.
-const MAX_NAME: u64 = 4_096;
-
-/// The longest body, in bytes.
-const MAX_BODY: u64 = 67_108_864;
-
 /// A moment and a number, and the end of the line.
 #[tactic(auto, unfolding(crate::specs::LineReadings::pair_fields))]
 fn pair_fields(bytes: &[u8]) -> Option<(i64, u64, &[u8])>
@@ -78,7 +70,7 @@ fn load_line(bytes: &[u8]) -> Option<(Line, &[u8])>
     ensures { option_map {U = Line × List ℕ} (λ p. (p.0, p.1.now)) result ≡ spec.load_line bytes.now }
 {
     let (moment, rest) = moment(bytes, b' ')?;
-    let (len, rest) = field(rest, 0, MAX_TEXT, b'\n')?;
+    let (len, rest) = field(rest, 0, MOST_TEXT_BYTES, b'\n')?;
     let len = len as usize;
     Some((Line::Load { moment, len }, rest))
 }
@@ -89,9 +81,9 @@ fn targets_line(bytes: &[u8]) -> Option<(Line, &[u8])>
     ensures { option_map {U = Line × List ℕ} (λ p. (p.0, p.1.now)) result ≡ spec.targets_line bytes.now }
 {
     let (moment, rest) = moment(bytes, b' ')?;
-    let (job, rest) = field(rest, 1, MAX_NAME, b' ')?;
-    let (file, rest) = field(rest, 1, MAX_NAME, b' ')?;
-    let (len, rest) = field(rest, 0, MAX_TEXT, b'\n')?;
+    let (job, rest) = field(rest, 1, MOST_NAME_BYTES, b' ')?;
+    let (file, rest) = field(rest, 1, MOST_NAME_BYTES, b' ')?;
+    let (len, rest) = field(rest, 0, MOST_TEXT_BYTES, b'\n')?;
     let line = Line::Targets {
         moment,
         job: job as usize,
@@ -109,7 +101,7 @@ fn body_line(bytes: &[u8]) -> Option<(Line, &[u8])>
     let (took, rest) = moment(bytes, b' ')?;
     let (ticket, rest) = field(rest, 0, u64::MAX, b' ')?;
     let (status, rest) = field(rest, 100, 999, b' ')?;
-    let (len, rest) = field(rest, 0, MAX_BODY, b'\n')?;
+    let (len, rest) = field(rest, 0, MOST_BODY_BYTES, b'\n')?;
     let line = Line::Body {
         took,
         ticket,

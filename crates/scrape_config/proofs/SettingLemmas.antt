@@ -1,9 +1,7 @@
 -- What is the same by its fields is the same.
-use Rattle.std.proofs.Common.{◌≡◌, ℕ, ℤ, Bool, true, false, not, ◌&&◌, List, Option, Some, None, Decides, refl, sym, ap, ◌∙◌, if◌then◌else◌}
-use Rattle.std.specs.Prelude.{◌==◌, codes}
-use Rattle.std.specs.Ordering.{int_eq}
+use Rattle.std.proofs.Common.{◌≡◌, ℕ, Bool, true, false, List, Some, Decides, refl, sym, ap, ◌∙◌}
 use Rattle.std.specs.Str.{bytes_eq}
-use Rattle.std.specs.Cmp.Lexicographic.{pointwise, pointwise_decides, bytes_decides}
+use Rattle.std.specs.Cmp.Lexicographic.{pointwise_decides, bytes_decides}
 use Rattle.std.proofs.lemmas.Bool.{and_parts}
 use Rattle.std.proofs.lemmas.Bool.Decides.{Decides-and, Decides-like, Decides-eqb, Decides-int_eq}
 use Rattle.relabel.specs.declared.conf.Action.{Action}
@@ -11,8 +9,8 @@ use Rattle.relabel.specs.declared.conf.Action.TheVariants as action
 use Rattle.relabel.specs.declared.conf.RuleConf.{RuleConf}
 use Rattle.scrape_limits.specs.declared.limits.Limits.{Limits}
 use Rattle.config_fields.specs.Forms.{action_of}
-use Rattle.scrape_config.specs.declared.conf.Scheme.{Scheme}
-use Rattle.scrape_config.specs.declared.conf.Scheme.TheVariants as scheme
+use Rattle.outside.specs.declared.requests.Scheme.{Scheme}
+use Rattle.outside.specs.declared.requests.Scheme.TheVariants as scheme
 use Rattle.scrape_config.specs.declared.conf.Param.{Param}
 use Rattle.scrape_config.specs.declared.conf.JobConf.{JobConf}
 use Rattle.scrape_config.specs.Settings.{HasSameReach, HasSameLists, Compatible, Same, agree, are_same_texts, action_name, is_same_action, is_same_rule, is_same_param, is_same_scheme, are_same_limits, has_same_reach, has_same_lists, is_compatible, is_same}

@@ -7,7 +7,7 @@ use Rattle.scrape_limits.specs.declared.limits.Limits.{Limits}
 use Rattle.scrape_config.specs.Defaults.{truth_under, list_under, files_in, interval_in, limits_or}
 use Rattle.scrape_config.specs.Values.{text_or, rules_of, members_under, groups_of, params_of, timeout_in, scheme_in, job_of}
 use Rattle.scrape_config.specs.declared.defaults.Base.{Base}
-use Rattle.scrape_config.specs.declared.conf.Scheme.{Scheme}
+use Rattle.outside.specs.declared.requests.Scheme.{Scheme}
 use Rattle.scrape_config.specs.declared.conf.Param.{Param}
 use Rattle.scrape_config.specs.declared.conf.Group.{Group}
 

@@ -1,3 +1,4 @@
+pub mod Counts
 pub mod Defaults
 pub mod Lists
 pub mod Values

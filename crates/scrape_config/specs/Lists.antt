@@ -8,6 +8,7 @@ use Rattle.config_fields.specs.Places.{field_place, item_place}
 use Rattle.config_fields.specs.Faults.{placed}
 use Rattle.config_fields.specs.Tables.{job_field, top_field}
 use Rattle.config_fields.specs.Walks.{flaws, of_shape, field_faults, missing_before, owed_after, missing_at_end, object_faults}
+use Rattle.scrape_config.specs.Counts.{most_jobs, most_targets, most_files}
 use Rattle.scrape_config.specs.Defaults.{text_under, item_count, target_count, files_in, action_in, interval_in, base_of}
 use Rattle.config_fields.specs.declared.fault.ConfFault.{ConfFault}
 use Rattle.config_fields.specs.declared.fault.ConfFault.TheVariants.{TwiceNamed}
@@ -32,12 +33,12 @@ object_in list.StaticGroups d = object.Group
 object_in list.FileGroups d = object.Group
 object_in list.FileLists d = object.FileList
 
--- a list that has too many: 10,000 static targets and 100 different files are allowed
+-- a list that has too many static targets, or too many different files
 unfoldable pub crowd : ListKind → Items → Option Flaw
 crowd list.Rules ds = None
-crowd list.StaticGroups ds = if nat_lt 10000 (target_count ds) then Some (flaw.TooMany 10000) else None
+crowd list.StaticGroups ds = if nat_lt most_targets (target_count ds) then Some (flaw.TooMany most_targets) else None
 crowd list.FileGroups ds = None
-crowd list.FileLists ds = if nat_lt 100 (length (files_in ds)) then Some (flaw.TooMany 100) else None
+crowd list.FileLists ds = if nat_lt most_files (length (files_in ds)) then Some (flaw.TooMany most_files) else None
 
 -- the items, the first of them with number n
 abbrev pub objects_faults : ListKind → List ℕ → ℕ → Items → List ConfFault
@@ -88,9 +89,9 @@ abbrev pub twice_named : Option (List ℕ) → List ConfFault
 twice_named None = []
 twice_named (Some name) = TwiceNamed name ∷ []
 
--- 1,000 jobs are allowed
+-- too many jobs
 abbrev pub job_crowd : ℕ → Option Flaw
-job_crowd n = if nat_lt 1000 n then Some (flaw.TooMany 1000) else None
+job_crowd n = if nat_lt most_jobs n then Some (flaw.TooMany most_jobs) else None
 
 -- the list of jobs
 unfoldable pub jobs_faults : Base → List ℕ → Data → List ConfFault

@@ -8,8 +8,8 @@ use Rattle.relabel.specs.declared.conf.Action.{Action}
 use Rattle.relabel.specs.declared.conf.Action.TheVariants as action
 use Rattle.relabel.specs.declared.conf.RuleConf.{RuleConf}
 use Rattle.scrape_limits.specs.declared.limits.Limits.{Limits}
-use Rattle.scrape_config.specs.declared.conf.Scheme.{Scheme}
-use Rattle.scrape_config.specs.declared.conf.Scheme.TheVariants as scheme
+use Rattle.outside.specs.declared.requests.Scheme.{Scheme}
+use Rattle.outside.specs.declared.requests.Scheme.TheVariants as scheme
 use Rattle.scrape_config.specs.declared.conf.Param.{Param}
 use Rattle.scrape_config.specs.declared.conf.JobConf.{JobConf}
 

@@ -1,6 +1,5 @@
 -- The configuration that a text without faults gives.
-use Rattle.std.specs.Prelude.{ℕ, ℤ, true, false, List, [], ◌∷◌, ◌++◌, codes, Option, Some, None, option_map, option_and_then, option_to_list, unwrap_or, if◌then◌else◌}
-use Rattle.std.specs.Str.{bytes_eq}
+use Rattle.std.specs.Prelude.{ℕ, ℤ, true, false, List, [], ◌∷◌, ◌++◌, codes, Option, Some, None, option_map, option_and_then, option_to_list, unwrap_or}
 use Rattle.serde_json.specs.Data.{Data, Items, no_items, item, Members, no_members, member}
 use Rattle.serde_json.specs.Find.{get, as_str, as_array, as_object}
 use Rattle.label_set.specs.declared.texts.Pair.{Pair}
@@ -8,8 +7,9 @@ use Rattle.relabel.specs.declared.conf.Action.TheVariants as action
 use Rattle.relabel.specs.declared.conf.RuleConf.{RuleConf}
 use Rattle.scrape_config.specs.Defaults.{text_under, truth_under, whole_under, list_under, texts_of, texts_under, files_in, action_in, interval_in, timeout_or, limits_or, base_of}
 use Rattle.scrape_config.specs.declared.defaults.Base.{Base}
-use Rattle.scrape_config.specs.declared.conf.Scheme.{Scheme}
-use Rattle.scrape_config.specs.declared.conf.Scheme.TheVariants as scheme
+use Rattle.outside.specs.Schemes.{scheme_of}
+use Rattle.outside.specs.declared.requests.Scheme.{Scheme}
+use Rattle.outside.specs.declared.requests.Scheme.TheVariants as scheme
 use Rattle.scrape_config.specs.declared.conf.Param.{Param}
 use Rattle.scrape_config.specs.declared.conf.Group.{Group}
 use Rattle.scrape_config.specs.declared.conf.JobConf.{JobConf}
@@ -63,11 +63,7 @@ params_of (member name d ms) = record { name = name; values = texts_of (unwrap_o
 unfoldable pub timeout_in : Base → Data → ℤ
 timeout_in base d = timeout_or base.timeout (interval_in base d) d
 
--- `http` or `https`
-unfoldable pub scheme_of : List ℕ → Option Scheme
-scheme_of text = if bytes_eq text (codes "http") then Some scheme.Http else (if bytes_eq text (codes "https") then Some scheme.Https else None)
-
--- the scheme of a job
+-- the scheme of a job, `http` where it says none
 unfoldable pub scheme_in : Data → Scheme
 scheme_in d = unwrap_or (option_and_then scheme_of (text_under (codes "scheme") d)) scheme.Http
 

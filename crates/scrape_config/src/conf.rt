@@ -2,16 +2,10 @@
 ghost use Rattle.std.specs.Prelude.{◌≡◌};
 
 use label_set::{Name, NameList, PairList};
+use outside::Scheme;
 use relabel::{RuleList, Rules};
 use scrape_limits::Limits;
 use std::marker::Model;
-
-/// How targets are reached.
-#[derive(Clone, Copy, PartialEq, Eq, Debug)]
-pub enum Scheme {
-    Http,
-    Https,
-}
 
 /// A parameter of the URL and its values (`params`).
 #[derive(Drop, Debug)]
@@ -88,6 +82,7 @@ pub struct JobConf {
     /// How long a scrape may take, in milliseconds.
     pub scrape_timeout: i64,
     pub metrics_path: Name,
+    /// How targets are spoken to.
     pub scheme: Scheme,
     /// Whether an exposed label stands before the target's label of the same name.
     pub honor_labels: bool,

@@ -1,8 +1,10 @@
 //! What fields say, and what stands in their place where they are absent.
 ghost use Rattle.std.specs.Prelude.{◌≡◌, ℕ, pos, codes, nat_lt, option_map, OnOk, IfOk};
 ghost use Rattle.serde_json.specs.View.{view, items_view};
+ghost use Rattle.scrape_config.specs.Counts.{most_targets};
 ghost use Rattle.scrape_config.specs.Defaults as spec;
 
+use crate::counts::MOST_TARGETS;
 use config_fields::forms::{action_of, millis_of};
 use indexmap::IndexSet;
 use label_set::{Name, NameList, NoMemory};
@@ -63,13 +65,13 @@ fn count_under(key: &str, value: &Value) -> usize
     list_under(key, value).len()
 }
 
-/// Whether the groups of a list have more than 10,000 targets.
+/// Whether the groups of a list have more targets than a job may.
 pub fn has_too_many_targets(groups: &[Value]) -> bool
-    ensures { result ≡ nat_lt 10000 (spec.target_count (items_view groups.now)) }
+    ensures { result ≡ nat_lt most_targets (spec.target_count (items_view groups.now)) }
 {
-    let mut left = 10_000;
+    let mut left = MOST_TARGETS;
     for group in groups {
-        let count = count_under("targets", group);
+        let count = count_under("targets", group) as u64;
         if left < count {
             return true;
         }

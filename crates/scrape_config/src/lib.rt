@@ -5,6 +5,7 @@
 #![tactic(auto)]
 
 mod conf;
+mod counts;
 mod defaults;
 mod fault;
 mod lists;
@@ -12,8 +13,9 @@ mod read;
 mod settings;
 mod values;
 
-pub use conf::{Conf, Group, GroupList, Job, JobConf, JobList, Param, ParamList, Scheme};
+pub use conf::{Conf, Group, GroupList, Job, JobConf, JobList, Param, ParamList};
 pub use config_fields::ConfFault;
+pub use counts::{MOST_FILES, MOST_JOBS, MOST_TARGETS};
 pub use fault::ConfError;
 pub use read::{read_conf, read_groups};
 pub use settings::comparing_decides;

@@ -7,6 +7,7 @@ ghost use Rattle.config_fields.specs.Places.{field_place};
 ghost use Rattle.config_fields.specs.Walks.{flaws};
 ghost use Rattle.scrape_config.specs.Lists as spec;
 
+use crate::counts::{MOST_FILES, MOST_JOBS, MOST_TARGETS};
 use crate::defaults::{
     Base, action_in, base_of, files_in, has_too_many_targets, interval_in, text_under,
 };
@@ -42,14 +43,14 @@ fn crowd(alloc: Global, list: ListKind, values: &[Value]) -> Result<Option<Flaw>
         ListKind::Rules | ListKind::FileGroups => Ok(None),
         ListKind::StaticGroups => {
             if has_too_many_targets(values) {
-                Ok(Some(Flaw::TooMany(10_000)))
+                Ok(Some(Flaw::TooMany(MOST_TARGETS)))
             } else {
                 Ok(None)
             }
         }
         ListKind::FileLists => {
-            if 100 < files_in(alloc, values)?.as_slice().len() {
-                Ok(Some(Flaw::TooMany(100)))
+            if MOST_FILES < files_in(alloc, values)?.as_slice().len() as u64 {
+                Ok(Some(Flaw::TooMany(MOST_FILES)))
             } else {
                 Ok(None)
             }
@@ -205,7 +206,7 @@ fn twice_named(alloc: Global, jobs: &[Value], found: &mut Option<ConfFault>) -> 
     Ok(())
 }
 
-/// Notes a list of more than 1,000 jobs.
+/// Notes a list of too many jobs.
 fn crowded(
     alloc: Global,
     count: usize,
@@ -214,8 +215,8 @@ fn crowded(
 ) -> Result<(), NoMemory>
     ensures { OnOk result (found.new ≡ best found.old (flaws place.now (spec.job_crowd count))) }
 {
-    if 1000 < count {
-        note(alloc, found, Flaw::TooMany(1000), place)
+    if MOST_JOBS < count as u64 {
+        note(alloc, found, Flaw::TooMany(MOST_JOBS), place)
     } else {
         Ok(())
     }

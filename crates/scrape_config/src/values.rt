@@ -6,12 +6,13 @@ ghost use Rattle.serde_json.specs.View.{view, items_view, members_view};
 ghost use Rattle.scrape_config.specs.Defaults as defaults;
 ghost use Rattle.scrape_config.specs.Values as spec;
 
-use crate::conf::{Group, GroupList, JobConf, Param, ParamList, Scheme};
+use crate::conf::{Group, GroupList, JobConf, Param, ParamList};
 use crate::defaults::{
     Base, action_in, files_in, interval_in, limits_or, list_under, text_under, timeout_or,
     truth_under, whole_under,
 };
 use label_set::{Name, NameList, NoMemory, Pair, PairList};
+use outside::{Scheme, scheme_of};
 use relabel::{Action, RuleConf, RuleList};
 use serde_json::{Map, Value};
 use std::alloc::Global;
@@ -179,20 +180,6 @@ fn timeout_in(base: Base, job: &Value) -> i64
     ensures { result ≡ spec.timeout_in base (view job.now) }
 {
     timeout_or(base.timeout, interval_in(base, job), job)
-}
-
-/// `http` or `https`.
-#[tactic(auto, unfolding(crate::specs::Values::scheme_of))]
-fn scheme_of(text: &str) -> Option<Scheme>
-    ensures { result ≡ spec.scheme_of text.now }
-{
-    if text == "http" {
-        Some(Scheme::Http)
-    } else if text == "https" {
-        Some(Scheme::Https)
-    } else {
-        None
-    }
 }
 
 /// The scheme of a job.

@@ -2,6 +2,7 @@
 use Rattle.std.specs.Prelude.{ℕ, Bool, not, List, length, Option, Some, None, ◌&&◌, ◌==◌, nat_lt, nat_le, if◌then◌else◌}
 use Rattle.std.specs.List.{list_any}
 use Rattle.label_set.specs.declared.texts.Pair.{Pair}
+use Rattle.outside.specs.Sizes.{most_body_bytes}
 use Rattle.scrape_limits.specs.declared.limits.Limits.{Limits}
 use Rattle.scrape_limits.specs.declared.limits.LimitFault.{LimitFault}
 use Rattle.scrape_limits.specs.declared.limits.LimitFault.TheVariants.{Labels, NameLength, ValueLength}
@@ -34,10 +35,6 @@ limit_fault limits labels =
 abbrev pub has_many_samples : Limits → ℕ → Bool
 has_many_samples limits left = is_past limits.sample left
 
--- the most bytes of a body, 64 MiB, which is this project's own limit
-abbrev pub most_bytes : ℕ
-most_bytes = 67108864
-
--- how many bytes a body may have: `body_size_limit` where that is from 1 byte to the most, else the most
+-- how many bytes a body may have: `body_size_limit` where that is from 1 byte to the most, else the most of any body
 abbrev pub body_limit : Limits → ℕ
-body_limit limits = if nat_lt 0 limits.body_size && nat_le limits.body_size most_bytes then limits.body_size else most_bytes
+body_limit limits = if nat_lt 0 limits.body_size && nat_le limits.body_size most_body_bytes then limits.body_size else most_body_bytes

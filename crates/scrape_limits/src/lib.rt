@@ -5,4 +5,4 @@
 
 pub mod limits;
 
-pub use limits::{LimitFault, Limits, MOST_BYTES, body_limit, exceeds, judge, too_many};
+pub use limits::{LimitFault, Limits, body_limit, exceeds, judge, too_many};

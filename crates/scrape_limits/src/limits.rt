@@ -2,10 +2,12 @@
 ghost use Rattle.std.specs.Prelude.{◌≡◌, ◌≤◌, length};
 ghost use Rattle.std.specs.List.{list_any};
 ghost use Rattle.label_set.specs.declared.texts.Pair.{Pair};
+ghost use Rattle.outside.specs.Sizes.{most_body_bytes};
 ghost use Rattle.scrape_limits.specs.Limits as spec;
 ghost use Rattle.scrape_limits.specs.Limits.{is_past, limit_fault, has_many_samples};
 
 use label_set::LabelSet;
+use outside::MOST_BODY_BYTES;
 
 /// The limits of a scrape job; 0 is no limit.
 /// (Prometheus documentation, "Configuration", `<scrape_config>`: the setting that each field names.)
@@ -60,18 +62,15 @@ pub fn too_many(limits: &Limits, left: u64) -> bool
     exceeds(limits.sample, left)
 }
 
-/// The most bytes that any body may have: 64 MiB. (This project's own limit.)
-pub const MOST_BYTES: u64 = 67_108_864;
-
 /// How many bytes a body may have: `body_size_limit` where that is from 1 byte to 64 MiB, and 64 MiB in every other case.
 pub fn body_limit(limits: &Limits) -> u64
     ensures value { result ≡ spec.body_limit limits.now }
-    ensures most { result ≤ spec.most_bytes }
+    ensures most { result ≤ most_body_bytes }
 {
-    if limits.body_size > 0 && limits.body_size <= MOST_BYTES {
+    if limits.body_size > 0 && limits.body_size <= MOST_BODY_BYTES {
         limits.body_size
     } else {
-        MOST_BYTES
+        MOST_BODY_BYTES
     }
 }
 
@@ -168,11 +167,11 @@ mod tests {
     #[test]
     fn bodies_have_limits(rt: HostRuntime) {
         let cases = [
-            (0, MOST_BYTES),
+            (0, MOST_BODY_BYTES),
             (1, 1),
-            (MOST_BYTES, MOST_BYTES),
-            (MOST_BYTES + 1, MOST_BYTES),
-            (u64::MAX, MOST_BYTES),
+            (MOST_BODY_BYTES, MOST_BODY_BYTES),
+            (MOST_BODY_BYTES + 1, MOST_BODY_BYTES),
+            (u64::MAX, MOST_BODY_BYTES),
         ];
         for (body_size, limit) in cases {
             let limits = Limits {

@@ -11,13 +11,13 @@ use Rattle.label_set.specs.Sets.{IsSet, value_of, with_label}
 use Rattle.label_set.specs.Lasts.{with_labels}
 use Rattle.label_set.specs.declared.texts.Pair.{Pair}
 use Rattle.label_set.proofs.SetLemmas.{with_label_is_set}
-use Rattle.label_set.proofs.LookLemmas.{look, setting, IsAbsent, not_less, look_absent, look-with_label, look-with_labels, with_labels_is_set}
+use Rattle.label_set.proofs.LookLemmas.{look, setting, IsAbsent, not_less, look-with_label, look-with_labels, with_labels_is_set}
 use Rattle.label_set.proofs.OfLemmas.{set_ext}
 use Rattle.scrape_config.specs.declared.conf.Group.{Group}
 use Rattle.scrape_config.specs.declared.conf.Param.{Param}
 use Rattle.scrape_config.specs.declared.conf.JobConf.{JobConf}
-use Rattle.scrape_config.specs.declared.conf.Scheme.{Scheme}
-use Rattle.target_set.specs.Prepared.{address_label, scheme_label, path_label, param_prefix, with_file, listed_set, with_default, scheme_text, with_first, with_params, with_defaults, prepared}
+use Rattle.outside.specs.Schemes.{scheme_text}
+use Rattle.target_set.specs.Prepared.{address_label, scheme_label, path_label, param_prefix, with_file, listed_set, with_default, with_first, with_params, with_defaults, prepared}
 use Rattle.target_set.specs.Walk.{valued, first_label, param_labels, default_labels, default_set, group_set, group_base}
 
 -- a value, or what stands in its place where it is empty

@@ -6,8 +6,9 @@ use Rattle.url.specs.Parser.{Parsed}
 use Rattle.url.specs.Parts.{Parts}
 use Rattle.label_set.specs.Sets.{value_of}
 use Rattle.label_set.specs.declared.texts.Pair.{Pair}
+use Rattle.outside.specs.Schemes.{is_scheme}
 use Rattle.target_set.specs.Prepared.{address_label, scheme_label}
-use Rattle.target_set.specs.Outcomes.{is_url_mark, is_spoken, url_of, scheme_cause, address_cause, cause_of}
+use Rattle.target_set.specs.Outcomes.{is_url_mark, url_of, scheme_cause, address_cause, cause_of}
 use Rattle.target_set.specs.Requests.{if_read, base_of}
 use Rattle.target_set.specs.declared.targets.TargetCause.{TargetCause}
 use Rattle.target_set.specs.declared.targets.TargetCause.TheVariants.{BadAddress, BadScheme, BadUrl}
@@ -29,7 +30,7 @@ of_scheme false url = refl
 of_value : (address : List ℕ) (scheme : Option (List ℕ)) →
     is_none (unless (scheme_cause address scheme) (url_of (unwrap_or scheme []) address)) ≡ is_some (scheme_cause address scheme)
 of_value address None = refl
-of_value address (Some scheme) = of_scheme (is_spoken scheme) (url_of scheme address)
+of_value address (Some scheme) = of_scheme (is_scheme scheme) (url_of scheme address)
 
 of_marks : (marked : Bool) (address : List ℕ) (scheme : Option (List ℕ)) →
     is_none (unless (if marked then Some BadAddress else scheme_cause address scheme) (url_of (unwrap_or scheme []) address))

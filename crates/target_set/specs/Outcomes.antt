@@ -6,6 +6,7 @@ use Rattle.url.specs.Parser.{Parsed, parse_url}
 use Rattle.url.specs.Parts.{Parts}
 use Rattle.label_set.specs.Sets.{value_of}
 use Rattle.label_set.specs.declared.texts.Pair.{Pair}
+use Rattle.outside.specs.Schemes.{is_scheme}
 use Rattle.relabel.specs.Relabelling.{relabelled}
 use Rattle.relabel.specs.declared.conf.RuleConf.{RuleConf}
 use Rattle.scrape_config.specs.declared.conf.Group.{Group}
@@ -20,10 +21,6 @@ use Rattle.target_set.specs.declared.targets.Outcome.TheVariants.{Dropped, Refus
 unfoldable pub is_url_mark : ℕ → Bool
 is_url_mark b = (b == 47) || ((b == 63) || ((b == 35) || ((b == 64) || (b == 92))))
 
--- a scheme that is spoken
-unfoldable pub is_spoken : List ℕ → Bool
-is_spoken scheme = bytes_eq scheme (codes "http") || bytes_eq scheme (codes "https")
-
 -- the URL of a scheme and an address: what is read from the scheme, `://`, the address and `/`
 unfoldable pub url_of : List ℕ → List ℕ → Parsed Parts
 url_of scheme address = parse_url None (scheme ++ (codes "://" ++ (address ++ codes "/")))
@@ -31,7 +28,7 @@ url_of scheme address = parse_url None (scheme ++ (codes "://" ++ (address ++ co
 -- why a target with an address is refused, by its scheme
 abbrev pub scheme_cause : List ℕ → Option (List ℕ) → Option TargetCause
 scheme_cause address None = Some BadScheme
-scheme_cause address (Some scheme) = if is_spoken scheme then (if is_ok (url_of scheme address) then None else Some BadUrl) else Some BadScheme
+scheme_cause address (Some scheme) = if is_scheme scheme then (if is_ok (url_of scheme address) then None else Some BadUrl) else Some BadScheme
 
 -- why a target is refused, by its address and its scheme; the first cause that holds
 abbrev pub address_cause : Option (List ℕ) → Option (List ℕ) → Option TargetCause

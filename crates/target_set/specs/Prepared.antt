@@ -5,8 +5,7 @@ use Rattle.label_set.specs.Bytes.{is_name_byte}
 use Rattle.label_set.specs.Sets.{value_of, with_label}
 use Rattle.label_set.specs.Lasts.{with_labels}
 use Rattle.label_set.specs.declared.texts.Pair.{Pair}
-use Rattle.scrape_config.specs.declared.conf.Scheme.{Scheme}
-use Rattle.scrape_config.specs.declared.conf.Scheme.TheVariants.{Http, Https}
+use Rattle.outside.specs.Schemes.{scheme_text}
 use Rattle.scrape_config.specs.declared.conf.Param.{Param}
 use Rattle.scrape_config.specs.declared.conf.Group.{Group}
 use Rattle.scrape_config.specs.declared.conf.JobConf.{JobConf}
@@ -37,10 +36,6 @@ listed_set group text = with_label (with_file (with_labels [] group.labels) grou
 -- a label that is set only where the set has no value for it
 unfoldable pub with_default : List Pair → List ℕ → List ℕ → List Pair
 with_default set name value = if is_some (value_of set name) then set else with_label set name value
-
-abbrev pub scheme_text : Scheme → List ℕ
-scheme_text Http = codes "http"
-scheme_text Https = codes "https"
 
 -- the first value of a parameter whose name can stand in a label's name
 abbrev pub with_first : List Pair → List ℕ → List (List ℕ) → List Pair

@@ -11,6 +11,7 @@ use Rattle.url.specs.Setters as setters
 use Rattle.label_set.specs.Bytes.{bytes_cmp}
 use Rattle.label_set.specs.Sets.{value_of}
 use Rattle.label_set.specs.declared.texts.Pair.{Pair}
+use Rattle.outside.specs.Schemes.{scheme_of}
 use Rattle.outside.specs.declared.requests.Request.{Request}
 use Rattle.outside.specs.declared.requests.Scheme.{Scheme}
 use Rattle.outside.specs.declared.requests.Scheme.TheVariants.{Http, Https}
@@ -95,8 +96,8 @@ page_of base path [] = setters.set_path base path
 page_of base path (p ∷ ps) = setters.append_query_pairs (setters.set_path base path) (p ∷ ps)
 
 -- how a target is spoken to
-abbrev pub scheme_of : List Pair → Scheme
-scheme_of identity = if bytes_eq (text_of identity scheme_label) (codes "https") then Https else Http
+abbrev pub scheme_in : List Pair → Scheme
+scheme_in identity = unwrap_or (scheme_of (text_of identity scheme_label)) Http
 
 -- the port of a scheme where a URL shows none
 abbrev pub scheme_port : Scheme → ℕ
@@ -130,7 +131,7 @@ request_for conf scheme page =
 
 -- the request of a target of a job at its URL
 unfoldable pub request_at : JobConf → List Pair → Parts → Request
-request_at conf identity base = request_for conf (scheme_of identity) (page_of base (path_of identity) (query_pairs identity conf.params))
+request_at conf identity base = request_for conf (scheme_in identity) (page_of base (path_of identity) (query_pairs identity conf.params))
 
 -- the request of a target of a job: none where the target has a cause
 unfoldable pub request_of : JobConf → List Pair → Option Request

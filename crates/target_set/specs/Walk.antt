@@ -10,7 +10,8 @@ use Rattle.relabel.specs.declared.conf.RuleConf.{RuleConf}
 use Rattle.scrape_config.specs.declared.conf.Group.{Group}
 use Rattle.scrape_config.specs.declared.conf.Param.{Param}
 use Rattle.scrape_config.specs.declared.conf.JobConf.{JobConf}
-use Rattle.target_set.specs.Prepared.{address_label, scheme_label, path_label, param_prefix, scheme_text, with_file}
+use Rattle.outside.specs.Schemes.{scheme_text}
+use Rattle.target_set.specs.Prepared.{address_label, scheme_label, path_label, param_prefix, with_file}
 use Rattle.target_set.specs.Outcomes.{judged}
 use Rattle.target_set.specs.declared.targets.Outcome.{Outcome}
 

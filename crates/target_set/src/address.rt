@@ -22,14 +22,6 @@ pub fn has_mark(address: &str) -> bool
     address.as_bytes().iter().any(|b| is_mark(*b))
 }
 
-/// Whether a scheme is spoken.
-#[tactic(auto, unfolding(crate::specs::Outcomes::is_spoken))]
-pub fn is_spoken(scheme: &str) -> bool
-    ensures { result ≡ spec.is_spoken scheme.now }
-{
-    scheme == "http" || scheme == "https"
-}
-
 fn url_text(alloc: Global, scheme: &str, address: &str) -> Result<String, NoMemory>
     ensures { IfOk result (λ s. string_bytes s ≡ scheme.now ++ (codes "://" ++ (address.now ++ codes "/"))) }
 {

@@ -1,5 +1,6 @@
 //! How many targets are listed, and what isn't kept of them.
 ghost use Rattle.std.specs.Prelude.{◌≡◌, ◌≤◌, ◌+◌, ◌<◌, length, IfOk, IfSome, IfNone};
+ghost use Rattle.scrape_config.specs.Counts.{most_targets};
 ghost use Rattle.target_set.specs.Listed as spec;
 
 use crate::files::FileGroups;
@@ -10,7 +11,7 @@ use std::alloc::Global;
 
 /// The refused targets by rising place.
 pub fn refused_of(alloc: Global, outcomes: &[Outcome]) -> Result<RefusedList, NoMemory>
-    requires { length outcomes.now ≤ 10000 }
+    requires { length outcomes.now ≤ most_targets }
     ensures { IfOk result (λ l. l ≡ spec.refused_from 0 outcomes.now) }
 {
     let mut items = Vec::new(alloc);
@@ -27,7 +28,7 @@ pub fn refused_of(alloc: Global, outcomes: &[Outcome]) -> Result<RefusedList, No
 
 /// How many targets a rule drops.
 pub fn dropped_of(outcomes: &[Outcome]) -> u32
-    requires { length outcomes.now ≤ 10000 }
+    requires { length outcomes.now ≤ most_targets }
     ensures { result ≡ spec.dropped_of outcomes.now }
 {
     let mut dropped = 0u32;

@@ -8,10 +8,11 @@ ghost use Rattle.target_set.specs.Outcomes.{url_of};
 ghost use Rattle.target_set.specs.Prepared.{address_label, scheme_label, with_default};
 ghost use Rattle.target_set.specs.declared.targets.TargetCause.TheVariants.{BadAddress};
 
-use crate::address::{has_mark, is_spoken, read_url};
+use crate::address::{has_mark, read_url};
 use crate::prepare::defaulted;
 use crate::targets::{Outcome, TargetCause};
 use label_set::{Label, LabelSet, NoMemory};
+use outside::is_scheme;
 use std::alloc::Global;
 
 /// Whether a scheme and an address make a URL.
@@ -33,7 +34,7 @@ fn scheme_cause(
     let Some(scheme) = set.get("__scheme__") else {
         return Ok(Some(TargetCause::BadScheme));
     };
-    if !is_spoken(scheme) {
+    if !is_scheme(scheme) {
         return Ok(Some(TargetCause::BadScheme));
     }
     if has_url(alloc, scheme, address)? {

@@ -9,7 +9,8 @@ ghost use Rattle.target_set.specs.Walk as walked;
 
 use label_set::names::are_name_bytes;
 use label_set::{Label, LabelSet, NoMemory, Pair, lent};
-use scrape_config::{Group, JobConf, Param, Scheme};
+use outside::scheme_text;
+use scrape_config::{Group, JobConf, Param};
 use std::alloc::Global;
 
 /// The set with a name set to a value; an empty value removes the name.
@@ -51,15 +52,6 @@ fn set_of_group(alloc: Global, group: &Group) -> Result<LabelSet, NoMemory>
     match &group.file {
         None => Ok(set),
         Some(file) => labelled(alloc, &set, "__meta_filepath", file.as_str()),
-    }
-}
-
-fn scheme_text(scheme: Scheme) -> &'static str
-    ensures { result.now ≡ spec.scheme_text scheme }
-{
-    match scheme {
-        Scheme::Http => "http",
-        Scheme::Https => "https",
     }
 }
 

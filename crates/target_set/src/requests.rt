@@ -7,10 +7,10 @@ ghost use Rattle.target_set.specs.Outcomes.{cause_of};
 ghost use Rattle.target_set.specs.Requests as spec;
 ghost use Rattle.target_set.specs.Values.{found, pairs_by};
 
-use crate::address::{has_mark, is_spoken, read_url};
+use crate::address::{has_mark, read_url};
 use crate::values::{listed_for, listed_values, set_for, set_values};
 use label_set::{LabelSet, Name, NoMemory};
-use outside::{Request, Scheme};
+use outside::{Request, Scheme, is_scheme, scheme_of};
 use scrape_config::{JobConf, Param};
 use scrape_limits::body_limit;
 use std::alloc::Global;
@@ -28,7 +28,7 @@ fn base_in(alloc: Global, identity: &LabelSet) -> Result<Option<Url>, NoMemory>
     let Some(scheme) = identity.get("__scheme__") else {
         return Ok(None);
     };
-    if has_mark(address) || !is_spoken(scheme) {
+    if has_mark(address) || !is_scheme(scheme) {
         return Ok(None);
     }
     read_url(alloc, scheme, address)
@@ -42,13 +42,9 @@ fn text_in<'a>(identity: &'a LabelSet, name: &str) -> &'a str
 }
 
 fn scheme_in(identity: &LabelSet) -> Scheme
-    ensures { result ≡ spec.scheme_of identity.now }
+    ensures { result ≡ spec.scheme_in identity.now }
 {
-    if text_in(identity, "__scheme__") == "https" {
-        Scheme::Https
-    } else {
-        Scheme::Http
-    }
+    scheme_of(text_in(identity, "__scheme__")).unwrap_or(Scheme::Http)
 }
 
 /// A path with a slash in front.

@@ -1,5 +1,6 @@
 //! What becomes of the targets that a job lists.
 ghost use Rattle.std.specs.Prelude.{◌≡◌, ◌≤◌, ◌+◌, length, IfOk, OnErr};
+ghost use Rattle.scrape_config.specs.Counts.{most_targets};
 ghost use Rattle.target_set.specs.Listed as spec;
 
 use crate::counts::{dropped_of, refused_of};
@@ -100,7 +101,7 @@ pub struct TargetList {
 
 #[tactic(auto, unfolding(crate::specs::Listed::sorted_out))]
 fn sorted_out(alloc: Global, limit: u64, outcomes: &[Outcome]) -> Result<TargetList, NoMemory>
-    requires { length outcomes.now ≤ 10000 }
+    requires { length outcomes.now ≤ most_targets }
     ensures { IfOk result (λ l. l ≡ spec.sorted_out limit outcomes.now) }
 {
     let kept = kept_of(alloc, outcomes)?;
@@ -133,7 +134,7 @@ pub fn targets_of<L: Ledger>(
     groups: &[Group],
     steps: &mut Steps<L>,
 ) -> Result<TargetList, NoMemory>
-    requires few { spec.listed_count groups.now ≤ 10000 }
+    requires few { spec.listed_count groups.now ≤ most_targets }
     ensures targets { IfOk result (λ l. l ≡ spec.target_list conf.now rules.now groups.now) }
     ensures steps { IfOk result (λ _. steps.new ≡ steps.old + spec.listed_count groups.now) }
     ensures at_least { steps.old ≤ steps.new }
@@ -157,7 +158,7 @@ pub fn targets_with_files<L: Ledger>(
     files: &[FileGroups],
     steps: &mut Steps<L>,
 ) -> Result<TargetList, NoMemory>
-    requires few { spec.listed_count (spec.listed_groups conf.now files.now) ≤ 10000 }
+    requires few { spec.listed_count (spec.listed_groups conf.now files.now) ≤ most_targets }
     ensures targets { IfOk result (λ l. l ≡ spec.target_list conf.now rules.now (spec.listed_groups conf.now files.now)) }
     ensures steps { IfOk result (λ _. steps.new ≡ steps.old + spec.listed_count (spec.listed_groups conf.now files.now)) }
     ensures at_least { steps.old ≤ steps.new }

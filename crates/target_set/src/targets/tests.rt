@@ -1,11 +1,12 @@
 ghost use Rattle.std.specs.Prelude.{◌≡◌, ◌<◌, ◌≤◌, true};
+ghost use Rattle.scrape_config.specs.Counts.{most_targets};
 ghost use Rattle.target_set.specs.Listed as spec;
 
 use super::*;
 use crate::counts::listed_within;
 use crate::files::SharedGroups;
 use label_set::Name;
-use scrape_config::{Job, read_conf, read_groups};
+use scrape_config::{Job, MOST_TARGETS, read_conf, read_groups};
 use std::marker::Brand;
 use std::sync::ledger::Blank;
 use std::test::Fail;
@@ -65,11 +66,11 @@ fn text_of(alloc: Global, list: &TargetList) -> Result<Vec<u8>, NoMemory> {
 
 /// Whether groups list no more targets than may be asked for.
 fn are_few(groups: &[Group]) -> bool
-    ensures { result ≡ true → spec.listed_count groups.now ≤ 10000 }
+    ensures { result ≡ true → spec.listed_count groups.now ≤ most_targets }
 {
-    let mut left = 10000usize;
+    let mut left = MOST_TARGETS;
     for group in groups {
-        let count = group.targets.as_slice().len();
+        let count = group.targets.as_slice().len() as u64;
         if left < count {
             return false;
         }
@@ -87,7 +88,7 @@ fn counted<L: Ledger>(
     requires name { blank.name ≡ L.name }
     requires parts { blank.parts ≡ L.parts }
     requires some { 0 < blank.parts }
-    requires few { spec.listed_count groups.now ≤ 10000 }
+    requires few { spec.listed_count groups.now ≤ most_targets }
 {
     let mut steps = Steps::<L>::open(blank);
     let list = targets_of(alloc, &job.conf, &job.target_rules, groups, &mut steps)?;
@@ -160,7 +161,7 @@ fn counted_with_files<L: Ledger>(
     requires name { blank.name ≡ L.name }
     requires parts { blank.parts ≡ L.parts }
     requires some { 0 < blank.parts }
-    requires few { spec.listed_count (spec.listed_groups job.now.conf files.now) ≤ 10000 }
+    requires few { spec.listed_count (spec.listed_groups job.now.conf files.now) ≤ most_targets }
 {
     let mut steps = Steps::<L>::open(blank);
     let list = targets_with_files(alloc, &job.conf, &job.target_rules, files, &mut steps)?;
@@ -169,7 +170,7 @@ fn counted_with_files<L: Ledger>(
 
 /// How many targets a job and its files list, and what becomes of them.
 fn listed_with_files(alloc: Global, job: &Job, files: &[FileGroups]) -> Result<Vec<u8>, NoMemory> {
-    let Some(_count) = listed_within(&job.conf, files, 10000) else {
+    let Some(_count) = listed_within(&job.conf, files, MOST_TARGETS) else {
         return Ok(Vec::new(alloc));
     };
     counted_with_files::<Brand>(alloc, Blank::new(1), job, files)
