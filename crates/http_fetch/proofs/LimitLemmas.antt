@@ -7,6 +7,7 @@ use Rattle.httparse.specs.Grammar.{ResponseHead, status_code, AllPass}
 use Rattle.outside.specs.declared.replies.Reply.{Reply}
 use Rattle.outside.specs.declared.replies.Reply.TheVariants.{Body, Lost, Garbled, Unsent, Oversize}
 use Rattle.outside.specs.Fetches.{IsReplyInLimits}
+use Rattle.outside.specs.Sizes.{most_body_bytes}
 use Rattle.http_fetch.specs.Replies.{HeadAt, IsWhole, Http}
 
 digits-test : IsDigitsTest (AllPass is_ascii_digit)
@@ -22,16 +23,16 @@ code-below {text} {h} {rest} w =
     let three : length h.digits ≡ 3 = w.reads.0.digits.0 in
     digits_value_short (numerals_by_value (AllPass is_ascii_digit) digits-test) h.digits 3 w.reads.0.digits.1 (omega (arith, three))
 
-body-limits : (b : List ℕ) (limit s : ℕ) (c : List ℕ) → limit ≤ 67108864 → IsWhole 8 b limit s c → IsReplyInLimits (Body s c)
+body-limits : (b : List ℕ) (limit s : ℕ) (c : List ℕ) → limit ≤ most_body_bytes → IsWhole 8 b limit s c → IsReplyInLimits (Body s c)
 body-limits b limit s c small w =
     let code : s ≡ status_code w.head = w.whole.0 in
     let final : 200 ≤ status_code w.head = w.reaches.final in
     let below : status_code w.head < 10 ^ 3 = code-below w.reaches.head in
-    let short : length c ≤ 67108864 = ⊎_elim (λ x. (let none : length c ≡ 0 = ap length x.1 in omega (arith, none))) (λ x. (let within : length c ≤ limit = x.2 in omega (arith, within, small))) w.whole.1 in
+    let short : length c ≤ most_body_bytes = ⊎_elim (λ x. (let none : length c ≡ 0 = ap length x.1 in omega (arith, none))) (λ x. (let within : length c ≤ limit = x.2 in omega (arith, within, small))) w.whole.1 in
     (omega (arith, code, final), omega (arith, code, below), short)
 
 -- what is said of the bytes of a link keeps its limits
-pub http-limits : (b : List ℕ) (limit : ℕ) (r : Reply) → limit ≤ 67108864 → Http b limit r → IsReplyInLimits r
+pub http-limits : (b : List ℕ) (limit : ℕ) (r : Reply) → limit ≤ most_body_bytes → Http b limit r → IsReplyInLimits r
 http-limits b limit (Body s c) small h = body-limits b limit s c small h
 http-limits b limit Lost small h = tt
 http-limits b limit Garbled small h = tt

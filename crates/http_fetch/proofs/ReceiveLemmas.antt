@@ -4,6 +4,7 @@ use Rattle.std.proofs.lemmas.List.{length-take-le}
 use Rattle.outside.specs.declared.replies.Reply.{Reply}
 use Rattle.outside.specs.declared.replies.Reply.TheVariants.{Body, Lost, Garbled, Unsent, Oversize}
 use Rattle.outside.specs.Objects.{used, Rose}
+use Rattle.outside.specs.Sizes.{most_body_bytes}
 use Rattle.outside.specs.Sources.{Gives, IsAtEnd}
 use Rattle.outside.specs.Links.{LinkSeen, GaveOfLink, Broke}
 use Rattle.http_fetch.specs.declared.decoder.Decoder.{Decoder}
@@ -102,7 +103,7 @@ reply-done a m e d limit count piece reply r gave h settled =
       whatever-left a.left e.left limit (r.bytes ++ piece) reply (gives-more a.left m.left e.left r.bytes piece r.left gave.left) (λ more. (settled more reply).0 h),
     )
 
-pub reply-last : (a m : LinkSeen) (d : Decoder) (limit count : ℕ) → HasRead (used a m) d limit count → limit ≤ 67108864 → 34359738368 ≤ count → IsReplyOf limit Garbled (used a m)
+pub reply-last : (a m : LinkSeen) (d : Decoder) (limit count : ℕ) → HasRead (used a m) d limit count → limit ≤ most_body_bytes → 34359738368 ≤ count → IsReplyOf limit Garbled (used a m)
 reply-last a m d limit count r small long =
     let many : count ≤ length r.bytes = r.many in
     (same-faults a m d limit count r, whatever-left a.left m.left limit r.bytes Garbled r.left (λ more. no-later limit r.bytes more small (omega (arith, many, long)) r.going))

@@ -1,6 +1,7 @@
 //! One request and its reply over a link.
 ghost use Rattle.std.specs.Prelude.{◌≡◌, ◌≤◌, false, IfOk, OnOk, OnErr};
 ghost use Rattle.outside.specs.Objects.{used};
+ghost use Rattle.outside.specs.Sizes.{most_body_bytes};
 ghost use Rattle.outside.specs.Clocks.{IsReading};
 ghost use Rattle.outside.specs.Links.{TookToSend};
 ghost use Rattle.outside.specs.Fetches.{IsTimeout, IsInLimits, IsReplyInLimits};
@@ -35,7 +36,7 @@ fn ask<L: Link>(
     request: &Request,
     text: &[u8],
 ) -> Result<Reply, NoMemory>
-    requires limit { request.now.limit ≤ 67108864 }
+    requires limit { request.now.limit ≤ most_body_bytes }
     requires text { text.now ≡ request_text request.now }
     ensures reply { IfOk result (λ r. IsReplyOf request.now.limit r (used (L.seen link.old) (L.seen link.new))) }
     ensures sent { IfOk result (λ r. SendsRequest request.now r (used (L.seen link.old) (L.seen link.new))) }
@@ -69,7 +70,7 @@ pub fn exchange<L: Link, K: Clock>(
     clock: &mut K,
     request: &Request,
 ) -> Result<Fetched, NoMemory>
-    requires limit { request.now.limit ≤ 67108864 }
+    requires limit { request.now.limit ≤ most_body_bytes }
     requires timeout { IsTimeout request.now.timeout }
     ensures reply { IfOk result (λ f. IsReplyOf request.now.limit f.reply (used (L.seen link.old) (L.seen link.new))) }
     ensures sent { IfOk result (λ f. SendsRequest request.now f.reply (used (L.seen link.old) (L.seen link.new))) }

@@ -2,6 +2,7 @@
 ghost use Rattle.std.specs.Prelude.{◌≤◌, IfOk, All};
 ghost use Rattle.outside.specs.Fetches.{IsTimeout};
 ghost use Rattle.outside.specs.Clocks.{IsReading};
+ghost use Rattle.outside.specs.Sizes.{most_body_bytes};
 
 use crate::HttpFetch;
 use crate::tests::show;
@@ -22,7 +23,7 @@ const TEXT: &str =
 const BODY: &str = "HTTP/1.1 200 OK\r\nContent-Length: 4\r\n\r\nx 1\n";
 
 fn request(alloc: Global, scheme: Scheme, port: u16) -> Result<Request, NoMemory>
-    ensures limit { IfOk result (λ r. r.limit ≤ 67108864) }
+    ensures limit { IfOk result (λ r. r.limit ≤ most_body_bytes) }
     ensures timeout { IfOk result (λ r. IsTimeout r.timeout) }
 {
     Ok(Request {

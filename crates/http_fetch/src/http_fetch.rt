@@ -2,6 +2,7 @@
 ghost use Rattle.std.specs.Prelude.{◌≡◌, ◌≤◌, [], false, pos, IfOk, OnOk, OnErr, Some};
 ghost use Rattle.outside.specs.declared.requests.Scheme.TheVariants.{Http, Https};
 ghost use Rattle.outside.specs.Objects.{used, IsUntouched};
+ghost use Rattle.outside.specs.Sizes.{most_body_bytes};
 ghost use Rattle.outside.specs.Fetches.{IsTimeout, IsInLimits, IsUnsentRightly, Tells, CountsReply};
 ghost use Rattle.http_fetch.specs.Links.{IsReplyOf, SendsRequest, WasTimed};
 ghost use Rattle.http_fetch.specs.Fetches.{fetch_seen};
@@ -40,7 +41,7 @@ impl<L: Link, K: Clock> Fetch for HttpFetch<L, K> {
     ghost seen = { λ f. fetch_seen f.told.items (L.seen f.link) };
 
     fn fetch(&mut self, alloc: Global, request: &Request) -> Result<Fetched, NoMemory>
-        requires limit { request.now.limit ≤ 67108864 }
+        requires limit { request.now.limit ≤ most_body_bytes }
         requires timeout { IsTimeout request.now.timeout }
         ensures limits { IfOk result (λ f. IsInLimits f) }
         ensures unsent { IfOk result (λ f. IsUnsentRightly request.now f) }

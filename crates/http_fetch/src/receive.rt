@@ -1,6 +1,7 @@
 //! The reply from the reads of a link.
 ghost use Rattle.std.specs.Prelude.{◌≡◌, ◌≤◌, ◌<◌, [], length, vec_len, IfOk, OnErr};
 ghost use Rattle.outside.specs.Objects.{used};
+ghost use Rattle.outside.specs.Sizes.{most_body_bytes};
 ghost use Rattle.outside.specs.Fetches.{IsReplyInLimits};
 ghost use Rattle.http_fetch.specs.Decoders.{StandsFor};
 ghost use Rattle.http_fetch.specs.Links.{IsReplyOf, SendsNothing};
@@ -33,7 +34,7 @@ fn read_reply<L: Link>(
     room: &mut [u8],
 ) -> Result<Reply, NoMemory>
     requires room { 0 < length room.old }
-    requires limit { decoder.limit ≤ 67108864 }
+    requires limit { decoder.limit ≤ most_body_bytes }
     requires stands { StandsFor decoder decoder.limit [] }
     ensures reply { IfOk result (λ r. IsReplyOf decoder.limit r (used (L.seen link.old) (L.seen link.new))) }
     ensures limits { IfOk result (λ r. IsReplyInLimits r) }
@@ -57,7 +58,7 @@ fn read_reply<L: Link>(
 
 /// The reply of the bytes that the link gives.
 pub fn receive<L: Link>(alloc: Global, link: &mut L, limit: u64) -> Result<Reply, NoMemory>
-    requires { limit ≤ 67108864 }
+    requires { limit ≤ most_body_bytes }
     ensures reply { IfOk result (λ r. IsReplyOf limit r (used (L.seen link.old) (L.seen link.new))) }
     ensures limits { IfOk result (λ r. IsReplyInLimits r) }
     ensures sent { SendsNothing (used (L.seen link.old) (L.seen link.new)) }

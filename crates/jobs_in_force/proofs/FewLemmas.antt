@@ -9,6 +9,7 @@ use Rattle.std.proofs.lemmas.List.Elements.{All-nil, All-get_or, All-from_get_or
 use Rattle.std.proofs.lemmas.List.Sums.{fails_before_first}
 use Rattle.config_fields.specs.Places.{item_place}
 use Rattle.config_fields.specs.declared.fault.ConfFault.{ConfFault}
+use Rattle.scrape_config.specs.Counts.{most_targets}
 use Rattle.scrape_config.specs.Reading.{whole_reading, groups_reading, unless_fault, jobs_place}
 use Rattle.scrape_config.specs.declared.conf.Group.{Group}
 use Rattle.scrape_config.specs.declared.conf.Conf.{Conf}
@@ -31,7 +32,7 @@ none_long p xs e = by_lt (nat_lt (position_or_len p xs) (length xs)) refl e
 
 few_by : (f : Filed) → is_crowd f ≡ false → IsFew f
 unfolding is_crowd
-few_by f h = ltb-false 10000 (count_of f) h
+few_by f h = ltb-false most_targets (count_of f) h
 
 few_all : (fs : List Filed) → position is_crowd fs ≡ None → All IsFew fs
 few_all [] e = All-nil IsFew

@@ -10,6 +10,7 @@ use Rattle.config_fields.specs.declared.fault.ConfFault.{ConfFault}
 use Rattle.config_fields.specs.declared.fault.ConfFault.TheVariants.{TooMany}
 use Rattle.scrape_config.specs.declared.fault.ConfError.{ConfError}
 use Rattle.scrape_config.specs.declared.fault.ConfError.TheVariants.{Bad, NoMemory}
+use Rattle.scrape_config.specs.Counts.{most_targets}
 use Rattle.scrape_config.specs.Reading.{whole_reading, groups_reading, unless_fault, jobs_place}
 use Rattle.scrape_config.specs.declared.conf.Group.{Group}
 use Rattle.scrape_config.specs.declared.conf.Job.{Job}
@@ -78,12 +79,16 @@ abbrev pub count_of : Filed → ℕ
 count_of f = listed_count (listed_groups f.job.conf f.files)
 
 unfoldable pub is_crowd : Filed → Bool
-is_crowd f = nat_lt 10000 (count_of f)
+is_crowd f = nat_lt most_targets (count_of f)
 
--- too many targets: those of the first job that lists more than 10,000, told at its place; else those of all jobs, where they list more than 100,000
+-- how many targets all jobs may list together: 100,000
+abbrev pub most_targets_of_all : ℕ
+most_targets_of_all = 100000
+
+-- too many targets: those of the first job that lists more than one job may, told at its place; else those of all jobs, where they list more than all may
 abbrev pub crowd_by : (ℕ → List ℕ) → ℕ → Option ℕ → Option ConfFault
-crowd_by at total (Some n) = Some (TooMany (at n) 10000)
-crowd_by at total None = if nat_lt 100000 total then Some (TooMany [] 100000) else None
+crowd_by at total (Some n) = Some (TooMany (at n) most_targets)
+crowd_by at total None = if nat_lt most_targets_of_all total then Some (TooMany [] most_targets_of_all) else None
 
 unfoldable pub crowd_in : (ℕ → List ℕ) → List Filed → Option ConfFault
 crowd_in at fs = crowd_by at (sum_by count_of fs) (position is_crowd fs)
@@ -123,7 +128,7 @@ jobs_updated jobs name file groups = map (renewed name file groups) jobs
 
 -- a job lists no more targets than it may
 abbrev pub IsFew : Filed → Type 0
-IsFew f = count_of f ≤ 10000
+IsFew f = count_of f ≤ most_targets
 
 -- why an update isn't taken: no job has the name, the job doesn't list the file, or its text is refused
 pub data Unlisted : Type 0 where

@@ -12,15 +12,13 @@ use crate::jobs::{Filed, InForce, SharedFiles, SharedJob, SharedTargets};
 use config_fields::ConfFault;
 use config_fields::place::{at_field, at_item};
 use label_set::{Name, NoMemory, Steps};
-use scrape_config::{Conf, ConfError, GroupList, Job, read_conf, read_groups};
+use scrape_config::{Conf, ConfError, GroupList, Job, MOST_TARGETS, read_conf, read_groups};
 use std::alloc::Global;
 use std::sync::ledger::Ledger;
 use target_set::{FileGroups, SharedGroups, listed_within, targets_with_files};
 
-/// The most targets that a job lists, and that all jobs list together.
-pub const JOB_LIMIT: u64 = 10_000;
-
-const LIMIT: u64 = 100_000;
+/// The most targets that all jobs list together.
+pub const MOST_TARGETS_OF_ALL: u64 = 100_000;
 
 pub fn is_named(name: &Name, job: &InForce) -> bool
     ensures { result ≡ spec.is_named name.now job.now }
@@ -138,7 +136,7 @@ fn filed_by_load(alloc: Global, jobs: &[InForce], loaded: Vec<Job>) -> Result<Ve
 fn is_crowd(filed: &Filed) -> bool
     ensures { result ≡ spec.is_crowd filed.now }
 {
-    listed_within(&filed.job.job().conf, filed.files.as_slice(), JOB_LIMIT).is_none()
+    listed_within(&filed.job.job().conf, filed.files.as_slice(), MOST_TARGETS).is_none()
 }
 
 pub fn crowd_place(filed: &[Filed]) -> Option<usize>
@@ -149,9 +147,9 @@ pub fn crowd_place(filed: &[Filed]) -> Option<usize>
 
 /// Whether jobs list more targets together than all may.
 fn are_crowd(filed: &[Filed]) -> bool
-    ensures { result ≡ nat_lt 100000 (sum_by spec.count_of filed.now) }
+    ensures { result ≡ nat_lt spec.most_targets_of_all (sum_by spec.count_of filed.now) }
 {
-    let mut left = LIMIT;
+    let mut left = MOST_TARGETS_OF_ALL;
     for one in filed {
         let Some(count) = listed_within(&one.job.job().conf, one.files.as_slice(), left) else {
             return true;
@@ -169,7 +167,7 @@ pub fn crowd_of_all(alloc: Global, filed: &[Filed]) -> Result<Option<ConfFault>,
     }
     Ok(Some(ConfFault::TooMany {
         place: Name::from_str(alloc, "")?,
-        limit: LIMIT,
+        limit: MOST_TARGETS_OF_ALL,
     }))
 }
 
@@ -190,7 +188,7 @@ fn load_crowd(alloc: Global, filed: &[Filed]) -> Result<Option<ConfFault>, NoMem
         None => crowd_of_all(alloc, filed),
         Some(number) => {
             let place = job_place(alloc, number)?;
-            let limit = JOB_LIMIT;
+            let limit = MOST_TARGETS;
             Ok(Some(ConfFault::TooMany { place, limit }))
         }
     }

@@ -6,12 +6,10 @@ ghost use Rattle.scrape_config.specs.Reading.{groups_reading};
 ghost use Rattle.jobs_in_force.specs.Jobs as spec;
 
 use crate::jobs::{Filed, InForce, SharedFiles};
-use crate::loads::{
-    JOB_LIMIT, crowd_of_all, crowd_place, in_force, is_named, is_of_file, job_named,
-};
+use crate::loads::{crowd_of_all, crowd_place, in_force, is_named, is_of_file, job_named};
 use config_fields::ConfFault;
 use label_set::{Name, NoMemory, Steps};
-use scrape_config::{ConfError, read_groups};
+use scrape_config::{ConfError, MOST_TARGETS, read_groups};
 use std::alloc::Global;
 use std::sync::ledger::Ledger;
 use target_set::{FileGroups, SharedGroups};
@@ -117,7 +115,7 @@ fn crowd_in(alloc: Global, filed: &[Filed]) -> Result<Option<ConfFault>, NoMemor
         None => crowd_of_all(alloc, filed),
         Some(_) => Ok(Some(ConfFault::TooMany {
             place: Name::from_str(alloc, "")?,
-            limit: JOB_LIMIT,
+            limit: MOST_TARGETS,
         })),
     }
 }

@@ -6,7 +6,8 @@ use Rattle.std.specs.Fmt.{decimal}
 use Rattle.std.proofs.lemmas.List.{length-append, map-append}
 use Rattle.std.proofs.lemmas.Grind.{flat_map-append}
 use Rattle.itoa.proofs.Decimal.{length_wide}
-use Rattle.synth.specs.Scripts.{upto, sample_line, page_line, page, target_text, conf_text}
+use Rattle.outside.specs.Sizes.{most_text_bytes, most_body_bytes}
+use Rattle.synth.specs.Scripts.{upto, sample_line, page_line, page, target_text, conf_text, most_targets}
 
 -- one number more
 pub upto_none : upto 0 ≡ []
@@ -65,7 +66,7 @@ lines_len n (suc k) small few =
     omega (arith, more, lines_len n k small (omega arith), page_line-len n k small (omega arith))
 
 -- a page is far shorter than 64 MiB
-pub page_len : (n : ℕ) → n < 2 ^ 63 → length (page n) ≤ 67108864
+pub page_len : (n : ℕ) → n < 2 ^ 63 → length (page n) ≤ most_body_bytes
 unfolding page
 page_len n small = omega (arith, lines_len n 100 small (omega arith))
 
@@ -77,7 +78,7 @@ target_len : (t : ℕ) → t < 2 ^ 64 → length (target_text t) ≤ 50
 unfolding target_text
 target_len t small = target_by t (t == 0) small
 
-targets_len : (k : ℕ) → k ≤ 10000 → length (flat_map target_text (upto k)) ≤ 50 * k
+targets_len : (k : ℕ) → k ≤ most_targets → length (flat_map target_text (upto k)) ≤ 50 * k
 targets_len zero few = let e : length (flat_map target_text (upto 0)) ≡ 0 = ap (λ z. length (flat_map target_text z)) upto_none in omega (arith, e)
 targets_len (suc k) few =
     let more : length (flat_map target_text (upto (suc k))) ≡ length (flat_map target_text (upto k)) + length (target_text k) =
@@ -85,7 +86,7 @@ targets_len (suc k) few =
     omega (arith, more, targets_len k (omega arith), target_len k (omega arith))
 
 -- the text of a configuration is shorter than 4 MiB
-pub conf_len : (k : ℕ) → k ≤ 10000 → length (conf_text k) ≤ 4194304
+pub conf_len : (k : ℕ) → k ≤ most_targets → length (conf_text k) ≤ most_text_bytes
 unfolding conf_text
 conf_len k few =
     let tail : length (flat_map target_text (upto k) ++ codes "]}]}]}") ≡ length (flat_map target_text (upto k)) + 6 = length-append (flat_map target_text (upto k)) (codes "]}]}]}") in

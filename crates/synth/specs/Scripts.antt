@@ -50,11 +50,23 @@ last_events end = Load (pos end) (codes "{}") ∷ Sweep (pos (end + 16500)) ∷ 
 unfoldable pub script_events : Plan → List Event
 script_events p = Load (pos 0) (conf_text p.targets) ∷ (flat_map (scrape_events p) (upto p.scrapes) ++ last_events (15000 * p.scrapes))
 
+-- how large a script may be: limits of this project's own
+abbrev pub most_targets : ℕ
+most_targets = 10000
+
+-- the scrapes of one target
+abbrev pub most_scrapes : ℕ
+most_scrapes = 1000
+
+-- the scrapes of all targets together
+abbrev pub most_scrapes_of_all : ℕ
+most_scrapes_of_all = 20000
+
 -- how large its numbers may be
 pub record IsPlan (p : Plan) : Type 0 where
   pub seed : p.seed < 2 ^ 32
-  pub targets : p.targets ≤ 10000
-  pub scrapes : p.scrapes ≤ 1000
+  pub targets : p.targets ≤ most_targets
+  pub scrapes : p.scrapes ≤ most_scrapes
 
 abbrev pub plan : ℕ → ℕ → ℕ → Plan
 plan seed targets scrapes = record { seed = seed; targets = targets; scrapes = scrapes }

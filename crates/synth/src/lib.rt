@@ -5,7 +5,7 @@
 pub mod pages;
 pub mod scripts;
 
-pub use scripts::{Plan, make_script};
+pub use scripts::{MOST_SCRAPES, MOST_SCRAPES_OF_ALL, MOST_TARGETS, Plan, make_script};
 
 #[cfg(test)]
 mod tests;

@@ -1,6 +1,7 @@
 //! The journal of a script, event by event.
 ghost use Rattle.std.specs.Prelude.{◌≡◌, ◌<◌, ◌≤◌, ◌+◌, ◌*◌, ◌^◌, ◌++◌, [], ◌∷◌, IfOk, OnOk, pos, length, flat_map};
 ghost use Rattle.journal_text.specs.Events.{IsInLimits, IsJournal, MayFollow, now_of, now_after, journal_text};
+ghost use Rattle.outside.specs.Sizes.{most_text_bytes, most_body_bytes};
 ghost use Rattle.outside.specs.declared.replies.Reply.TheVariants as replies;
 ghost use Rattle.journal_text.specs.declared.events.Event.TheVariants as events;
 ghost use Rattle.synth.specs.Scripts as spec;
@@ -16,6 +17,14 @@ const INTERVAL: u64 = 15_000;
 
 /// From the moment at which all targets go to that of the last sweep: their markers are due by then.
 const ENDING: u64 = 16_500;
+
+/// The most targets of a script, and the most scrapes of each.
+pub const MOST_TARGETS: u64 = 10_000;
+
+pub const MOST_SCRAPES: u64 = 1_000;
+
+/// The most scrapes of all targets of a script together.
+pub const MOST_SCRAPES_OF_ALL: u64 = 20_000;
 
 /// What a script is made of.
 #[derive(Clone, Copy, Debug)]
@@ -57,7 +66,7 @@ fn push_sweep(journal: &mut Journal, moment: u64) -> Result<(), NoMemory>
 /// Adds a load. The moment is below 2^50.
 fn push_load(journal: &mut Journal, moment: u64, text: Blob) -> Result<(), NoMemory>
     requires small { moment < 2 ^ 50 }
-    requires short { length text ≤ 4194304 }
+    requires short { length text ≤ most_text_bytes }
     requires order { now_of journal.old.events ≤ moment }
     ensures joined { OnOk result (journal.new.events ≡ journal.old.events ++ events.Load (pos moment) text ∷ []) }
     ensures now { OnOk result (now_of journal.new.events ≡ moment) }
@@ -73,7 +82,7 @@ fn push_load(journal: &mut Journal, moment: u64, text: Blob) -> Result<(), NoMem
 
 /// Adds the reply of a scrape.
 fn push_reply(journal: &mut Journal, ticket: u64, bytes: Blob) -> Result<(), NoMemory>
-    requires short { length bytes ≤ 67108864 }
+    requires short { length bytes ≤ most_body_bytes }
     ensures joined { OnOk result (journal.new.events ≡ journal.old.events ++ events.Finish ticket (pos 10) (replies.Body 200 bytes) ∷ []) }
     ensures now { OnOk result (now_of journal.new.events ≡ now_of journal.old.events) }
 {
@@ -96,7 +105,7 @@ fn push_scrape(
     journal: &mut Journal,
 ) -> Result<(), NoMemory>
     requires plan { spec.IsPlan plan.now }
-    requires scrape { scrape < 1000 }
+    requires scrape { scrape < spec.most_scrapes }
     requires order { now_of journal.old.events ≤ 15000 * scrape }
     ensures joined { OnOk result (journal.new.events ≡ journal.old.events ++ spec.scrape_events plan.now scrape) }
     ensures now { OnOk result (now_of journal.new.events ≡ 15000 * scrape) }
@@ -157,8 +166,8 @@ pub fn journal_of(alloc: Global, plan: &Plan) -> Result<Journal, NoMemory>
 /// The text of the journal that a seed, 1 to 10,000 targets and up to 1,000 scrapes of each make, at most 20,000 scrapes in all.
 /// It spells that journal.
 pub fn make_script(alloc: Global, seed: u32, targets: u32, scrapes: u32) -> Result<Blob, NoMemory>
-    requires targets { (1 ≤ targets) × (targets ≤ 10000) }
-    requires scrapes { (scrapes ≤ 1000) × (targets * scrapes ≤ 20000) }
+    requires targets { (1 ≤ targets) × (targets ≤ spec.most_targets) }
+    requires scrapes { (scrapes ≤ spec.most_scrapes) × (targets * scrapes ≤ spec.most_scrapes_of_all) }
     ensures text { IfOk result (λ text. text ≡ journal_text (spec.script_events (spec.plan seed targets scrapes))) }
     ensures spells { IfOk result (λ _. IsJournal (spec.script_events (spec.plan seed targets scrapes))) }
 {
