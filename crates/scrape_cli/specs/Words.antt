@@ -1,12 +1,13 @@
 -- What the words of the command line ask for.
-use Rattle.std.specs.Prelude.{ℕ, ◌*◌, ◌^◌, List, [], ◌∷◌, length, Bool, false, ◌&&◌, ◌==◌, nat_le, nat_lt, codes, Option, Some, None, option_map, option_and_then, if◌then◌else◌}
+use Rattle.std.specs.Prelude.{ℕ, ◌+◌, ◌*◌, ◌^◌, List, [], ◌∷◌, length, Bool, false, ◌&&◌, ◌==◌, nat_le, nat_lt, codes, Option, Some, None, option_map, option_and_then, if◌then◌else◌}
 use Rattle.std.specs.Option.{option_map_or}
 use Rattle.std.specs.Str.{bytes_eq}
 use Rattle.std.specs.Str.Parse.{digits_value}
 use Rattle.clap.specs.Kinds.{Kinds}
 use Rattle.clap.specs.Words.{Row, Text, first_of}
 use Rattle.value_text.specs.Values.{digits}
-use Rattle.synth.specs.Scripts.{plan}
+use Rattle.outside.specs.Sizes.{most_text_bytes}
+use Rattle.synth.specs.Scripts.{plan, most_targets, most_scrapes, most_scrapes_of_all}
 use Rattle.synth.specs.declared.scripts.Plan.{Plan}
 use Rattle.scrape_cli.specs.Arguments.{kept_id, file_id, seed_id, targets_id, scrapes_id, fault_in, rows_in}
 use Rattle.scrape_cli.specs.Askings.{Asking, asking}
@@ -45,9 +46,9 @@ number_below limit text = if is_number text && nat_lt (digits_value 10 text) lim
 abbrev pub number_in : Text → ℕ → List Row → Option ℕ
 number_in id limit rows = option_and_then (number_below limit) (first_of id rows)
 
--- how large a script may be: 1 to 10,000 targets, up to 1,000 scrapes of each, and at most 20,000 in all
+-- whether a script of these numbers may be made: of one target at least, and of no more scrapes in all than it may have
 unfoldable pub is_plan : Plan → Bool
-is_plan p = nat_le 1 p.targets && nat_le (p.targets * p.scrapes) 20000
+is_plan p = nat_le 1 p.targets && nat_le (p.targets * p.scrapes) most_scrapes_of_all
 
 abbrev pub unless_large : Plan → Option Asked
 unless_large p = if is_plan p then Some (Synth p) else None
@@ -61,7 +62,7 @@ asked_by_numbers _ _ _ = None
 abbrev pub asked_by : Verb → List Row → Option Asked
 asked_by verb.Replay rows = asked_by_file Replay rows
 asked_by verb.Check rows = asked_by_file Check rows
-asked_by verb.Synth rows = asked_by_numbers (number_in seed_id (2 ^ 32) rows) (number_in targets_id 10001 rows) (number_in scrapes_id 1001 rows)
+asked_by verb.Synth rows = asked_by_numbers (number_in seed_id (2 ^ 32) rows) (number_in targets_id (most_targets + 1) rows) (number_in scrapes_id (most_scrapes + 1) rows)
 
 -- nothing is asked for by words that are refused
 abbrev pub unless_refused : Kinds → Option Asked → Option Asked
@@ -91,7 +92,7 @@ abbrev pub OfFile : (Asking → Type 0) → Asked → Type 0
 OfFile P (File a) = P a
 OfFile P (Synth p) = ⊥
 
--- a script is at most 256 MiB long, and a configuration 4 MiB
+-- a script is at most 256 MiB long, and a configuration as long as one may be
 abbrev pub limit_of : Command → ℕ
 limit_of Replay = 268435456
-limit_of Check = 4194304
+limit_of Check = most_text_bytes

@@ -1,10 +1,12 @@
 //! What the program can be asked for.
 ghost use Rattle.std.specs.Prelude.{◌≡◌, ◌≤◌, ◌<◌, ◌*◌, ◌^◌};
-ghost use Rattle.synth.specs.Scripts.{plan};
+ghost use Rattle.synth.specs.Scripts.{plan, most_targets, most_scrapes};
 ghost use Rattle.scrape_cli.specs.Words as spec;
 ghost use Rattle.scrape_cli.specs.declared.words.Asked.TheVariants as asked;
 
+use outside::MOST_TEXT_BYTES;
 use std::marker::Model;
+use synth::MOST_SCRAPES_OF_ALL;
 
 /// The commands.
 #[derive(Clone, Copy, PartialEq, Eq, Debug)]
@@ -50,14 +52,14 @@ pub struct Workload {
 
 impl Model for Workload {
     ghost use Rattle.std.specs.Prelude.{◌≤◌, ◌*◌};
-    ghost use Rattle.synth.specs.Scripts.{plan};
+    ghost use Rattle.synth.specs.Scripts.{plan, most_targets, most_scrapes, most_scrapes_of_all};
     ghost use Rattle.synth.specs.declared.scripts.Plan.{Plan};
 
     ghost Value = { Plan };
 
     ghost view = { λ w. plan w.seed w.targets w.scrapes };
 
-    ghost invariant = { λ w. (1 ≤ w.targets) × (w.targets ≤ 10000) × (w.scrapes ≤ 1000) × (w.targets * w.scrapes ≤ 20000) };
+    ghost invariant = { λ w. (1 ≤ w.targets) × (w.targets ≤ most_targets) × (w.scrapes ≤ most_scrapes) × (w.targets * w.scrapes ≤ most_scrapes_of_all) };
 }
 
 /// What the program can be asked for.
@@ -88,11 +90,11 @@ pub fn verb_named(word: &str) -> Option<Verb>
 #[tactic(auto, unfolding(crate::specs::Words::is_plan))]
 pub fn workload_of<'a>(seed: u64, targets: u64, scrapes: u64) -> Option<Asked<'a>>
     requires seed { seed < 2 ^ 32 }
-    requires targets { targets < 10001 }
-    requires scrapes { scrapes < 1001 }
+    requires targets { targets ≤ most_targets }
+    requires scrapes { scrapes ≤ most_scrapes }
     ensures { result ≡ spec.unless_large (plan seed targets scrapes) }
 {
-    if 1 <= targets && targets * scrapes <= 20_000 {
+    if 1 <= targets && targets * scrapes <= MOST_SCRAPES_OF_ALL {
         Some(Asked::Synth(Workload {
             seed: seed as u32,
             targets: targets as u32,
@@ -109,6 +111,6 @@ pub fn limit_of(command: Command) -> usize
 {
     match command {
         Command::Replay => 268_435_456,
-        Command::Check => 4_194_304,
+        Command::Check => MOST_TEXT_BYTES as usize,
     }
 }
