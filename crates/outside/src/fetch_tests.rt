@@ -116,3 +116,14 @@ fn fetches_clocks_and_links_go_to_threads(rt: HostRuntime) -> Result<(), Fail> {
     assert_eq!(rt; child.join(&rt), 3);
     Ok(())
 }
+
+#[test]
+fn schemes_are_read_as_they_are_written(rt: HostRuntime) {
+    for scheme in [Scheme::Http, Scheme::Https] {
+        assert_eq!(rt; scheme_of(scheme_text(scheme)), Some(scheme));
+    }
+    for text in ["", "htt", "HTTP", "httpss", "ftp"] {
+        assert!(rt; !is_scheme(text));
+    }
+    assert!(rt; is_scheme("http") && is_scheme("https"));
+}
