@@ -1,1 +1,5 @@
 pub mod StateLemmas
+pub mod RecordLemmas
+pub mod ReaderLemmas
+pub mod NowLemmas
+pub mod FreshLemmas

@@ -1,6 +1,7 @@
 -- What a core keeps beside its journal.
-use Rattle.std.specs.Prelude.{◌≡◌, ◌<◌, ◌^◌, ◌++◌, List, length}
+use Rattle.std.specs.Prelude.{◌≡◌, ◌<◌, ◌≤◌, ◌^◌, ◌++◌, false, List, length}
 use Rattle.journal_text.specs.declared.events.Event.{Event}
+use Rattle.journal_text.specs.Events.{JournalView}
 use Rattle.report_samples.specs.declared.entries.Entry.{Entry}
 use Rattle.scrape_machine.specs.Machine.{World, world, world_of, book_of, gives}
 use Rattle.scrape_core.specs.declared.state.State.{State}
@@ -26,3 +27,7 @@ pub record IsKept (es : List Event) (book : List Entry) (s : State) : Type 0 whe
 -- the entries of an event were appended
 abbrev pub Appends : World → Event → List Entry → List Entry → Type 0
 Appends w e before after = after ≡ before ++ gives w e
+
+-- until a halt came the journal has room for one
+abbrev pub HasRoom : State → JournalView → Type 0
+HasRoom s j = s.halted ≡ false → 1 ≤ j.spare

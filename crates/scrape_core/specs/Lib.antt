@@ -1,1 +1,4 @@
 pub mod Kept
+pub mod Readers
+pub mod Records
+pub mod Wakes

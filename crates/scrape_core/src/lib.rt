@@ -9,6 +9,7 @@ mod changes;
 mod events;
 mod finishes;
 pub mod machine;
+mod readers;
 pub mod state;
 mod turns;
 

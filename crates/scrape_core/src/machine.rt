@@ -1,8 +1,12 @@
 //! The core: what a scrape manager has taken so far, and one call that takes an event.
-ghost use Rattle.std.specs.Prelude.{◌≡◌, ℕ, List, ◌++◌, [], ◌∷◌, length, pos, IfOk, OnOk, OnErr};
+ghost use Rattle.std.specs.Prelude.{◌≡◌, ℕ, List, ◌++◌, [], ◌∷◌, length, pos, true, IfOk, OnOk, OnErr};
 ghost use Rattle.label_set.specs.declared.texts.Pair.{Pair};
 ghost use Rattle.journal_text.specs.declared.events.Event.{Event};
+ghost use Rattle.journal_text.specs.declared.events.Event.TheVariants.{Halt};
 ghost use Rattle.journal_text.specs.Events.{IsInLimits, MayFollow, now_of};
+ghost use Rattle.journal_text.specs.Lines.{IsMoment, number};
+ghost use Rattle.scrape_core.specs.Readers.{IsWake, is_due, request};
+ghost use Rattle.scrape_core.specs.Records.{is_live, started_of};
 ghost use Rattle.scrape_machine.specs.Machine as spec;
 ghost use Rattle.scrape_laws.specs.Markers.{MarkerLaw, ReportMarkerLaw};
 ghost use Rattle.scrape_laws.specs.Runs.{ClosedRunsLaw};
@@ -11,10 +15,14 @@ ghost use Rattle.scrape_laws.specs.Undisturbed.{NothingLaw, UndisturbedLaw, Idle
 ghost use Rattle.scrape_laws.specs.Apart.{ApartLaw, ApartRunsLaw, ReloadLaw};
 
 use crate::events::take;
+use crate::readers::{due_in, request_in, wake_in};
 use crate::state::State;
 use appender_book::Book;
+use jobs_in_force::jobs::InForce;
 use journal_text::{Event, Journal};
 use label_set::{NoMemory, Steps};
+use life_roll::Moment;
+use outside::Request;
 use scrape_laws::laws::{
     closed_runs, late, lives_apart, markers, nothing, reloads, report_markers, undisturbed,
 };
@@ -38,11 +46,29 @@ impl Model for Core {
 
     ghost Value = { List Event };
 
-    ghost use Rattle.scrape_core.specs.Kept.{IsKept};
+    ghost use Rattle.scrape_core.specs.Kept.{IsKept, HasRoom};
 
     ghost view = { λ c. c.journal.events };
 
-    ghost invariant = { λ c. IsKept c.journal.events c.book.entries c.state };
+    ghost invariant = { λ c. IsKept c.journal.events c.book.entries c.state × HasRoom c.state c.journal };
+}
+
+/// The halt at a moment.
+fn halt_at(moment: Moment) -> Event
+    ensures { result ≡ Halt moment }
+{
+    Event::Halt {
+        moment: moment.ms(),
+    }
+}
+
+/// The last moment of a journal, 0 before any.
+#[tactic(auto, using(crate::proofs::NowLemmas::now_small))]
+fn last_moment(journal: &Journal) -> Moment
+    ensures { result ≡ pos (now_of journal.now.events) }
+{
+    let _events = journal.events();
+    Moment::new(journal.now())
 }
 
 impl Core {
@@ -50,23 +76,25 @@ impl Core {
     pub fn new(alloc: Global) -> Result<Core, NoMemory>
         ensures { IfOk result (λ c. c ≡ []) }
     {
-        Ok(Core::over(alloc, Book::new(alloc)?))
+        Core::over(alloc, Book::new(alloc)?)
     }
 
     /// The same, with a seed for the hashes of its book: who doesn't know it can't name many series that share a hash.
     pub fn seeded(alloc: Global, seed: RandomState) -> Result<Core, NoMemory>
         ensures { IfOk result (λ c. c ≡ []) }
     {
-        Ok(Core::over(alloc, Book::seeded(alloc, seed)?))
+        Core::over(alloc, Book::seeded(alloc, seed)?)
     }
 
-    /// A core over a book without entries.
-    fn over(alloc: Global, book: Book) -> Core
+    /// A core over a book without entries, with room for the halt.
+    fn over(alloc: Global, book: Book) -> Result<Core, NoMemory>
         requires { book.entries ≡ [] }
-        ensures { result ≡ [] }
+        ensures { IfOk result (λ c. c ≡ []) }
     {
-        Core {
-            journal: Journal::new(alloc),
+        let mut journal = Journal::new(alloc);
+        journal.reserve(1)?;
+        Ok(Core {
+            journal,
             book,
             state: State {
                 jobs: Vec::new(alloc),
@@ -74,7 +102,7 @@ impl Core {
                 started: Vec::new(alloc),
                 halted: false,
             },
-        }
+        })
     }
 
     /// Takes an event: the answer is the defined one after the journal, which then ends with the event, and the book is that of the new journal.
@@ -117,7 +145,7 @@ impl Core {
         undisturbed();
         lives_apart();
         reloads();
-        self.journal.reserve(1)?;
+        self.journal.reserve(2)?;
         let answer = take(alloc, &mut self.state, &mut self.book, &event, steps)?;
         self.journal.push(event);
         Ok(answer)
@@ -128,6 +156,13 @@ impl Core {
         ensures { result ≡ pos (now_of self.now) }
     {
         self.journal.now()
+    }
+
+    /// The same, as a moment.
+    pub fn moment(&self) -> Moment
+        ensures { result ≡ pos (now_of self.now) }
+    {
+        last_moment(&self.journal)
     }
 
     /// How many events the journal has.
@@ -149,5 +184,52 @@ impl Core {
         ensures { result.now.events ≡ self.now }
     {
         &self.journal
+    }
+
+    /// A halt at `now`, for which room is kept from the start. No halt came before.
+    pub fn halt(&mut self)
+        requires { is_live self.old ≡ true }
+        ensures { self.new ≡ self.old ++ Halt (pos (now_of self.old)) ∷ [] }
+    {
+        let moment = last_moment(&self.journal);
+        self.state.halted = true;
+        self.journal.push(halt_at(moment));
+    }
+
+    /// Whether a sweep at a moment would start or force a scrape, or take an ending.
+    pub fn due(&self, moment: i64) -> bool
+        requires { IsMoment moment }
+        ensures { result ≡ is_due self.now (number moment) }
+    {
+        due_in(&self.state, Moment::new(moment))
+    }
+
+    /// The least moment from `now` on at which a sweep would start or force a scrape, or take an ending; none where no moment does.
+    pub fn wake(&self) -> Option<i64>
+        ensures { IsWake self.now result }
+    {
+        wake_in(&self.state, self.moment().number())
+    }
+
+    /// The request of the scrape with a ticket, as it was at the start of the scrape. There is none where no scrape with the ticket was started,
+    /// or where it had its finish.
+    pub fn request(&self, alloc: Global, ticket: u64) -> Result<Option<Request>, NoMemory>
+        ensures { IfOk result (λ o. o ≡ request self.now ticket) }
+    {
+        request_in(alloc, &self.state.lives, &self.state.started, ticket)
+    }
+
+    /// How many scrapes were started.
+    pub fn started(&self) -> u64
+        ensures { result ≡ started_of self.now }
+    {
+        self.state.started.len() as u64
+    }
+
+    /// The configuration in force: its jobs, in the order in which they are written.
+    pub fn jobs(&self) -> &[InForce]
+        ensures { result.now ≡ (spec.world_of self.now).jobs }
+    {
+        &self.state.jobs
     }
 }

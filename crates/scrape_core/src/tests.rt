@@ -134,6 +134,11 @@ fn body<L: Ledger>(
     core.step(alloc, event, steps)
 }
 
+/// Ends the test where something doesn't hold.
+fn expect(rt: &impl Abort, holds: bool) {
+    assert!(rt; holds);
+}
+
 fn assert_said(
     rt: &impl Abort,
     alloc: Global,
@@ -141,8 +146,105 @@ fn assert_said(
     text: &str,
 ) -> Result<(), NoMemory> {
     let said = format!(in alloc; "{answer:?}")?;
-    assert_eq!(rt; said.as_str(), text);
+    expect(rt, said.as_str() == text);
     Ok(())
+}
+
+fn loads<L: Ledger>(
+    rt: &impl Abort,
+    alloc: Global,
+    core: &mut Core,
+    steps: &mut Steps<L>,
+    text: &str,
+) -> Result<(), NoMemory> {
+    let answer = load(alloc, core, steps, 0, CONF)?;
+    assert_said(rt, alloc, &answer, text)
+}
+
+fn refuses_pattern<L: Ledger>(
+    rt: &impl Abort,
+    alloc: Global,
+    core: &mut Core,
+    steps: &mut Steps<L>,
+    text: &str,
+) -> Result<(), NoMemory> {
+    let answer = load(alloc, core, steps, 60_000, PATTERN)?;
+    assert_said(rt, alloc, &answer, text)
+}
+
+fn updates<L: Ledger>(
+    rt: &impl Abort,
+    alloc: Global,
+    core: &mut Core,
+    steps: &mut Steps<L>,
+    job: &str,
+    text: &str,
+) -> Result<(), NoMemory> {
+    let answer = update(alloc, core, steps, job, "g")?;
+    assert_said(rt, alloc, &answer, text)
+}
+
+fn ticks<L: Ledger>(
+    rt: &impl Abort,
+    alloc: Global,
+    core: &mut Core,
+    steps: &mut Steps<L>,
+    moment: i64,
+    life: u64,
+    text: &str,
+) -> Result<(), NoMemory>
+    requires { IsMoment moment }
+{
+    let answer = tick(alloc, core, steps, moment, life)?;
+    assert_said(rt, alloc, &answer, text)
+}
+
+fn sweeps<L: Ledger>(
+    rt: &impl Abort,
+    alloc: Global,
+    core: &mut Core,
+    steps: &mut Steps<L>,
+    moment: i64,
+    text: &str,
+) -> Result<(), NoMemory>
+    requires { IsMoment moment }
+{
+    let answer = sweep(alloc, core, steps, moment)?;
+    assert_said(rt, alloc, &answer, text)
+}
+
+fn halts<L: Ledger>(
+    rt: &impl Abort,
+    alloc: Global,
+    core: &mut Core,
+    steps: &mut Steps<L>,
+    text: &str,
+) -> Result<(), NoMemory> {
+    let answer = halt(alloc, core, steps)?;
+    assert_said(rt, alloc, &answer, text)
+}
+
+fn loses<L: Ledger>(
+    rt: &impl Abort,
+    alloc: Global,
+    core: &mut Core,
+    steps: &mut Steps<L>,
+    ticket: u64,
+    text: &str,
+) -> Result<(), NoMemory> {
+    let answer = lost(alloc, core, steps, ticket)?;
+    assert_said(rt, alloc, &answer, text)
+}
+
+fn counts<L: Ledger>(
+    rt: &impl Abort,
+    alloc: Global,
+    core: &mut Core,
+    steps: &mut Steps<L>,
+    text: &str,
+) -> Result<(), NoMemory> {
+    let answer = body(alloc, core, steps, "x 1\ny 2\n")?;
+    assert_said(rt, alloc, &answer, text)
 }
 
 /// A load, a sweep and a body with two samples.
@@ -152,13 +254,10 @@ fn one_load<L: Ledger>(
     core: &mut Core,
     steps: &mut Steps<L>,
 ) -> Result<(), NoMemory> {
-    let loaded = load(alloc, core, steps, 0, CONF)?;
-    assert_said(rt, alloc, &loaded, "Loaded { closed: 0, begun: 1 }")?;
-    let swept = sweep(alloc, core, steps, 0)?;
+    loads(rt, alloc, core, steps, "Loaded { closed: 0, begun: 1 }")?;
     let text = "Swept { first: 0, started: 1, forced: 0, ended: 0 }";
-    assert_said(rt, alloc, &swept, text)?;
-    let counted = body(alloc, core, steps, "x 1\ny 2\n")?;
-    assert_said(rt, alloc, &counted, "Counted(None)")
+    sweeps(rt, alloc, core, steps, 0, text)?;
+    counts(rt, alloc, core, steps, "Counted(None)")
 }
 
 /// Finishes and ticks that find nothing to do.
@@ -168,13 +267,12 @@ fn refused_turns<L: Ledger>(
     core: &mut Core,
     steps: &mut Steps<L>,
 ) -> Result<(), NoMemory> {
-    assert_said(rt, alloc, &lost(alloc, core, steps, 0)?, "NoTicket")?;
-    assert_said(rt, alloc, &lost(alloc, core, steps, 7)?, "NoTicket")?;
-    assert_said(rt, alloc, &tick(alloc, core, steps, 59_999, 0)?, "NotDue")?;
-    let started = tick(alloc, core, steps, 60_000, 0)?;
-    assert_said(rt, alloc, &started, "Started { ticket: 1 }")?;
-    assert_said(rt, alloc, &tick(alloc, core, steps, 60_000, 0)?, "Busy")?;
-    assert_said(rt, alloc, &tick(alloc, core, steps, 60_000, 9)?, "NoLife")
+    loses(rt, alloc, core, steps, 0, "NoTicket")?;
+    loses(rt, alloc, core, steps, 7, "NoTicket")?;
+    ticks(rt, alloc, core, steps, 59_999, 0, "NotDue")?;
+    ticks(rt, alloc, core, steps, 60_000, 0, "Started { ticket: 1 }")?;
+    ticks(rt, alloc, core, steps, 60_000, 0, "Busy")?;
+    ticks(rt, alloc, core, steps, 60_000, 9, "NoLife")
 }
 
 /// Updates and a load that are refused, a halt, and a sweep behind it.
@@ -184,37 +282,117 @@ fn refused_changes<L: Ledger>(
     core: &mut Core,
     steps: &mut Steps<L>,
 ) -> Result<(), NoMemory> {
-    assert_said(rt, alloc, &update(alloc, core, steps, "k", "g")?, "NoJob")?;
-    assert_said(rt, alloc, &update(alloc, core, steps, "j", "g")?, "NoFile")?;
-    let refused = load(alloc, core, steps, 60_000, PATTERN)?;
+    updates(rt, alloc, core, steps, "k", "NoJob")?;
+    updates(rt, alloc, core, steps, "j", "NoFile")?;
     let text =
         r#"Refused(Rule { place: Name { text: "/scrape_configs/0/relabel_configs/0/regex" } })"#;
-    assert_said(rt, alloc, &refused, text)?;
-    assert_said(rt, alloc, &halt(alloc, core, steps)?, "Halted")?;
-    assert_said(rt, alloc, &sweep(alloc, core, steps, 60_000)?, "Halted")
+    refuses_pattern(rt, alloc, core, steps, text)?;
+    halts(rt, alloc, core, steps, "Halted")?;
+    sweeps(rt, alloc, core, steps, 60_000, "Halted")
+}
+
+/// How many entries the book has, and how many events the journal.
+fn has_kept(rt: &impl Abort, core: &Core, entries: usize, events: u64) {
+    expect(rt, core.book().len() == entries);
+    expect(rt, core.events() == events);
+    expect(rt, core.journal().len() as u64 == events);
 }
 
 /// The answers of `step`, and what the other calls say.
-fn answers<L: Ledger>(rt: &impl Abort, alloc: Global, blank: Blank) -> Result<(), NoMemory>
+fn answers<L: Ledger>(
+    rt: &impl Abort,
+    alloc: Global,
+    core: &mut Core,
+    blank: Blank,
+) -> Result<(), NoMemory>
     requires name { blank.name ≡ L.name }
     requires parts { blank.parts ≡ L.parts }
     requires some { 0 < blank.parts }
 {
     let mut steps = Steps::<L>::open(blank);
-    let mut core = Core::new(alloc)?;
-    one_load(rt, alloc, &mut core, &mut steps)?;
-    assert_eq!(rt; core.book().len(), 7);
-    refused_turns(rt, alloc, &mut core, &mut steps)?;
-    refused_changes(rt, alloc, &mut core, &mut steps)?;
-    assert_eq!(rt; core.now(), 60_000);
-    assert_eq!(rt; core.events(), 14);
-    assert_eq!(rt; core.journal().len(), 14);
-    assert_eq!(rt; core.book().len(), 7);
+    one_load(rt, alloc, core, &mut steps)?;
+    has_kept(rt, core, 7, 3);
+    refused_turns(rt, alloc, core, &mut steps)?;
+    refused_changes(rt, alloc, core, &mut steps)?;
+    has_kept(rt, core, 7, 14);
     Ok(())
 }
 
 #[test]
 fn refusals_of_step(rt: HostRuntime) -> Result<(), Fail> {
-    answers::<Brand>(&rt, rt.alloc(), Blank::new(1))?;
+    let mut core = Core::new(rt.alloc())?;
+    answers::<Brand>(&rt, rt.alloc(), &mut core, Blank::new(1))?;
+    expect(&rt, core.now() == 60_000);
+    Ok(())
+}
+
+/// A target that is due, before it is swept.
+fn is_due_from_the_load(rt: &impl Abort, core: &Core) {
+    expect(rt, core.jobs().len() == 1);
+    expect(rt, core.wake() == Some(7));
+    expect(rt, core.due(7));
+}
+
+/// Its scrape is in flight.
+fn is_in_flight(rt: &impl Abort, core: &Core) {
+    expect(rt, core.started() == 1);
+    expect(rt, !core.due(60_007));
+    expect(rt, core.wake() == None);
+}
+
+/// The request of the scrape with a ticket, as its address.
+fn asks(
+    rt: &impl Abort,
+    alloc: Global,
+    core: &Core,
+    ticket: u64,
+    authority: &str,
+) -> Result<(), NoMemory> {
+    let found = match core.request(alloc, ticket)? {
+        Some(request) => request.authority.as_str() == authority,
+        None => authority.is_empty(),
+    };
+    expect(rt, found);
+    Ok(())
+}
+
+/// What the core says between events.
+fn readers<L: Ledger>(
+    rt: &impl Abort,
+    alloc: Global,
+    core: &mut Core,
+    blank: Blank,
+) -> Result<(), NoMemory>
+    requires name { blank.name ≡ L.name }
+    requires parts { blank.parts ≡ L.parts }
+    requires some { 0 < blank.parts }
+{
+    let mut steps = Steps::<L>::open(blank);
+    let _ = load(alloc, core, &mut steps, 7, CONF)?;
+    is_due_from_the_load(rt, core);
+    let _ = sweep(alloc, core, &mut steps, 7)?;
+    is_in_flight(rt, core);
+    asks(rt, alloc, core, 0, "a:1")?;
+    asks(rt, alloc, core, 1, "")?;
+    let _ = lost(alloc, core, &mut steps, 0)?;
+    asks(rt, alloc, core, 0, "")
+}
+
+#[test]
+fn readers_between_events(rt: HostRuntime) -> Result<(), Fail> {
+    let mut core = Core::new(rt.alloc())?;
+    expect(&rt, core.wake() == None);
+    readers::<Brand>(&rt, rt.alloc(), &mut core, Blank::new(1))?;
+    expect(&rt, core.wake() == Some(60_007));
+    Ok(())
+}
+
+#[test]
+#[tactic(auto, using(crate::proofs::FreshLemmas::fresh_live))]
+fn halt_with_kept_room(rt: HostRuntime) -> Result<(), Fail> {
+    let mut core = Core::new(rt.alloc())?;
+    core.halt();
+    expect(&rt, core.events() == 1);
+    expect(&rt, !core.due(0));
     Ok(())
 }

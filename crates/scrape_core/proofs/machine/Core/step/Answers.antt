@@ -1,4 +1,4 @@
-use Rattle.std.proofs.Common.{◌≡◌, ◌++◌, ◌∷◌, [], ◌∙◌, List, sym, ap, ap₂}
+use Rattle.std.proofs.Common.{◌≡◌, ◌++◌, ◌∷◌, [], ◌∙◌, List, sym, ap, ap₂, arith}
 use Rattle.journal_text.specs.declared.events.Event.{Event}
 use Rattle.report_samples.specs.declared.entries.Entry.{Entry}
 use Rattle.scrape_machine.specs.Machine.{step, gives, world_of, book_of}
@@ -9,10 +9,12 @@ pub invariant_of-self-2 : goal.invariant_of-self-2
 invariant_of-self-2 g c =
     let es = c.self.inside.journal.events in
     let e = c.args.event in
-    let joined : c.push.new.self.events ≡ es ++ e ∷ [] = c.push.ensures.joined ∙ ap (λ (z : List Event). z ++ e ∷ []) c.in_ok-reserve.ensures.same in
-    record {
-      state = c.in_ok-answer.ensures.state ∙ ap (λ w. step w e) c.self.invariant.state ∙ sym (world_push es e) ∙ ap world_of (sym joined);
-      book_is = c.in_ok-answer.ensures.book ∙ ap₂ (λ (b : List Entry) w. b ++ gives w e) c.self.invariant.book_is c.self.invariant.state
-          ∙ sym (book_of_push es e) ∙ ap book_of (sym joined);
-      few = c.in_ok-answer.ensures.few;
-    }
+    let joined : c.push.new.self.events ≡ es ++ e ∷ [] = c.push.ensures.joined ∙ ap (λ (z : List Event). z ++ e ∷ []) c.in_ok-reserve.ensures.same in (
+      record {
+        state = c.in_ok-answer.ensures.state ∙ ap (λ w. step w e) c.self.invariant.0.state ∙ sym (world_push es e) ∙ ap world_of (sym joined);
+        book_is = c.in_ok-answer.ensures.book ∙ ap₂ (λ (b : List Entry) w. b ++ gives w e) c.self.invariant.0.book_is c.self.invariant.0.state
+            ∙ sym (book_of_push es e) ∙ ap book_of (sym joined);
+        few = c.in_ok-answer.ensures.few;
+      },
+      λ _. omega (arith, c.push.ensures.room, c.in_ok-reserve.ensures.room),
+    )

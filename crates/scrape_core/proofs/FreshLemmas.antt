@@ -1,4 +1,4 @@
--- Journals that a run may begin with.
+-- Journals that a run may begin with: no halt came, and no scrape was started.
 use Rattle.std.proofs.Common.{◌≡◌, ℕ, ℤ, ◌+◌, List, [], ◌∷◌, ◌++◌, Bool, true, false, refl, sym, ap, ◌∙◌, ◌||◌}
 use Rattle.std.specs.List.{list_any}
 use Rattle.std.proofs.lemmas.List.Folds.{list_any-append}
@@ -6,6 +6,11 @@ use Rattle.journal_text.specs.declared.events.Event.{Event}
 use Rattle.journal_text.specs.declared.events.Event.TheVariants.{Load}
 use Rattle.scrape_core.specs.Records.{IsFresh, is_finish, is_live, started_of}
 use Rattle.scrape_core.proofs.RecordLemmas.{live_push, same_started}
+
+-- no halt came before the first event
+pub fresh_live : (es : List Event) → es ≡ [] → is_live es ≡ true
+unfolding is_live
+fresh_live es none = ap is_live none
 
 -- an empty one
 pub none_fresh : IsFresh []

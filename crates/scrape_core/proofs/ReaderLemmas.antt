@@ -1,0 +1,133 @@
+-- When a sweep acts: on one life, on one of some lives, and by its answer.
+use Rattle.std.proofs.Common.{◌≡◌, ℕ, ℤ, zero, suc, ◌+◌, ◌<◌, ◌≤◌, List, [], ◌∷◌, ◌++◌, length, take, get_or, Bool, true, false, cond, refl, sym, ap, ap₂, ◌∙◌, arith, rules, not, ◌&&◌, ◌||◌, pos, ◌^◌, max}
+use Rattle.std.specs.Prelude.{Option, Some, None, All, nat_lt, min, is_some, filter}
+use Rattle.std.specs.List.{list_any}
+use Rattle.std.proofs.lemmas.Bool.Decides.{nat_tests}
+use Rattle.std.proofs.lemmas.List.{take_more}
+use Rattle.std.proofs.lemmas.List.Folds.{list_any-append}
+use Rattle.journal_text.specs.declared.events.Event.{Event}
+use Rattle.journal_text.specs.declared.events.Event.TheVariants.{Sweep}
+use Rattle.journal_text.specs.Events.{now_of}
+use Rattle.journal_text.specs.Lines.{number}
+use Rattle.outside.specs.declared.requests.Request.{Request}
+use Rattle.label_set.specs.declared.texts.Pair.{Pair}
+use Rattle.scrape_config.specs.declared.conf.Job.{Job}
+use Rattle.jobs_in_force.specs.Settings.{settings_of}
+use Rattle.target_set.specs.Requests.{request_of, request_at}
+use Rattle.end_of_run.specs.Endings.{due_at}
+use Rattle.life_roll.specs.Schedules as schedule
+use Rattle.jobs_in_force.specs.declared.jobs.InForce.{InForce}
+use Rattle.scrape_machine.specs.declared.answers.Answer.{Answer}
+use Rattle.scrape_machine.specs.declared.answers.Answer.TheVariants.{Halted}
+use Rattle.scrape_machine.specs.declared.lives.Life.{Life}
+use Rattle.scrape_machine.specs.Lives.{ends, closed_ends, ends_at, is_open}
+use Rattle.scrape_machine.specs.Machine.{World, world_of, answer, live_answer, sweep_answer, starts_in, forces_in, is_over}
+use Rattle.scrape_core.specs.Readers.{did, is_due, acts, due_in, IsWake}
+use Rattle.scrape_core.specs.declared.state.State.{State}
+use Rattle.scrape_core.specs.Kept.{seen}
+use Rattle.scrape_core.specs.Wakes.{wake_by, wake_of, sooner, reached, IsFirstBy, IsWakeBy}
+
+-- one of some counts is not 0
+some_count : (a b c : ℕ) → Bool
+some_count a b c = nat_lt 0 (a + b + c)
+
+count_true : {X : Type 0} (p : X → Bool) (x : X) (xs : List X) → length (filter p (x ∷ xs)) ≡ cond {A = ℕ} (p x) 1 0 + length (filter p xs)
+count_true p x xs = of (p x)
+  where
+    of : (b : Bool) → length (cond b (x ∷ filter p xs) (filter p xs)) ≡ cond {A = ℕ} b 1 0 + length (filter p xs)
+    of true = omega arith
+    of false = omega arith
+
+-- a life is acted on where a scrape of it starts or is forced, or its ending is taken
+one_acts : (due over last rest : Bool) (a b c : ℕ) → rest ≡ nat_lt 0 (a + b + c) →
+    ((due || last) || rest) ≡ nat_lt 0 ((cond {A = ℕ} (due && not over) 1 0 + a) + (cond {A = ℕ} (due && over) 1 0 + b) + (cond {A = ℕ} last 1 0 + c))
+one_acts true true last rest a b c h = grind (arith, nat_tests)
+one_acts true false last rest a b c h = grind (arith, nat_tests)
+one_acts false over true rest a b c h = grind (arith, nat_tests)
+one_acts false over false rest a b c h = let e : a + b + c ≡ (0 + a) + (0 + b) + (0 + c) = omega arith in h ∙ ap (nat_lt 0) e
+
+pub any_acts : (jobs : List InForce) (m : ℕ) (ls : List Life) →
+    list_any (acts m) ls ≡ nat_lt 0 (length (filter (starts_in jobs m) ls) + length (filter (forces_in jobs m) ls) + length (filter (ends m) ls))
+any_acts jobs m [] = refl
+any_acts jobs m (l ∷ ls) =
+    one_acts (schedule.is_due m l.schedule) (is_over jobs l) (ends m l) (list_any (acts m) ls) (length (filter (starts_in jobs m) ls)) (length (filter (forces_in jobs m) ls)) (length (filter (ends m) ls)) (any_acts jobs m ls)
+    ∙ sym (λ i. nat_lt 0 (count_true (starts_in jobs m) l ls i + count_true (forces_in jobs m) l ls i + count_true (ends m) l ls i))
+
+-- by the world of a journal
+due_live : (w : World) (m : ℕ) → did (live_answer w (Sweep (pos m))) ≡ list_any (acts m) w.lives
+due_live w m = sym (any_acts w.jobs m w.lives)
+
+pub due_is : (es : List Event) (m : ℕ) → is_due es m ≡ (not (world_of es).halted && list_any (acts m) (world_of es).lives)
+unfolding is_due answer
+due_is es m = of (world_of es).halted
+  where
+    of : (b : Bool) → did (cond b Halted (live_answer (world_of es) (Sweep (pos m)))) ≡ (not b && list_any (acts m) (world_of es).lives)
+    of true = refl
+    of false = due_live (world_of es) m
+
+-- from when on a life is acted on
+open_wake : (l : Life) (n : ℕ) (flight : Bool) → (not flight && not (nat_lt n l.schedule.planned)) ≡ reached n (cond flight None (Some l.schedule.planned))
+open_wake l n true = refl
+open_wake l n false = refl
+
+closed_wake : (l : Life) (n : ℕ) (c : ℤ) (ended : Bool) → (not ended && not (nat_lt n (due_at l.schedule.planned (number c) l.schedule.interval))) ≡ reached n (cond ended None (Some (due_at l.schedule.planned (number c) l.schedule.interval)))
+closed_wake l n c true = refl
+closed_wake l n c false = refl
+
+or_false : (b : Bool) → (b || false) ≡ b
+or_false true = refl
+or_false false = refl
+
+pub acts_by : (l : Life) (n : ℕ) → acts n l ≡ reached n (wake_of l)
+acts_by l n = of l.schedule.closed
+  where
+    of : (o : Option ℤ) → ((not (is_some o) && (not (is_some l.schedule.flight) && not (nat_lt n l.schedule.planned))) || closed_ends n l o) ≡ reached n (wake_by l o)
+    of None = or_false (not (is_some l.schedule.flight) && not (nat_lt n l.schedule.planned)) ∙ open_wake l n (is_some l.schedule.flight)
+    of (Some c) = closed_wake l n c l.ended
+
+pub sooner_reached : (n : ℕ) (o p : Option ℕ) → (reached n o || reached n p) ≡ reached n (sooner o p)
+sooner_reached n None p = refl
+sooner_reached n (Some a) None = or_false (not (nat_lt n a))
+sooner_reached n (Some a) (Some b) = grind (arith, nat_tests)
+
+-- one more life of a loop
+pub more_reached : (lives : List Life) (i n : ℕ) (l : Life) (first next : Option ℕ) → i < length lives → l ≡ get_or lives i l → list_any (acts n) (take i lives) ≡ reached n first → next ≡ sooner first (wake_of l) →
+    list_any (acts n) (take (i + 1) lives) ≡ reached n next
+more_reached lives i n l first next lt at was now =
+    ap (list_any (acts n)) (take_more lives i l lt ∙ ap (λ y. take i lives ++ y ∷ []) (sym at))
+    ∙ (list_any-append (acts n) (take i lives) (l ∷ [])
+    ∙ (ap₂ (λ a b. a || b) was (or_false (acts n l) ∙ acts_by l n)
+    ∙ (sooner_reached n first (wake_of l) ∙ ap (reached n) (sym now))))
+
+-- the least moment that has reached the first one
+before_first : (n a now m : ℕ) → m ≡ max a now → now ≤ n → n < m → reached n (Some a) ≡ false
+before_first n a now m is le lt = grind (arith, nat_tests)
+
+pub wake_some : (a now m : ℕ) → m ≡ max a now → m < 2 ^ 52 → IsFirstBy (λ n. reached n (Some a)) now m
+wake_some a now m is small = record {
+  later = omega (arith, is);
+  small = small;
+  due_then = grind (arith, nat_tests);
+  least = λ n le lt. before_first n a now m is le lt;
+}
+
+pub wake_none : (a now m : ℕ) → m ≡ max a now → 2 ^ 52 ≤ m → IsWakeBy (λ n. reached n (Some a)) now None
+wake_none a now m is big n le small = before_first n a now m is le (omega (arith, big, small))
+
+-- by another test that says the same
+pub wake_same : (f g : ℕ → Bool) (now : ℕ) (o : Option ℤ) → ((n : ℕ) → g n ≡ f n) → IsWakeBy f now o → IsWakeBy g now o
+wake_same f g now None same w = λ n le small. same n ∙ w n le small
+wake_same f g now (Some t) same w =
+    (w.0, w.1, record { later = (w.2).later; small = (w.2).small; due_then = same w.0 ∙ (w.2).due_then; least = λ n le lt. same n ∙ (w.2).least n le lt })
+
+-- a state and the journal that it is of
+pub due_state : (es : List Event) (s : State) (m : ℕ) → seen s ≡ world_of es → due_in s m ≡ is_due es m
+due_state es s m is = sym (due_is es m ∙ ap (λ (w : World). not w.halted && list_any (acts m) w.lives) (sym is))
+
+pub wake_state : (es : List Event) (s : State) (o : Option ℤ) → seen s ≡ world_of es → IsWakeBy (due_in s) (now_of es) o → IsWake es o
+wake_state es s o is w = wake_same (due_in s) (is_due es) (now_of es) o (λ n. sym (due_state es s n is)) w
+
+-- a request is by settings alone
+pub request_settings : (j : Job) (identity : List Pair) → request_of (settings_of j).conf identity ≡ request_of j.conf identity
+unfolding request_of request_at
+request_settings j identity = refl
