@@ -9,6 +9,7 @@ use crate::words::{Asked, Command, OfFile, Verb, verb_named, workload_of};
 use clap::error::ErrorKind;
 use clap::{Arg, ArgAction, ArgMatches, Command as Grammar};
 use std::alloc::{AllocError, Global};
+use synth::{MOST_SCRAPES, MOST_TARGETS};
 use value_text::{digit_count, number_of};
 
 /// Why words ask for nothing.
@@ -168,8 +169,8 @@ fn asked_by_numbers<'a>(matches: &ArgMatches<'_>) -> Option<Asked<'a>>
     ensures { result ≡ spec.asked_by verbs.Synth (rows_of (found_of matches.now)) }
 {
     let seed = number_in("seed", 1 << 32, matches);
-    let targets = number_in("targets", 10_001, matches);
-    let scrapes = number_in("scrapes", 1_001, matches);
+    let targets = number_in("targets", MOST_TARGETS + 1, matches);
+    let scrapes = number_in("scrapes", MOST_SCRAPES + 1, matches);
     match (seed, targets, scrapes) {
         (Some(seed), Some(targets), Some(scrapes)) => workload_of(seed, targets, scrapes),
         _ => None,
