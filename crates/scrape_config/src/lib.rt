@@ -17,5 +17,6 @@ pub use conf::{Conf, Group, GroupList, Job, JobConf, JobList, Param, ParamList};
 pub use config_fields::ConfFault;
 pub use counts::{MOST_FILES, MOST_JOBS, MOST_TARGETS};
 pub use fault::ConfError;
+pub use outside::Scheme;
 pub use read::{read_conf, read_groups};
 pub use settings::comparing_decides;
