@@ -41,11 +41,11 @@ step_live : (w : World) (e : Event) → w.halted ≡ false → step w e ≡ live
 unfolding step
 step_live w e live = ap (λ (b : Bool). cond b w (live_step w e)) live
 
-answer_live : (w : World) (e : Event) → w.halted ≡ false → answer w e ≡ live_answer w e
+pub answer_live : (w : World) (e : Event) → w.halted ≡ false → answer w e ≡ live_answer w e
 unfolding answer
 answer_live w e live = ap (λ (b : Bool). cond b Halted (live_answer w e)) live
 
-world_live : (es : List Event) (e : Event) → is_live es ≡ true → world_of (es ++ e ∷ []) ≡ live_step (world_of es) e
+pub world_live : (es : List Event) (e : Event) → is_live es ≡ true → world_of (es ++ e ∷ []) ≡ live_step (world_of es) e
 world_live es e live = world_push es e ∙ step_live (world_of es) e (live_world es live)
 
 -- one more event, where no halt came

@@ -1,0 +1,5 @@
+pub mod PatternSharing
+pub mod TextSharing
+pub mod MapSharing
+pub mod ConfSharing
+pub mod CoreSharing

@@ -1,0 +1,6 @@
+pub mod SlotLemmas
+pub mod HeldLemmas
+pub mod ToldLemmas
+pub mod CallerLemmas
+mod ListedLemmas
+pub mod HallSharing

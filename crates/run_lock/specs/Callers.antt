@@ -1,0 +1,84 @@
+-- What the caller of a run ordered, and which configuration is in force by that.
+use Rattle.std.specs.Prelude.{◌≡◌, ℕ, ℤ, List, [], ◌∷◌, ◌++◌, length, take, Option, Some, None, Result, Ok, Err}
+use Rattle.config_fields.specs.declared.fault.ConfFault.{ConfFault}
+use Rattle.jobs_in_force.specs.Jobs.{Unlisted, UnknownJob, UnknownFile, Faulty, loaded, updated}
+use Rattle.jobs_in_force.specs.declared.jobs.Filed.{Filed}
+use Rattle.jobs_in_force.specs.declared.jobs.InForce.{InForce}
+use Rattle.journal_text.specs.declared.events.Event.{Event}
+use Rattle.journal_text.specs.declared.events.Event.TheVariants.{Load, Targets, Tick, Sweep, Finish, Halt}
+use Rattle.scrape_config.specs.declared.conf.Group.{Group}
+use Rattle.scrape_machine.specs.Machine.{after_load, after_update, or_else, world_of}
+use Rattle.scrape_machine.specs.declared.answers.Answer.{Answer}
+use Rattle.scrape_machine.specs.declared.answers.Answer.TheVariants.{Loaded, Updated, Refused, NoJob, NoFile}
+use Rattle.seat_notes.specs.Desks.{of}
+use Rattle.seat_notes.specs.declared.desk.Act.{Act}
+use Rattle.seat_notes.specs.declared.desk.View.{View}
+use Rattle.run_lock.specs.Held.{events_of, events_in}
+use Rattle.run_lock.specs.declared.tasks.Order.{Order}
+use Rattle.run_lock.specs.declared.tasks.Order.TheVariants as order
+
+-- the order that an event is, and the orders among events
+abbrev pub order_in : Event → List Order
+order_in (Load m text) = order.Load text ∷ []
+order_in (Targets m job file text) = order.Update job file text ∷ []
+order_in (Tick m k) = []
+order_in (Sweep m) = []
+order_in (Finish k took r) = []
+order_in (Halt m) = []
+
+abbrev pub orders_in : List Event → List Order
+orders_in [] = []
+orders_in (e ∷ es) = order_in e ++ orders_in es
+
+-- the configuration in force after an order: another one where it is taken
+abbrev pub jobs_by : List InForce → Order → List InForce
+jobs_by jobs (order.Load text) = or_else (after_load (loaded jobs text)) jobs
+jobs_by jobs (order.Update job file text) = or_else (after_update jobs job file (updated jobs job file text)) jobs
+
+abbrev pub jobs_after : List InForce → List Order → List InForce
+jobs_after jobs [] = jobs
+jobs_after jobs (o ∷ os) = jobs_after (jobs_by jobs o) os
+
+-- what a caller's pass tells: its orders, and the configuration in force by them
+abbrev pub ordered : View → List Order
+ordered v = orders_in (events_in v.mine)
+
+abbrev pub jobs_known : List Event → View → List InForce
+jobs_known start v = jobs_after (world_of start).jobs (ordered v)
+
+-- the journal begins with the events that came before the run; the events of the caller's seat are those and the ones that it noted, and they
+-- say what is in force
+pub record IsBegun (start es : List Event) (seats : List ℕ) (log : List Act) : Type 0 where
+  pub front : take (length start) es ≡ start
+  pub told : events_of 0 es seats ≡ start ++ events_in (of 0 log)
+  pub jobs : (world_of es).jobs ≡ jobs_after (world_of start).jobs (orders_in (events_in (of 0 log)))
+
+-- the answer to an order, where these jobs are in force
+abbrev pub LoadAnswered : Result (List Filed) ConfFault → Answer → Type 0
+LoadAnswered (Err fault) a = a ≡ Refused fault
+LoadAnswered (Ok fs) a = (closed : ℕ) × (begun : ℕ) × (a ≡ Loaded closed begun)
+
+-- the fault for which a load isn't taken
+abbrev pub load_fault : Result (List Filed) ConfFault → Option ConfFault
+load_fault (Err fault) = Some fault
+load_fault (Ok fs) = None
+
+abbrev pub UpdateAnswered : Result (List Group) Unlisted → Answer → Type 0
+UpdateAnswered (Err UnknownJob) a = a ≡ NoJob
+UpdateAnswered (Err UnknownFile) a = a ≡ NoFile
+UpdateAnswered (Err (Faulty fault)) a = a ≡ Refused fault
+UpdateAnswered (Ok groups) a = (closed : ℕ) × (begun : ℕ) × (a ≡ Updated closed begun)
+
+abbrev pub IsAnswered : List InForce → Order → Answer → Type 0
+IsAnswered jobs (order.Load text) a = LoadAnswered (loaded jobs text) a
+IsAnswered jobs (order.Update job file text) a = UpdateAnswered (updated jobs job file text) a
+
+-- a journal that begins with these events
+abbrev pub BeginsWith : List Event → List Event → Type 0
+BeginsWith start es = (rest : List Event) × (es ≡ start ++ rest)
+
+-- the events of the caller's seat at the end: those that came before the run, those that its pass tells, and the halt
+pub record IsOfCaller (start es : List Event) (seats : List ℕ) (v : View) : Type 0 where
+  pub begins : BeginsWith start es
+  pub halted : ℤ
+  pub events : events_of 0 es seats ≡ start ++ (events_in v.mine ++ Halt halted ∷ [])

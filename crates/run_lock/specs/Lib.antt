@@ -1,0 +1,4 @@
+pub mod Callers
+pub mod Held
+pub mod Listed
+pub mod Tasks

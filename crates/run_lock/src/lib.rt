@@ -1,0 +1,16 @@
+//! What lies under the one lock of a run, which is held for a step only: the core with the seats of its events, the tickets that are out, and
+//! what is still to come. Beside it lies a desk through which each note of a seat goes: the pass under the lock knows all notes, and the pass of
+//! each seat its own, so the journal is known to be whole once the loops are over.
+//! Contracts see the journal as its list of events.
+#![tactic(auto)]
+
+pub mod hall;
+pub mod listed;
+pub mod passes;
+pub mod station;
+pub mod tasks;
+
+pub use hall::Hall;
+pub use listed::Listed;
+pub use station::Station;
+pub use tasks::Task;
