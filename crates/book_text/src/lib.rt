@@ -8,7 +8,7 @@ pub mod printing;
 pub mod rooms;
 pub mod summaries;
 
-pub use printing::{PrintError, print_book};
+pub use printing::{PrintError, Printer, print_book};
 pub use summaries::summary_of;
 
 #[cfg(test)]

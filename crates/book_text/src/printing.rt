@@ -11,6 +11,7 @@ use label_set::NoMemory;
 use outside::{Sink, SinkFault};
 use report_samples::Entry;
 use std::alloc::Global;
+use std::marker::Model;
 
 /// A page is put when it has at least so many bytes.
 const PAGE: usize = 65_536;
@@ -152,6 +153,49 @@ fn print_pages<O: Sink>(
     put_page(page, out)
 }
 
+/// A book that is ready to be printed: all memory for that is taken. Contracts see its entries.
+#[derive(Drop)]
+pub struct Printer<'b> {
+    page: Vec<u8>,
+    most: usize,
+    book: &'b Book,
+}
+
+impl<'b> Model for Printer<'b> {
+    ghost use Rattle.std.specs.Prelude.{List};
+    ghost use Rattle.report_samples.specs.declared.entries.Entry.{Entry as EntryView};
+
+    ghost Value = { List EntryView };
+
+    ghost use Rattle.std.specs.Prelude.{◌≡◌, ◌≤◌, ◌+◌, [], vec_capacity};
+    ghost use Rattle.book_text.specs.Texts.{AreWithin};
+
+    ghost view = { λ p. p.book.now.entries };
+
+    ghost invariant = { λ p. (p.page.items ≡ []) × AreWithin p.most p.book.now.entries × (65536 + (11 + p.most) ≤ vec_capacity p.page) };
+}
+
+impl<'b> Printer<'b> {
+    /// Takes the memory for printing a book.
+    pub fn open(alloc: Global, book: &'b Book) -> Result<Printer<'b>, NoMemory>
+        ensures { IfOk result (λ p. p ≡ book.now.entries) }
+    {
+        let most = longest(book)?;
+        let mut page = Vec::new(alloc);
+        page.reserve(PAGE + (MARK + most)).map_err(NoMemory::from)?;
+        Ok(Printer { page, most, book })
+    }
+
+    /// Prints the book, each line with its verdict in front where that is wanted. No memory.
+    pub fn print<O: Sink>(self, kept: bool, out: &mut O) -> Result<(), SinkFault>
+        ensures whole { OnOk result (Took (spec.printed kept self.entry) (used (O.seen out.old) (O.seen out.new))) }
+        ensures cut { OnErr result (Cut (spec.printed kept self.entry) (used (O.seen out.old) (O.seen out.new))) }
+    {
+        let mut page = self.page;
+        print_pages(&mut page, self.most, kept, self.book, out)
+    }
+}
+
 /// Prints a book, each line with its verdict in front where that is wanted. All memory is taken before the first put.
 pub fn print_book<O: Sink>(
     alloc: Global,
@@ -163,10 +207,8 @@ pub fn print_book<O: Sink>(
     ensures cut { IsErrOf result PrintError.WriteFault → Cut (spec.printed kept book.now.entries) (used (O.seen out.old) (O.seen out.new)) }
     ensures kept { IsErrOf result PrintError.NoMemory → IsUntouched (used (O.seen out.old) (O.seen out.new)) }
 {
-    let most = longest(book)?;
-    let mut page = Vec::new(alloc);
-    page.reserve(PAGE + (MARK + most)).map_err(NoMemory::from)?;
-    match print_pages(&mut page, most, kept, book, out) {
+    let printer = Printer::open(alloc, book)?;
+    match printer.print(kept, out) {
         Ok(()) => Ok(()),
         Err(_) => Err(PrintError::WriteFault),
     }

@@ -1,0 +1,166 @@
+-- How a run from the command line ends, and what it leaves of each outside object ("Storage" of the Prometheus documentation: what was scraped
+-- outlives the process; "Configuration": a configuration that is refused starts nothing).
+use Rattle.std.specs.Prelude.{◌≡◌, ◌≤◌, ◌<◌, ◌⊎◌, ⊤, ℕ, ℤ, ◌+◌, Bool, List, [], ◌∷◌, ◌++◌, length, Option, Ok, Err}
+use Rattle.config_fields.specs.declared.fault.ConfFault.{ConfFault}
+use Rattle.jobs_in_force.specs.Jobs.{loaded}
+use Rattle.jobs_in_force.specs.declared.jobs.Filed.{Filed}
+use Rattle.journal_text.specs.declared.events.Event.{Event}
+use Rattle.journal_text.specs.declared.events.Event.TheVariants.{Load}
+use Rattle.journal_text.specs.Events.{journal_text}
+use Rattle.outside.specs.Fetches.{FetchSeen}
+use Rattle.outside.specs.Objects.{ShelfSeen, SinkSeen, Use, Adds, Cut, FailedToRead, HasFile, HasLongerFile, IsUntouched, LacksFile, MetLonger, Missed, Rose, Took}
+use Rattle.outside.specs.Sizes.{most_text_bytes}
+use Rattle.outside.specs.Sources.{SourceSeen}
+use Rattle.book_text.specs.Texts.{printed}
+use Rattle.scrape_core.specs.Records.{IsWhole}
+use Rattle.scrape_machine.specs.Machine.{book_of}
+use Rattle.run_lock.specs.Callers.{BeginsWith}
+use Rattle.station.specs.Control.{CallerTells}
+use Rattle.station.specs.Crews.{AllTell, TellsSweeps}
+use Rattle.station.specs.Ends.{ShelfWent, SinkWent, SourceWent, IsShort}
+use Rattle.station.specs.declared.ends.RunEnd.{RunEnd}
+use Rattle.station.specs.declared.ends.RunEnd.TheVariants as run
+use Rattle.live_run.specs.declared.asked.LiveEnd.{LiveEnd}
+use Rattle.live_run.specs.declared.asked.LiveEnd.TheVariants.{Done, ControlFault, ControlLong, Absent, TooLong, Config, ReadFault, WriteFault, NoMemory}
+
+-- the file of the configuration was not read, for this reason
+abbrev pub IsUnread : LiveEnd → List ℕ → Use ShelfSeen → Type 0
+IsUnread Absent file shelf = LacksFile shelf.before file × Missed shelf
+IsUnread TooLong file shelf = HasLongerFile shelf.before file most_text_bytes × MetLonger shelf
+IsUnread ReadFault file shelf = FailedToRead shelf
+IsUnread NoMemory file shelf = IsUntouched shelf
+IsUnread _ file shelf = ⊥
+
+-- the text was not taken as a first load
+abbrev pub IsUnloaded : LiveEnd → List ℕ → Type 0
+IsUnloaded (Config fault) text = loaded [] text ≡ Err fault
+IsUnloaded NoMemory text = ⊤
+IsUnloaded _ text = ⊥
+
+-- the file, read as it is, is refused as a first load
+abbrev pub IsRefused : ConfFault → List ℕ → Use ShelfSeen → Type 0
+IsRefused fault file shelf = (text : List ℕ) × HasFile shelf.before file text × (length text ≤ most_text_bytes) × (loaded [] text ≡ Err fault) × IsUntouched shelf
+
+-- the run did not begin, for this reason
+abbrev pub IsUnstarted : LiveEnd → List ℕ → Use ShelfSeen → Type 0
+IsUnstarted (Config fault) file shelf = IsRefused fault file shelf
+IsUnstarted e file shelf = IsUnread e file shelf
+
+-- the text is taken as a first load
+abbrev pub IsTaken : List ℕ → Type 0
+IsTaken text = (jobs : List Filed) × (loaded [] text ≡ Ok jobs)
+
+-- the journal of one load: the file as it is, which is taken, at this moment
+abbrev pub IsFirst : ℤ → List ℕ → ShelfSeen → List Event → Type 0
+IsFirst moment file shelf es = (text : List ℕ) × HasFile shelf file text × IsTaken text × (es ≡ Load moment text ∷ [])
+
+-- a put failed: of the journal, and nothing was put of the book; or of the book
+abbrev pub WroteFront : Bool → List Event → Use SinkSeen → Use SinkSeen → Type 0
+WroteFront kept es trail out =
+    (Cut (journal_text es) trail × IsUntouched out) ⊎ (Took (journal_text es) trail × Cut (printed kept (book_of es)) out)
+
+-- what was asked of a run
+pub record Wanted : Type 0 where
+  pub file : List ℕ
+  pub turns : ℕ
+  pub kept : Bool
+
+abbrev pub wanted : List ℕ → ℕ → Bool → Wanted
+wanted file turns kept = record { file = file; turns = turns; kept = kept }
+
+-- what it made of the objects that it was lent, and of those that it was given; of control, what it had left, where it tells that
+pub record Touched : Type 0 where
+  pub shelf : Use ShelfSeen
+  pub out : Use SinkSeen
+  pub err : Use SinkSeen
+  pub trail : Use SinkSeen
+  pub control : Option (List ℕ)
+  pub fetchers : Use (List FetchSeen)
+
+abbrev pub touched : Use ShelfSeen → Use SinkSeen → Use SinkSeen → Use SinkSeen → Option (List ℕ) → Use (List FetchSeen) → Touched
+touched shelf out err trail control fetchers = record { shelf = shelf; out = out; err = err; trail = trail; control = control; fetchers = fetchers }
+
+-- the journal of a run: it begins with the load of the file as it is, it is whole, and for some seats of its events the sweeps are those of the
+-- ticker, the finishes of each worker those that its fetcher brought, and the rest are what control asked for
+pub record IsRunOf (end : RunEnd) (w : Wanted) (t : Touched) (es : List Event) : Type 0 where
+  pub moment : ℤ
+  pub text : List ℕ
+  pub has : HasFile t.shelf.before w.file text
+  pub taken : IsTaken text
+  pub begins : BeginsWith (Load moment text ∷ []) es
+  pub whole : IsWhole es
+  pub seats : List ℕ
+  pub each : length seats ≡ length es
+  pub sweeps : TellsSweeps w.turns es seats
+  pub workers : AllTell 0 es seats t.fetchers.before t.fetchers.after
+  pub caller : CallerTells (Load moment text ∷ []) end t.shelf t.control es seats t.err
+
+-- the text of that journal went to the trail, and then that of its book to the output
+pub record Wrote (end : RunEnd) (w : Wanted) (t : Touched) : Type 0 where
+  pub journal : List Event
+  pub run : IsRunOf end w t journal
+  pub trail : Took (journal_text journal) t.trail
+  pub book : Took (printed w.kept (book_of journal)) t.out
+
+-- or fronts of them, for a put that failed
+pub record WroteSome (w : Wanted) (t : Touched) : Type 0 where
+  pub end : RunEnd
+  pub journal : List Event
+  pub run : IsRunOf end w t journal
+  pub front : WroteFront w.kept journal t.trail t.out
+
+-- neither had anything put to it
+pub record WroteNothing (t : Touched) : Type 0 where
+  pub trail : IsUntouched t.trail
+  pub out : IsUntouched t.out
+
+-- how a run ends: what was written, by its end
+abbrev pub Writes : LiveEnd → Wanted → Touched → Type 0
+Writes Done w t = Wrote run.Done w t
+Writes ControlFault w t = Wrote run.ReadFault w t
+Writes ControlLong w t = Wrote run.TooLong w t
+Writes WriteFault w t = WroteSome w t ⊎ (WroteNothing t × Rose t.err.before.faults t.err.after.faults)
+Writes _ w t = WroteNothing t
+
+-- why it ended so, where it began: what control gave, and which count rose
+abbrev pub Stopped : LiveEnd → Use ShelfSeen → Use SourceSeen → Type 0
+Stopped Done shelf control = IsShort control
+Stopped ControlFault shelf control = IsShort control × (Rose shelf.before.faults shelf.after.faults ⊎ Rose control.before.faults control.after.faults)
+Stopped ControlLong shelf control = control.before.given + 1048576 < control.after.given
+Stopped _ shelf control = ⊤
+
+-- the end of a run whose journal and book are written, by that of its control
+abbrev pub written_end : RunEnd → LiveEnd
+written_end run.Done = Done
+written_end run.ReadFault = ControlFault
+written_end run.TooLong = ControlLong
+written_end run.WriteFault = WriteFault
+written_end run.NoMemory = NoMemory
+
+-- what is written of a run that is over, and how that ends
+abbrev pub WrittenSo : LiveEnd → LiveEnd → Bool → List Event → Use SinkSeen → Use SinkSeen → Type 0
+WrittenSo end WriteFault kept es trail out = WroteFront kept es trail out
+WrittenSo end NoMemory kept es trail out = IsUntouched trail × IsUntouched out
+WrittenSo end e kept es trail out = (e ≡ end) × Took (journal_text es) trail × Took (printed kept (book_of es)) out
+
+abbrev pub Finishes : RunEnd → Bool → List Event → LiveEnd → Use SinkSeen → Use SinkSeen → Type 0
+Finishes run.NoMemory kept es e trail out = (e ≡ NoMemory) × IsUntouched trail × IsUntouched out
+Finishes run.WriteFault kept es e trail out = (e ≡ WriteFault) × IsUntouched trail × IsUntouched out
+Finishes run.Done kept es e trail out = WrittenSo Done e kept es trail out
+Finishes run.ReadFault kept es e trail out = WrittenSo ControlFault e kept es trail out
+Finishes run.TooLong kept es e trail out = WrittenSo ControlLong e kept es trail out
+
+-- and why it did not begin: nothing but the shelf was touched then
+abbrev pub Began : LiveEnd → Wanted → Touched → Type 0
+Began Absent w t = IsUnstarted Absent w.file t.shelf × IsUntouched t.err
+Began TooLong w t = IsUnstarted TooLong w.file t.shelf × IsUntouched t.err
+Began (Config fault) w t = IsUnstarted (Config fault) w.file t.shelf × IsUntouched t.err
+Began ReadFault w t = IsUnstarted ReadFault w.file t.shelf × IsUntouched t.err
+Began _ w t = ⊤
+
+-- how a run ends
+pub record Ended (e : LiveEnd) (w : Wanted) (t : Touched) : Type 0 where
+  pub writes : Writes e w t
+  pub began : Began e w t
+  pub shelf : ShelfWent t.shelf
+  pub err : SinkWent t.err

@@ -1,0 +1,32 @@
+use Rattle.crossbeam_queue.specs.Passes.{view}
+use Rattle.std.proofs.Common.{◌∙◌, ◌+◌, ℕ, List, sym, refl, subst}
+use Rattle.std.specs.Prelude.{IfSome}
+use Rattle.run_lock.specs.Callers.{jobs_known}
+use Rattle.outside.specs.Objects.{used}
+use Rattle.station.specs.Control.{HasDone, line_did}
+use Rattle.station.proofs.ControlLemmas.{other_read, other_did, feed_read, feed_did}
+use Rattle.station.proofs.OrderLemmas.{if_all, if_map, on_ok_is, no_feed, a_feed}
+use Rattle.station.proofs.control.do_byte.Goals as goal
+
+pub returns-in-Ok-clause-read : goal.returns-in-Ok-clause-read
+returns-in-Ok-clause-read g c = other_read c.args.reader.now _ c.args.byte (no_feed c.args.byte c.if-byte-ne10.true) c.in-Ok.ensures.items refl
+
+pub returns-in-Ok-clause-did : goal.returns-in-Ok-clause-did
+returns-in-Ok-clause-did g c =
+    let e = g.E.Sink.seen c.args.err.now in
+    let v = view c.args.seat in
+    if_all (g.S.Shelf.seen c.args.shelf.now).files (λ files. other_did files (jobs_known g.B.Room.start v) c.args.reader.now c.args.byte v v e e (no_feed c.args.byte c.if-byte-ne10.true) refl refl)
+
+pub returns-clause-read : goal.returns-clause-read
+returns-clause-read g c = feed_read c.args.reader.now _ c.args.byte (a_feed c.args.byte c.if-byte-ne10.false) c.clear.ensures.items refl
+
+pub returns-clause-did : goal.returns-clause-did
+returns-clause-did g c =
+    let o = (g.S.Shelf.seen c.args.shelf.now).files in
+    let jobs = jobs_known g.B.Room.start (view c.args.seat) in
+    let v = view c.args.seat in
+    let w = view c.do_line-done.result.1 in
+    let u = used (g.E.Sink.seen c.args.err.now) (g.E.Sink.seen c.do_line-done.new.err) in
+    let n = c.args.reader.now.before + 1 in
+    if_map o (λ files h. feed_did files jobs c.args.reader.now c.args.byte v w u (a_feed c.args.byte c.if-byte-ne10.false) h)
+    (subst (λ (line : List ℕ). IfSome o (λ files. HasDone (line_did files jobs n line) v w u)) c.deref.ensures.value (on_ok_is c.do_line-done.result.0 c.in_default.field-0 c.in_default.is c.do_line-done.ensures.did))

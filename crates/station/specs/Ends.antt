@@ -1,0 +1,101 @@
+-- What a run leaves of the outside objects that its caller has, and why its control loop ended.
+use Rattle.std.specs.Prelude.{◌≡◌, ◌≤◌, ◌<◌, ◌⊎◌, ℕ, ◌+◌, Bool, List, Option, Some, None, Result, Ok, Err, if◌then◌else◌}
+use Rattle.outside.specs.Objects.{ShelfSeen, SinkSeen, Use, Adds, Rose}
+use Rattle.outside.specs.Sources.{SourceSeen}
+use Rattle.station.specs.declared.ends.Stop.{Stop}
+use Rattle.station.specs.declared.ends.Stop.TheVariants as stop
+use Rattle.station.specs.declared.ends.RunEnd.{RunEnd}
+use Rattle.station.specs.declared.ends.RunEnd.TheVariants.{Done, ReadFault, WriteFault, TooLong, NoMemory}
+
+-- the counts of a shelf didn't fall, and its files are as before
+pub record ShelfWent (u : Use ShelfSeen) : Type 0 where
+  pub files : u.after.files ≡ u.before.files
+  pub misses : u.before.misses ≤ u.after.misses
+  pub overs : u.before.overs ≤ u.after.overs
+  pub faults : u.before.faults ≤ u.after.faults
+
+-- a sink was put some text, and its count didn't fall
+pub record SinkWent (u : Use SinkSeen) : Type 0 where
+  pub added : (text : List ℕ) × Adds text u
+  pub faults : u.before.faults ≤ u.after.faults
+
+-- an input gave some bytes, and its count didn't fall
+pub record SourceWent (u : Use SourceSeen) : Type 0 where
+  pub given : u.before.given ≤ u.after.given
+  pub faults : u.before.faults ≤ u.after.faults
+
+-- the input gave no more than 1 MiB
+abbrev pub IsShort : Use SourceSeen → Type 0
+IsShort u = u.after.given ≤ u.before.given + 1048576
+
+-- why a control loop ended: where it was read to its end, the input gave at most 1 MiB; so it did where reading failed, and the shelf or the
+-- input counted that; where writing failed, the sink counted that; and it was too long exactly where the input gave more
+abbrev pub EndsSo : RunEnd → Use ShelfSeen → Use SinkSeen → Use SourceSeen → Type 0
+EndsSo Done shelf err control = IsShort control
+EndsSo ReadFault shelf err control = IsShort control × (Rose shelf.before.faults shelf.after.faults ⊎ Rose control.before.faults control.after.faults)
+EndsSo WriteFault shelf err control = Rose err.before.faults err.after.faults
+EndsSo TooLong shelf err control = control.before.given + 1048576 < control.after.given
+EndsSo NoMemory shelf err control = Unit {0}
+
+-- what a stop says of the shelf, and of the sink
+abbrev pub StopSo : Stop → Use ShelfSeen → Use SinkSeen → Type 0
+StopSo stop.ReadFault shelf err = Rose shelf.before.faults shelf.after.faults
+StopSo stop.WriteFault shelf err = Rose err.before.faults err.after.faults
+StopSo stop.NoMemory shelf err = Unit {0}
+
+abbrev pub LineStops : {A : Type 0} → Result A Stop → Use ShelfSeen → Use SinkSeen → Type 0
+LineStops (Ok x) shelf err = Unit {0}
+LineStops (Err s) shelf err = StopSo s shelf err
+
+-- the same of what reads a file alone, and of what writes alone
+abbrev pub FileStop : Stop → Use ShelfSeen → Type 0
+FileStop stop.ReadFault shelf = Rose shelf.before.faults shelf.after.faults
+FileStop stop.WriteFault shelf = ⊥
+FileStop stop.NoMemory shelf = Unit {0}
+
+abbrev pub FileStops : {A : Type 0} → Result A Stop → Use ShelfSeen → Type 0
+FileStops (Ok x) shelf = Unit {0}
+FileStops (Err s) shelf = FileStop s shelf
+
+abbrev pub SaidStop : Stop → Use SinkSeen → Type 0
+SaidStop stop.ReadFault err = ⊥
+SaidStop stop.WriteFault err = Rose err.before.faults err.after.faults
+SaidStop stop.NoMemory err = Unit {0}
+
+abbrev pub SaidStops : {A : Type 0} → Result A Stop → Use SinkSeen → Type 0
+SaidStops (Ok x) err = Unit {0}
+SaidStops (Err s) err = SaidStop s err
+
+-- want of memory is the only stop
+abbrev pub OnlyMemory : Stop → Type 0
+OnlyMemory stop.ReadFault = ⊥
+OnlyMemory stop.WriteFault = ⊥
+OnlyMemory stop.NoMemory = Unit {0}
+
+abbrev pub NoStop : {A : Type 0} → Result A Stop → Type 0
+NoStop (Ok x) = Unit {0}
+NoStop (Err s) = OnlyMemory s
+
+-- how a loop ends with a stop, and after a piece
+abbrev pub end_of : Stop → RunEnd
+end_of stop.ReadFault = ReadFault
+end_of stop.WriteFault = WriteFault
+end_of stop.NoMemory = NoMemory
+
+abbrev pub end_after : Result (Unit {0}) Stop → Bool → Option RunEnd
+end_after (Ok x) long = if long then Some TooLong else None
+end_after (Err stop.ReadFault) long = Some (if long then TooLong else ReadFault)
+end_after (Err stop.WriteFault) long = Some WriteFault
+end_after (Err stop.NoMemory) long = Some NoMemory
+
+-- how it ends with the last line
+abbrev pub LastEnds : RunEnd → Use ShelfSeen → Use SinkSeen → Type 0
+LastEnds Done shelf err = Unit {0}
+LastEnds ReadFault shelf err = Rose shelf.before.faults shelf.after.faults
+LastEnds WriteFault shelf err = Rose err.before.faults err.after.faults
+LastEnds TooLong shelf err = ⊥
+LastEnds NoMemory shelf err = Unit {0}
+
+-- the end of a run, by that of the caller's loop: want of memory anywhere is want of memory
+abbrev pub run_end : Bool → RunEnd → RunEnd
+run_end whole end = if whole then end else NoMemory
