@@ -14,14 +14,14 @@ use Rattle.config_fields.specs.declared.fault.ConfFault.{ConfFault}
 use Rattle.scrape_cli.specs.Checks.{IsFault, IsConf, fault_message}
 use Rattle.scrape_cli.specs.Scripts.{fault_message as script_message}
 use Rattle.synth.specs.declared.scripts.Plan.{Plan}
-use Rattle.scrape_cli.specs.Askings.{Asking, asking}
-use Rattle.scrape_cli.specs.Words.{OfFile, asked_in, file_in, file_asked, limit_of}
-use Rattle.scrape_cli.specs.declared.words.Asked.{Asked}
-use Rattle.scrape_cli.specs.declared.words.Asked.TheVariants.{File, Synth}
+use Rattle.command_words.specs.Askings.{Asking, asking}
+use Rattle.command_words.specs.Words.{OfFile, asked_in, file_in, file_asked, limit_of}
+use Rattle.command_words.specs.declared.words.Asked.{Asked}
+use Rattle.command_words.specs.declared.words.Asked.TheVariants.{File, Synth}
 use Rattle.scrape_cli.specs.Ends.{Call, work_of, Reads, IsOutput, IsOfFile, IsOfScript, IsAskedFor, WorkEnds, Speaks, IsSaid, Ended, status_at}
 use Rattle.scrape_cli.specs.Laws.{Complete, IsTold, TellsNone, TellsLonger, IsRead, IsWritten, IsSound, IsUncounted, IsFreely, Spells, refused_at}
-use Rattle.scrape_cli.specs.declared.words.Command.{Command}
-use Rattle.scrape_cli.specs.declared.words.Command.TheVariants.{Replay, Check}
+use Rattle.command_words.specs.declared.words.Command.{Command}
+use Rattle.command_words.specs.declared.words.Command.TheVariants.{Replay, Check}
 use Rattle.scrape_cli.specs.declared.refusals.Refusal.{Refusal}
 use Rattle.scrape_cli.specs.declared.refusals.Refusal.TheVariants.{BadWords, Absent, Config, Script, ReadFault, WriteFault, NoMemory, TooLong}
 

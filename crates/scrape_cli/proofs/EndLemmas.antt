@@ -7,10 +7,10 @@ use Rattle.journal_text.specs.declared.faults.ScriptFault.{ScriptFault}
 use Rattle.journal_text.specs.Faults.{IsOnlyFault}
 use Rattle.scrape_cli.specs.Checks.{IsFault, fault_message}
 use Rattle.scrape_cli.specs.Scripts.{fault_message as script_message}
-use Rattle.scrape_cli.specs.Words.{file_in}
+use Rattle.command_words.specs.Words.{file_in}
 use Rattle.scrape_cli.specs.Ends.{Call, work_of, Reads, Prints, IsRefused, WorkEnds, Speaks, IsSaid, Ended, status_at, status_of, message_of}
 use Rattle.scrape_cli.specs.Laws.{Causes, NoCountFell, IsStatus}
-use Rattle.scrape_cli.specs.declared.words.Command.TheVariants.{Replay, Check}
+use Rattle.command_words.specs.declared.words.Command.TheVariants.{Replay, Check}
 use Rattle.scrape_cli.specs.declared.refusals.Refusal.{Refusal}
 use Rattle.scrape_cli.specs.declared.refusals.Refusal.TheVariants.{BadWords, Absent, Config, Script, ReadFault, WriteFault, NoMemory, TooLong}
 

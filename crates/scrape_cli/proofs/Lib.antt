@@ -2,5 +2,5 @@ pub mod SaidLemmas
 pub mod ScriptLemmas
 pub mod EndLemmas
 pub mod DueLemmas
-pub mod WordLemmas
 pub mod PrintLemmas
+mod LiveLemmas

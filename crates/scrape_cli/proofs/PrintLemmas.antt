@@ -12,11 +12,11 @@ use Rattle.jobs_in_force.specs.declared.jobs.Filed.{Filed}
 use Rattle.synth.specs.Scripts.{script_events}
 use Rattle.synth.specs.declared.scripts.Plan.{Plan}
 use Rattle.scrape_cli.specs.Checks.{IsConf, ok_line}
-use Rattle.scrape_cli.specs.Askings.{asking}
-use Rattle.scrape_cli.specs.Words.{limit_of}
+use Rattle.command_words.specs.Askings.{asking}
+use Rattle.command_words.specs.Words.{limit_of}
 use Rattle.scrape_cli.specs.Ends.{work, IsAskedFor, IsDone, IsRefused}
-use Rattle.scrape_cli.specs.declared.words.Asked.TheVariants.{File, Synth}
-use Rattle.scrape_cli.specs.declared.words.Command.TheVariants.{Replay, Check}
+use Rattle.command_words.specs.declared.words.Asked.TheVariants.{File, Synth}
+use Rattle.command_words.specs.declared.words.Command.TheVariants.{Replay, Check}
 use Rattle.scrape_cli.specs.declared.refusals.Refusal.TheVariants.{WriteFault}
 
 module _ (kept : Bool) (file bytes slice : List ℕ) (journal : List Event) (entries : List Entry) (shelf : Use ShelfSeen) (out : Use SinkSeen)

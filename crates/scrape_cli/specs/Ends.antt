@@ -12,12 +12,12 @@ use Rattle.scrape_cli.specs.Scripts.{fault_message as script_message}
 use Rattle.book_text.specs.Summaries.{summary_text}
 use Rattle.synth.specs.Scripts.{script_events}
 use Rattle.synth.specs.declared.scripts.Plan.{Plan}
-use Rattle.scrape_cli.specs.Askings.{asking}
-use Rattle.scrape_cli.specs.Words.{OfFile, asked_in, file_in, limit_of}
-use Rattle.scrape_cli.specs.declared.words.Asked.{Asked}
-use Rattle.scrape_cli.specs.declared.words.Asked.TheVariants.{File, Synth}
-use Rattle.scrape_cli.specs.declared.words.Command.{Command}
-use Rattle.scrape_cli.specs.declared.words.Command.TheVariants.{Replay, Check}
+use Rattle.command_words.specs.Askings.{asking}
+use Rattle.command_words.specs.Words.{OfFile, asked_in, file_in, limit_of}
+use Rattle.command_words.specs.declared.words.Asked.{Asked}
+use Rattle.command_words.specs.declared.words.Asked.TheVariants.{File, Synth}
+use Rattle.command_words.specs.declared.words.Command.{Command}
+use Rattle.command_words.specs.declared.words.Command.TheVariants.{Replay, Check}
 use Rattle.scrape_cli.specs.declared.refusals.Refusal.{Refusal}
 use Rattle.scrape_cli.specs.declared.refusals.Refusal.TheVariants.{BadWords, Absent, Config, Script, ReadFault, WriteFault, NoMemory, TooLong}
 

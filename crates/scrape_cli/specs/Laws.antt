@@ -11,11 +11,11 @@ use Rattle.scrape_cli.specs.Checks.{IsConf, IsFault, fault_message}
 use Rattle.scrape_cli.specs.Scripts.{fault_message as script_message}
 use Rattle.scrape_cli.specs.Ends.{Call, work_of, Ended, Reads, Prints, PrintsFront, IsSaid, message_of, status_of}
 use Rattle.synth.specs.declared.scripts.Plan.{Plan}
-use Rattle.scrape_cli.specs.Askings.{Asking, asking}
-use Rattle.scrape_cli.specs.Words.{OfFile, asked_in, file_in, limit_of}
-use Rattle.scrape_cli.specs.declared.words.Asked.TheVariants.{File, Synth}
-use Rattle.scrape_cli.specs.declared.words.Command.{Command}
-use Rattle.scrape_cli.specs.declared.words.Command.TheVariants.{Replay, Check}
+use Rattle.command_words.specs.Askings.{Asking, asking}
+use Rattle.command_words.specs.Words.{OfFile, asked_in, file_in, limit_of}
+use Rattle.command_words.specs.declared.words.Asked.TheVariants.{File, Synth}
+use Rattle.command_words.specs.declared.words.Command.{Command}
+use Rattle.command_words.specs.declared.words.Command.TheVariants.{Replay, Check}
 use Rattle.scrape_cli.specs.declared.refusals.Refusal.{Refusal}
 
 -- what each status says of the call

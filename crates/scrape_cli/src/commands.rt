@@ -2,22 +2,22 @@
 ghost use Rattle.std.specs.Prelude.{◌≡◌, ◌≤◌, Bool, length, Some, IfOk, IfErr, OnOk, IsErrOf};
 ghost use Rattle.outside.specs.Objects.{ShelfSeen, SinkSeen, used, HasFile, IsUntouched};
 ghost use Rattle.scrape_cli.specs.Ends.{work, WorkEnds, IsRefused};
-ghost use Rattle.scrape_cli.specs.Askings.{asking};
-ghost use Rattle.scrape_cli.specs.Words as words;
-ghost use Rattle.scrape_cli.specs.declared.words.Asked.TheVariants.{File, Synth};
+ghost use Rattle.command_words.specs.Askings.{asking};
+ghost use Rattle.command_words.specs.Words as words;
+ghost use Rattle.command_words.specs.declared.words.Asked.TheVariants.{File, Synth};
 ghost use Rattle.book_text.specs.Summaries.{summary_text};
 ghost use Rattle.scrape_machine.specs.Machine.{book_of};
 ghost use Rattle.synth.specs.Scripts.{script_events};
-ghost use Rattle.scrape_cli.specs.declared.words.Command.TheVariants.{Replay, Check};
+ghost use Rattle.command_words.specs.declared.words.Command.TheVariants.{Replay, Check};
 
 use crate::checks::{conf_of, print_ok};
-use crate::means::Means;
 use crate::refusals::Refusal;
 use crate::replays::replayed;
-use crate::words::{Asked, Command, OfFile, Workload, limit_of};
 use book_text::{PrintError, print_book, summary_of};
+use command_words::{Asked, Command, OfFile, Workload, limit_of};
 use journal_text::ScriptError;
 use label_set::{Blob, NoMemory};
+use live_run::Means;
 use outside::{Shelf, ShelfError, Sink};
 use scrape_config::ConfError;
 use std::alloc::Global;
@@ -102,7 +102,7 @@ fn check<S: Shelf, O: Sink>(
 fn summary_for(means: Means, load: &Workload) -> Result<Vec<u8>, NoMemory>
     ensures { IfOk result (λ text. text.items ≡ summary_text (length (script_events load.now)) (book_of (script_events load.now))) }
 {
-    let script = make_script(means.alloc, load.seed, load.targets, load.scrapes)?;
+    let script = make_script(means.alloc, load.seed(), load.targets(), load.scrapes())?;
     match replayed(means, script.as_slice()) {
         Ok(core) => summary_of(means.alloc, core.events(), core.book()),
         Err(_) => Err(NoMemory),

@@ -6,25 +6,53 @@
 //! `specs/Checks.antt` what is said of a configuration; the crate `book_text` says how a book is printed.
 #![tactic(auto)]
 
-mod arguments;
+ghost use Rattle.std.specs.Prelude.{◌≡◌, vec_len, IfOk};
+
 mod checks;
 mod commands;
-pub mod means;
 mod messages;
 mod refusals;
 mod replays;
+mod still;
 #[cfg(test)]
 mod tests;
 pub mod tool;
-mod words;
 
-use means::Means;
-use outside::{FileShelf, StdSink};
+use http_fetch::HttpFetch;
+use label_set::Name;
+use live_run::Means;
+use outside::{FileShelf, FileSink, StdSink, StdSource, SystemClock, TcpLink};
 use std::hash::RandomState;
 use std::process::ExitCode;
 use std::rt::HostRuntime;
 use std::{env, io};
 use tool::tool;
+
+/// Where a run writes its journal.
+const TRAIL: &str = "scrape.journal";
+
+/// The status for want of memory.
+const NO_MEMORY: u8 = 8;
+
+/// What fetches over HTTP, by the system's clock.
+type Fetcher = HttpFetch<TcpLink<HostRuntime>, SystemClock<HostRuntime>>;
+
+fn fetcher(rt: &HostRuntime) -> Result<Fetcher, io::Error> {
+    let link = TcpLink::new(rt.clone()?);
+    let clock = SystemClock::new(rt.clone()?);
+    Ok(HttpFetch::new(rt.alloc(), link, clock))
+}
+
+/// Four fetchers, so that as many scrapes are fetched beside one another.
+fn fetchers(rt: &HostRuntime) -> Result<Vec<Fetcher>, io::Error>
+    ensures { IfOk result (λ v. vec_len v ≡ 4) }
+{
+    let one = fetcher(rt)?;
+    let two = fetcher(rt)?;
+    let three = fetcher(rt)?;
+    let four = fetcher(rt)?;
+    Ok(vec![in rt.alloc(); one, two, three, four]?)
+}
 
 fn main(rt: HostRuntime) -> Result<ExitCode, io::Error> {
     let alloc = rt.alloc();
@@ -39,11 +67,20 @@ fn main(rt: HostRuntime) -> Result<ExitCode, io::Error> {
     let mut shelf = FileShelf::new(rt.clone()?);
     let mut out = StdSink::new(io::writer(&rt));
     let mut err = StdSink::new(rt.stderr());
+    let Ok(trail_name) = Name::from_str(alloc, TRAIL) else {
+        return Ok(ExitCode::from(NO_MEMORY));
+    };
+    let mut trail = FileSink::new(rt.clone()?, trail_name);
+    let control = StdSource::new(rt.stdin());
+    let clock = SystemClock::new(rt.clone()?);
+    let fetchers = fetchers(&rt)?;
     // the first word is the program's name
     let words = match words.as_slice() {
         [_, rest @ ..] => rest,
         [] => &[],
     };
-    let finished = tool(means, words, &mut shelf, &mut out, &mut err);
+    let finished = tool(
+        &rt, means, words, &mut shelf, &mut out, &mut err, &mut trail, control, clock, fetchers,
+    );
     Ok(ExitCode::from(finished.status))
 }

@@ -1,12 +1,14 @@
 //! Messages of refusals.
 ghost use Rattle.std.specs.Fmt.{decimal};
 ghost use Rattle.std.specs.Prelude.{◌≡◌, ◌++◌, codes, OnOk, OnErr};
+ghost use Rattle.control_lines.specs.Faults.{fault_limit};
 ghost use Rattle.outside.specs.Objects.{used, Took, Cut};
 ghost use Rattle.scrape_cli.specs.Checks as checks;
 ghost use Rattle.scrape_cli.specs.Ends.{IsSaid, message_of};
 ghost use Rattle.scrape_cli.specs.Scripts as scripts;
 
 use crate::refusals::Refusal;
+use control_lines::faults::{fault_place, fault_word};
 use itoa::Buffer;
 use journal_text::{ScriptCause, ScriptFault};
 use outside::{Sink, SinkFault};
@@ -52,39 +54,9 @@ fn say_three<E: Sink>(err: &mut E, first: &[u8], second: &[u8], third: &[u8])
     }
 }
 
-fn fault_word(fault: &ConfFault) -> &'static str
-    ensures { result.now ≡ checks.fault_word fault.now }
-{
-    match fault {
-        ConfFault::NotJson => "NotJson",
-        ConfFault::Shape { .. } => "Shape ",
-        ConfFault::Unknown { .. } => "Unknown ",
-        ConfFault::Missing { .. } => "Missing ",
-        ConfFault::Value { .. } => "Value ",
-        ConfFault::TwiceNamed { .. } => "TwiceNamed ",
-        ConfFault::TooMany { .. } => "TooMany ",
-        ConfFault::Rule { .. } => "Rule ",
-    }
-}
-
-fn fault_place(fault: &ConfFault) -> &str
-    ensures { result.now ≡ checks.fault_place fault.now }
-{
-    match fault {
-        ConfFault::NotJson => "",
-        ConfFault::Shape { place } => place.as_str(),
-        ConfFault::Unknown { place } => place.as_str(),
-        ConfFault::Missing { place } => place.as_str(),
-        ConfFault::Value { place } => place.as_str(),
-        ConfFault::TwiceNamed { job } => job.as_str(),
-        ConfFault::TooMany { place, .. } => place.as_str(),
-        ConfFault::Rule { place } => place.as_str(),
-    }
-}
-
 /// Tries the end of a fault's message: the limit behind a blank, where the fault has one.
 fn say_limit<E: Sink>(err: &mut E, fault: &ConfFault)
-    ensures { IsSaid (checks.fault_limit fault.now ++ codes "\n") (used (E.seen err.old) (E.seen err.new)) }
+    ensures { IsSaid (fault_limit fault.now ++ codes "\n") (used (E.seen err.old) (E.seen err.new)) }
 {
     match fault {
         ConfFault::TooMany { limit, .. } => {

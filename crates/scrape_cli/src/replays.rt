@@ -2,9 +2,9 @@
 ghost use Rattle.std.specs.Prelude.{◌≡◌, ◌<◌, IfOk, IfErr};
 ghost use Rattle.journal_text.specs.Faults.{IsJournalOf, Refuses};
 
-use crate::means::Means;
 use journal_text::{Journal, ScriptError, read_journal};
 use label_set::{NoMemory, Steps};
+use live_run::Means;
 use scrape_core::Core;
 use std::marker::Brand;
 use std::sync::ledger::{Blank, Ledger};

@@ -1,9 +1,10 @@
 //! What text can't show: outside objects that fail at a call, and texts at their limits. All else is a case in `tests/cases/`.
 mod cases;
+mod live;
 
-use crate::means::Means;
-use crate::tool::tool;
+use crate::still::tool_still;
 use label_set::{Blob, Name, NoMemory};
+use live_run::Means;
 use md5::{Digest, Md5};
 use outside::{
     CallList, FileList, MemShelf, MemSink, Shelf, ShelfError, StoredFile, SureShelf, SureSink,
@@ -81,9 +82,9 @@ fn run_over<S: Shelf>(
     let alloc = means.alloc;
     let mut out = MemSink::new(alloc, room, fails(alloc, put_fails)?)?;
     let mut err = MemSink::new(alloc, ROOM, fails(alloc, &[])?)?;
-    let finished = tool(means, words, shelf, &mut out, &mut err);
+    let status = tool_still(means, words, shelf, &mut out, &mut err);
     Ok(Ran {
-        status: finished.status,
+        status: status,
         out,
         err,
     })
@@ -213,8 +214,8 @@ fn status_stands_where_the_message_is_not_taken(rt: HostRuntime) -> Result<(), F
     let mut out = SureSink::new()?;
     for call in 0..4 {
         let mut err = MemSink::new(alloc, ROOM, fails(alloc, &[call])?)?;
-        let finished = tool(means, words.as_slice(), &mut shelf, &mut out, &mut err);
-        assert_eq!(rt; finished.status, 3);
+        let status = tool_still(means, words.as_slice(), &mut shelf, &mut out, &mut err);
+        assert_eq!(rt; status, 3);
         assert!(rt; b"scrape: absent none\n".starts_with(err.bytes()));
     }
     Ok(())

@@ -1,144 +1,187 @@
-//! The whole program, over whatever has files and takes bytes.
-ghost use Rattle.std.specs.Prelude.{◌≡◌, ◌≢◌, ℕ, List, map, string_bytes};
+//! The whole program, over whatever has files, takes bytes, gives control lines, tells the time and fetches.
+ghost use Rattle.std.specs.Prelude.{◌≡◌, ◌≢◌, ◌<◌, ◌≤◌, ℕ, List, map, string_bytes, is_some, vec_len, Some, None, IfSome, IsTrue};
 ghost use Rattle.label_set.specs.declared.texts.Pair.{Pair};
 ghost use Rattle.journal_text.specs.declared.events.Event.{Event};
-ghost use Rattle.outside.specs.Objects.{SinkSeen, Use, used, IsUntouched};
+ghost use Rattle.outside.specs.Objects.{used};
 ghost use Rattle.scrape_machine.specs.Machine.{World};
 ghost use Rattle.scrape_laws.specs.Markers.{MarkerLaw};
 ghost use Rattle.scrape_laws.specs.Runs.{ClosedRunsLaw};
 ghost use Rattle.scrape_laws.specs.Late.{LateLaw};
-ghost use Rattle.scrape_cli.specs.Ends as spec;
-ghost use Rattle.scrape_cli.specs.Laws.{Causes, Complete, NoCountFell, IsStatus};
-ghost use Rattle.scrape_cli.specs.Words.{asked_in, file_in, file_asked};
+ghost use Rattle.command_words.specs.Askings.{Running};
+ghost use Rattle.command_words.specs.Words.{order_in};
+ghost use Rattle.command_words.specs.declared.words.Order.TheVariants.{Run};
+ghost use Rattle.live_run.specs.Runs.{touched};
+ghost use Rattle.scrape_cli.specs.Ends.{call};
+ghost use Rattle.scrape_cli.specs.Lives as lives;
+ghost use Rattle.scrape_cli.specs.Lives.{EndedLive, EndedStill, IsAlone, IsStill};
 
-use crate::arguments::{WordsError, asked_in};
-use crate::commands::perform;
-use crate::means::Means;
-use crate::messages::say;
 use crate::refusals::Refusal;
-use crate::words::Asked;
-use outside::{Shelf, Sink};
+use crate::still::{status_at, tell, tool_still};
+use command_words::{Live, Order, WordsError, order_in};
+use live_run::{Asked as AskedRun, LiveEnd, Lived, Means, run_live};
+use outside::{Clock, Fetch, Shelf, Sink, Source};
 use scrape_laws::laws::{closed_runs, late, markers};
+use std::marker::{Send, Sync};
+use std::sync::Wait;
+use std::thread::Threads;
 
-/// What the program ended with.
-#[derive(Clone, Copy, PartialEq, Eq, Debug)]
-pub struct Finished {
+/// What the program ended with, and what it was given.
+#[derive(Drop)]
+pub struct Finished<C, K, F> {
     /// The exit status.
     pub status: u8,
+    pub control: Option<C>,
+    pub clock: Option<K>,
+    pub fetchers: Vec<F>,
 }
 
-/// How the work ended, and the name of the file that was asked for; no name where the words were not read.
+/// What is said of a run that ended: of which file, and which refusal.
 #[derive(Drop)]
-struct Ending<'a> {
-    end: Result<(), Refusal>,
+struct Said<'a> {
     file: &'a str,
+    end: Result<(), Refusal>,
 }
 
-/// The name of the file that is asked for; none where there is no file.
-fn file_of<'a>(asked: &Asked<'a>) -> &'a str
-    ensures { result.now ≡ file_asked asked.now }
+/// What is said of a run's end.
+fn said_of<'a>(end: LiveEnd, file: &'a str) -> Said<'a>
+    ensures file { result.file.now ≡ lives.file_said end file.entry.now }
+    ensures end { result.end ≡ lives.refusal_of end }
 {
-    match asked {
-        Asked::File(of_file) => of_file.file,
-        Asked::Synth(_) => "",
+    let refusal = match end {
+        LiveEnd::Done => return Said { file, end: Ok(()) },
+        LiveEnd::ControlFault => Refusal::ReadFault,
+        LiveEnd::ControlLong => {
+            return Said {
+                file: "control",
+                end: Err(Refusal::TooLong),
+            };
+        }
+        LiveEnd::Absent => Refusal::Absent,
+        LiveEnd::TooLong => Refusal::TooLong,
+        LiveEnd::Config(fault) => Refusal::Config(fault),
+        LiveEnd::ReadFault => Refusal::ReadFault,
+        LiveEnd::WriteFault => Refusal::WriteFault,
+        LiveEnd::NoMemory => Refusal::NoMemory,
+    };
+    Said {
+        file,
+        end: Err(refusal),
     }
 }
 
-/// Does what the words say. What is said of its end by the name is what is said by the file in the words.
-fn run<'a, S: Shelf, O: Sink>(
+/// Makes a live run, and tells of its end.
+fn tool_live<
+    W: Threads + Wait + Sync,
+    S: Shelf,
+    O: Sink,
+    E: Sink,
+    R: Sink,
+    C: Source,
+    K: Clock + Send,
+    F: Fetch + Send,
+>(
+    rt: &W,
     means: Means,
-    words: &'a [String],
+    live: &Live<'_>,
     shelf: &mut S,
     out: &mut O,
-) -> Ending<'a>
-    ensures ends { spec.WorkEnds result.end
-        (spec.work (asked_in (map string_bytes words.entry.now)) (used (S.seen shelf.old) (S.seen shelf.new)) (used (O.seen out.old) (O.seen out.new))) }
-    ensures speaks { (err : Use SinkSeen) → spec.Speaks result.end result.file.now err →
-        spec.Speaks result.end (file_in (map string_bytes words.entry.now)) err }
+    err: &mut E,
+    trail: &mut R,
+    control: C,
+    clock: K,
+    fetchers: Vec<F>,
+) -> Finished<C, K, F>
+    requires fetchers { (0 < vec_len fetchers) × (vec_len fetchers ≤ 1000) }
+    ensures live { EndedLive result.status live.now (touched (used (S.seen shelf.old) (S.seen shelf.new)) (used (O.seen out.old) (O.seen out.new))
+        (used (E.seen err.old) (E.seen err.new)) (used (R.seen trail.old) (R.seen trail.new)) (C.seen control).left (used (map F.seen fetchers.items) (map F.seen result.fetchers.items))) }
+    ensures back { IsTrue (is_some result.control) × IsTrue (is_some result.clock) × (vec_len result.fetchers ≡ vec_len fetchers) }
 {
-    match asked_in(means.alloc, words) {
-        Ok(asked) => Ending {
-            end: perform(means, &asked, shelf, out),
-            file: file_of(&asked),
-        },
-        Err(WordsError::Bad) => Ending {
-            end: Err(Refusal::BadWords),
-            file: "",
-        },
-        Err(WordsError::NoMemory) => Ending {
-            end: Err(Refusal::NoMemory),
-            file: "",
-        },
+    let asked = AskedRun {
+        file: live.file(),
+        turns: live.turns(),
+        kept: live.kept(),
+    };
+    let Lived {
+        end,
+        control,
+        clock,
+        fetchers,
+    } = run_live(
+        rt, means, asked, shelf, out, err, trail, control, clock, fetchers,
+    );
+    let said = said_of(end, live.file());
+    tell(err, said.file, &said.end);
+    Finished {
+        status: status_at(&said.end),
+        control,
+        clock,
+        fetchers,
     }
 }
 
-/// Tells of a refusal.
-fn tell<E: Sink>(err: &mut E, file: &str, end: &Result<(), Refusal>)
-    ensures { spec.Speaks end.now file.now (used (E.seen err.old) (E.seen err.new)) }
+/// Hands back what it was given.
+fn handed_back<C, K, F>(status: u8, control: C, clock: K, fetchers: Vec<F>) -> Finished<C, K, F>
+    ensures status { result.status ≡ status }
+    ensures control { result.control ≡ Some control }
+    ensures clock { result.clock ≡ Some clock }
+    ensures fetchers { result.fetchers ≡ fetchers }
 {
-    match end {
-        Ok(()) => {}
-        Err(refusal) => say(err, file, refusal),
+    Finished {
+        status,
+        control: Some(control),
+        clock: Some(clock),
+        fetchers,
     }
 }
 
-/// The status of a refusal.
-fn status_of(refusal: &Refusal) -> u8
-    ensures { result ≡ spec.status_of refusal.now }
-{
-    match refusal {
-        Refusal::BadWords => 2,
-        Refusal::Absent => 3,
-        Refusal::Config(_) => 4,
-        Refusal::Script(_) => 5,
-        Refusal::ReadFault => 6,
-        Refusal::WriteFault => 7,
-        Refusal::NoMemory => 8,
-        Refusal::TooLong => 9,
-    }
-}
-
-fn status_at(end: &Result<(), Refusal>) -> u8
-    ensures { result ≡ spec.status_at end.now }
-{
-    match end {
-        Ok(()) => 0,
-        Err(refusal) => status_of(refusal),
-    }
-}
-
-/// The program: takes the words after its name, and answers the exit status. How it ends is one table, `specs/Ends.antt`.
+/// The program: takes the words after its name, and answers the exit status. All commands but `run` go through `tool_still`, whose table says
+/// how they end; for them the trail is left alone, and so are control, clock and fetchers. There are 1 to 1,000 fetchers.
+///
+/// `run` loads the file of the words at the clock's reading, makes so many sweeps while control gives its lines, and writes the text of the
+/// run's journal to the trail, and then the text of its book to `out`:
 ///
 /// | status | comes |
 /// |---|---|
-/// | 0 | `replay`: the script was replayed and the whole text of its book, with verdicts where `--kept` was given, added to `out`; `check`: the configuration has no fault, and the line with the number of its jobs was added; `synth`: the script of the numbers was made and replayed, and the summary of its book added |
-/// | 2 | exactly where the words are none of the program's, but for want of memory |
-/// | 3 | the shelf has no file of the name, and counted that |
-/// | 4 | `check`: the configuration has a fault, which the message names |
-/// | 5 | `replay`: the file has the text of no journal, for the fault that the message names, with its offset |
-/// | 6, 7 | reading or writing failed, and was counted |
-/// | 8 | memory ran out |
-/// | 9 | the file is longer than its command takes, and the shelf counted that |
+/// | 0 | the run is over, control was read to its end, and both texts are written |
+/// | 3, 9 | the shelf has no file of the name, or a longer one: nothing began |
+/// | 4 | the configuration is refused: nothing began |
+/// | 6 | reading the file failed: nothing began; or reading control or a file that it names failed: both texts are written |
+/// | 7 | writing to `err` failed while the run lasted: nothing is written; or writing one of the texts did: a front of it is |
+/// | 8 | memory ran out: nothing is written |
+/// | 9 | control gave more than 1 MiB: both texts are written |
 ///
-/// `ended` is that table; `printed`, `unwritten`, `complete` and `later` are what a reader looks for first, and follow from it.
-/// `markers`, `closed_runs` and `late` hold of every journal, so of the one that a script spells: in the book that is printed each closed run of a tracked series
-/// has exactly one stale marker, after it, no marker stands elsewhere, and a fetch that was cancelled adds nothing.
-pub fn tool<S: Shelf, O: Sink, E: Sink>(
+/// `still` says of the other commands how they end, what they print, which status is due, and that no count falls; `live` says it of `run`.
+/// `markers`, `closed_runs` and `late` hold of every journal, so of the one whose book is printed.
+pub fn tool<
+    W: Threads + Wait + Sync,
+    S: Shelf,
+    O: Sink,
+    E: Sink,
+    R: Sink,
+    C: Source,
+    K: Clock + Send,
+    F: Fetch + Send,
+>(
+    rt: &W,
     means: Means,
     words: &[String],
     shelf: &mut S,
     out: &mut O,
     err: &mut E,
-) -> Finished
-    ensures ended { spec.Ended result.status (spec.call (map string_bytes words.now)
+    trail: &mut R,
+    control: C,
+    clock: K,
+    fetchers: Vec<F>,
+) -> Finished<C, K, F>
+    requires fetchers { (0 < vec_len fetchers) × (vec_len fetchers ≤ 1000) }
+    ensures still { IsStill (order_in (map string_bytes words.now)) → EndedStill result.status (call (map string_bytes words.now)
         (used (S.seen shelf.old) (S.seen shelf.new)) (used (O.seen out.old) (O.seen out.new)) (used (E.seen err.old) (E.seen err.new))) }
-    ensures printed { result.status ≡ 0 → spec.Prints
-        (spec.work (asked_in (map string_bytes words.now)) (used (S.seen shelf.old) (S.seen shelf.new)) (used (O.seen out.old) (O.seen out.new))) }
-    ensures unwritten { result.status ≢ 0 → result.status ≢ 7 → IsUntouched (used (O.seen out.old) (O.seen out.new)) }
-    ensures complete { Complete result.status (spec.call (map string_bytes words.now)
-        (used (S.seen shelf.old) (S.seen shelf.new)) (used (O.seen out.old) (O.seen out.new)) (used (E.seen err.old) (E.seen err.new))) }
-    ensures later { NoCountFell (spec.call (map string_bytes words.now)
-        (used (S.seen shelf.old) (S.seen shelf.new)) (used (O.seen out.old) (O.seen out.new)) (used (E.seen err.old) (E.seen err.new))) }
+    ensures alone { IsStill (order_in (map string_bytes words.now)) → IsAlone (used (R.seen trail.old) (R.seen trail.new))
+        (used (map F.seen fetchers.items) (map F.seen result.fetchers.items)) }
+    ensures live { (r : Running) → order_in (map string_bytes words.now) ≡ Some (Run r) → EndedLive result.status r
+        (touched (used (S.seen shelf.old) (S.seen shelf.new)) (used (O.seen out.old) (O.seen out.new)) (used (E.seen err.old) (E.seen err.new))
+        (used (R.seen trail.old) (R.seen trail.new)) (C.seen control).left (used (map F.seen fetchers.items) (map F.seen result.fetchers.items))) }
+    ensures back { IsTrue (is_some result.control) × IsTrue (is_some result.clock) × (vec_len result.fetchers ≡ vec_len fetchers) }
     ensures markers { (journal : List Event) → MarkerLaw journal }
     ensures closed_runs { (journal : List Event) (n : ℕ) (x : List Pair) → ClosedRunsLaw journal n x }
     ensures late { (w : World) → LateLaw w }
@@ -146,15 +189,18 @@ pub fn tool<S: Shelf, O: Sink, E: Sink>(
     markers();
     closed_runs();
     late();
-    let ending = run(means, words, shelf, out);
-    tell(err, ending.file, &ending.end);
-    Finished {
-        status: status_at(&ending.end),
+    match order_in(means.alloc, words) {
+        Ok(Order::Run(live)) => tool_live(
+            rt, means, &live, shelf, out, err, trail, control, clock, fetchers,
+        ),
+        Err(WordsError::NoMemory) => {
+            let end = Err(Refusal::NoMemory);
+            tell(err, "", &end);
+            handed_back(status_at(&end), control, clock, fetchers)
+        }
+        _ => {
+            let status = tool_still(means, words, shelf, out, err);
+            handed_back(status, control, clock, fetchers)
+        }
     }
 }
-
-/// What each status says of a call that ended, whatever its objects are: the cause of each refusal, and its message.
-pub fn causes()
-    ensures causes { (c : spec.Call) → Causes c }
-    ensures statuses { (status : ℕ) (c : spec.Call) → spec.Ended status c → IsStatus status }
-{}

@@ -27,8 +27,8 @@ mod verdicts;
 mod words;
 
 use super::{ROOM, Ran, means_of, run_over};
-use crate::means::Means;
 use label_set::{Blob, Name, NoMemory};
+use live_run::Means;
 use outside::{FileList, StoredFile, SureShelf};
 use std::alloc::{AllocError, Global};
 use std::process::Abort;

@@ -1,5 +1,5 @@
 use Rattle.std.proofs.Common.{codes, ◌++◌, ◌∙◌}
-use Rattle.scrape_cli.specs.Checks.{fault_word, fault_place, fault_limit}
+use Rattle.control_lines.specs.Faults.{fault_word, fault_place, fault_limit}
 use Rattle.scrape_cli.proofs.SaidLemmas.{said_named, cut_named}
 use Rattle.scrape_cli.proofs.messages.say_fault.Goals as goal
 

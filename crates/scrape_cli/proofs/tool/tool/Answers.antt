@@ -1,27 +1,28 @@
-use Rattle.std.specs.Prelude.{map, string_bytes}
+use Rattle.std.proofs.Common.{◌≡◌, ◌∙◌, [], ℕ, map, refl, string_bytes, subst, sym}
 use Rattle.outside.specs.Objects.{used}
+use Rattle.live_run.specs.Runs.{touched}
 use Rattle.scrape_cli.specs.Ends.{call}
-use Rattle.scrape_cli.proofs.EndLemmas.{ended_by, printed_by, unwritten_by, later_by}
-use Rattle.scrape_cli.proofs.DueLemmas.{complete_by}
+use Rattle.scrape_cli.specs.Lives.{EndedLive, EndedStill}
+use Rattle.scrape_cli.proofs.LiveLemmas.{ended_still, live_wanting, still_wanting}
+use Rattle.station.proofs.EndLemmas.{shelf_same, sink_same}
 use Rattle.scrape_cli.proofs.tool.tool.Goals as goal
 
-pub returns-clause-ended : goal.returns-clause-ended
-returns-clause-ended g c = rw c.status_at.ensures (ended_by c.run-ending.result.end _ c.run-ending.ensures.ends (c.run-ending.ensures.speaks _ c.tell.ensures))
+pub returns-in-Err-NoMemory-clause-still : goal.returns-in-Err-NoMemory-clause-still
+returns-in-Err-NoMemory-clause-still g c =
+    let it = call (map string_bytes c.args.words.now) (used (g.S.Shelf.seen c.args.shelf.now) (g.S.Shelf.seen c.args.shelf.now))
+    (used (g.O.Sink.seen c.args.out.now) (g.O.Sink.seen c.args.out.now)) (used (g.E.Sink.seen c.args.err.now) (g.E.Sink.seen c.tell.new.err)) in
+    λ _. subst (λ (s : ℕ). EndedStill s it) (sym (c.handed_back.ensures.status ∙ c.status_at.ensures)) (still_wanting it [] refl refl c.tell.ensures)
 
-pub returns-clause-printed : goal.returns-clause-printed
-returns-clause-printed g c =
-    let it = call (map string_bytes c.args.words.now) (used (g.S.Shelf.seen c.args.shelf.now) (g.S.Shelf.seen c.run-ending.new.shelf))
-    (used (g.O.Sink.seen c.args.out.now) (g.O.Sink.seen c.run-ending.new.out)) (used (g.E.Sink.seen c.args.err.now) (g.E.Sink.seen c.tell.new.err)) in
-    rw c.status_at.ensures (printed_by _ it (ended_by c.run-ending.result.end it c.run-ending.ensures.ends (c.run-ending.ensures.speaks _ c.tell.ensures)))
+pub returns-in-Err-NoMemory-clause-live : goal.returns-in-Err-NoMemory-clause-live
+returns-in-Err-NoMemory-clause-live g c =
+    let shelf = g.S.Shelf.seen c.args.shelf.now in
+    let err = g.E.Sink.seen c.args.err.now in
+    let t = touched (used shelf shelf) (used (g.O.Sink.seen c.args.out.now) (g.O.Sink.seen c.args.out.now)) (used err (g.E.Sink.seen c.tell.new.err)) (used (g.R.Sink.seen c.args.trail.now) (g.R.Sink.seen c.args.trail.now))
+    (g.C.Source.seen c.args.control).left (used (map g.F.Fetch.seen c.args.fetchers.items) (map g.F.Fetch.seen c.handed_back.result.fetchers.items)) in
+    λ r is. subst (λ (s : ℕ). EndedLive s r t) (sym (c.handed_back.ensures.status ∙ c.status_at.ensures)) (live_wanting r t [] refl refl (shelf_same shelf) (sink_same err) c.tell.ensures)
 
-pub returns-clause-unwritten : goal.returns-clause-unwritten
-returns-clause-unwritten g c =
-    let it = call (map string_bytes c.args.words.now) (used (g.S.Shelf.seen c.args.shelf.now) (g.S.Shelf.seen c.run-ending.new.shelf))
-    (used (g.O.Sink.seen c.args.out.now) (g.O.Sink.seen c.run-ending.new.out)) (used (g.E.Sink.seen c.args.err.now) (g.E.Sink.seen c.tell.new.err)) in
-    rw c.status_at.ensures (unwritten_by _ it (ended_by c.run-ending.result.end it c.run-ending.ensures.ends (c.run-ending.ensures.speaks _ c.tell.ensures)))
-
-pub returns-clause-complete : goal.returns-clause-complete
-returns-clause-complete g c = rw c.status_at.ensures (complete_by _ _ (ended_by c.run-ending.result.end _ c.run-ending.ensures.ends (c.run-ending.ensures.speaks _ c.tell.ensures)))
-
-pub returns-clause-later : goal.returns-clause-later
-returns-clause-later g c = later_by _ _ (ended_by c.run-ending.result.end _ c.run-ending.ensures.ends (c.run-ending.ensures.speaks _ c.tell.ensures))
+pub returns-in_default-clause-still : goal.returns-in_default-clause-still
+returns-in_default-clause-still g c =
+    let it = call (map string_bytes c.args.words.now) (used (g.S.Shelf.seen c.args.shelf.now) (g.S.Shelf.seen c.tool_still-status.new.shelf))
+    (used (g.O.Sink.seen c.args.out.now) (g.O.Sink.seen c.tool_still-status.new.out)) (used (g.E.Sink.seen c.args.err.now) (g.E.Sink.seen c.tool_still-status.new.err)) in
+    λ _. subst (λ (s : ℕ). EndedStill s it) (sym c.handed_back-in_default.ensures.status) (ended_still c.tool_still-status.result it c.tool_still-status.ensures.ended)

@@ -1,0 +1,9 @@
+//! The words of the command line: the first is the command, and what `clap` takes behind it is its grammar.
+//! `specs/Words.antt` says what words ask for, `specs/Arguments.antt` which arguments each command has.
+#![tactic(auto)]
+
+pub mod arguments;
+pub mod words;
+
+pub use arguments::{WordsError, asked_in, order_in};
+pub use words::{Asked, Command, Live, OfFile, Order, Verb, Workload, limit_of};

@@ -1,0 +1,326 @@
+//! Live runs over objects in memory: control lines of each kind, and a reload while two fetches are held.
+ghost use Rattle.std.specs.Prelude.{◌≡◌, vec_len, IfOk};
+
+use super::{ROOM, fails, means_of, words_of};
+use crate::still::tool_still;
+use crate::tool::{Finished, tool};
+use label_set::{Blob, Name, NoMemory};
+use live_run::Means;
+use outside::{
+    Clock, Fetch, Fetched, FetchedList, FileList, MemClock, MemFetch, MemShelf, MemSink, MemSource,
+    MomentList, Request, Source, SourceFault, StoredFile,
+};
+use std::alloc::Global;
+use std::marker::{Send, Sync};
+use std::process::Abort;
+use std::sync::atomic::{AtomicU64, Ordering};
+use std::sync::{Arc, Wait};
+use std::test::Fail;
+use std::thread::{Threads, yield_now};
+
+/// How often a gate looks before it gives up.
+const MOST_LOOKS: u32 = 50_000_000;
+
+/// Two targets, and the same with a limit of one.
+const TWO: &str =
+    r#"{"scrape_configs":[{"job_name":"j","static_configs":[{"targets":["a:1","b:1"]}]}]}"#;
+
+const LIMITED: &str =
+    r#"{"scrape_configs":[{"job_name":"j","target_limit":1,"static_configs":[{"targets":["a:1","b:1"]}]}]}"#;
+
+/// How far a run is: how many fetches have begun, and how often control was read.
+#[derive(Drop)]
+struct Stage {
+    begun: AtomicU64,
+    reads: AtomicU64,
+    given_up: AtomicU64,
+}
+
+impl Stage {
+    fn count(&self) -> (u64, u64) {
+        (
+            self.begun.load(Ordering::SeqCst),
+            self.reads.load(Ordering::SeqCst),
+        )
+    }
+
+    /// Waits until so many fetches have begun and control was read so often, or gives up.
+    fn hold(&self, begun: u64, reads: u64) {
+        for _look in 0..MOST_LOOKS {
+            let (now_begun, now_reads) = self.count();
+            if now_begun >= begun && now_reads >= reads {
+                return;
+            }
+            yield_now();
+        }
+        let _ = self.given_up.fetch_add(1, Ordering::SeqCst);
+    }
+}
+
+/// A fetcher whose calls are held until two have begun and control was read again after its line.
+#[derive(Drop)]
+struct HeldFetch {
+    inner: MemFetch,
+    stage: Arc<Stage, Global>,
+}
+
+impl Fetch for HeldFetch {
+    ghost use Rattle.outside.specs.Replies.{failing_seen};
+
+    ghost seen = { λ f. failing_seen f.inner };
+
+    fn fetch(&mut self, alloc: Global, request: &Request) -> Result<Fetched, NoMemory> {
+        let _ = self.stage.begun.fetch_add(1, Ordering::SeqCst);
+        self.stage.hold(2, 2);
+        self.inner.fetch(alloc, request)
+    }
+}
+
+/// A control input whose line is given once two fetches have begun.
+#[derive(Drop)]
+struct HeldSource {
+    inner: MemSource,
+    stage: Arc<Stage, Global>,
+}
+
+impl Source for HeldSource {
+    ghost use Rattle.outside.specs.Inputs.{failing_source_seen};
+
+    ghost seen = { λ s. failing_source_seen s.inner };
+
+    fn read(&mut self, room: &mut [u8]) -> Result<usize, SourceFault> {
+        self.stage.hold(2, 0);
+        let _ = self.stage.reads.fetch_add(1, Ordering::SeqCst);
+        self.inner.read(room)
+    }
+}
+
+/// A clock whose second wait is held as long as the fetches.
+#[derive(Drop)]
+struct HeldClock {
+    inner: MemClock,
+    stage: Arc<Stage, Global>,
+    waits: u64,
+}
+
+impl Clock for HeldClock {
+    ghost use Rattle.std.specs.Prelude.{Some};
+
+    ghost seen = { λ c. record { readings = Some c.inner } };
+
+    fn now(&mut self) -> i64 {
+        self.inner.now()
+    }
+
+    fn wait_until(&mut self, moment: i64) {
+        if self.waits > 0 {
+            self.stage.hold(2, 2);
+        }
+        self.waits = 1;
+        self.inner.wait_until(moment);
+    }
+}
+
+fn held_fetch(alloc: Global, stage: &Arc<Stage, Global>) -> Result<HeldFetch, NoMemory> {
+    let items = Vec::new(alloc);
+    Ok(HeldFetch {
+        inner: MemFetch::new(alloc, FetchedList { items }, fails(alloc, &[])?)?,
+        stage: Arc::try_clone(stage)?,
+    })
+}
+
+fn held_source(alloc: Global, stage: &Arc<Stage, Global>) -> Result<HeldSource, NoMemory> {
+    let text = Blob::from_slice(alloc, b"load d.json\n")?;
+    Ok(HeldSource {
+        inner: MemSource::new(text, fails(alloc, &[])?)?,
+        stage: Arc::try_clone(stage)?,
+    })
+}
+
+fn held_clock(alloc: Global, stage: &Arc<Stage, Global>) -> Result<HeldClock, NoMemory> {
+    let items = vec![in alloc; 0, 0, 60_000]?;
+    Ok(HeldClock {
+        inner: MemClock::new(MomentList { items })?,
+        stage: Arc::try_clone(stage)?,
+        waits: 0,
+    })
+}
+
+fn held_fetches(alloc: Global, stage: &Arc<Stage, Global>) -> Result<Vec<HeldFetch>, NoMemory>
+    ensures { IfOk result (λ v. vec_len v ≡ 2) }
+{
+    let one = held_fetch(alloc, stage)?;
+    let other = held_fetch(alloc, stage)?;
+    Ok(vec![in alloc; one, other]?)
+}
+
+fn stored(alloc: Global, name: &str, text: &str) -> Result<StoredFile, NoMemory> {
+    Ok(StoredFile {
+        name: Name::from_str(alloc, name)?,
+        bytes: Blob::from_slice(alloc, text.as_bytes())?,
+    })
+}
+
+fn new_stage(alloc: Global) -> Result<Arc<Stage, Global>, NoMemory> {
+    let stage = Stage {
+        begun: AtomicU64::new(0),
+        reads: AtomicU64::new(0),
+        given_up: AtomicU64::new(0),
+    };
+    Ok(Arc::new(alloc, stage)?)
+}
+
+/// What a run put to its outputs.
+#[derive(Drop)]
+struct Put {
+    status: u8,
+    out: MemSink,
+    err: MemSink,
+    trail: MemSink,
+}
+
+/// Runs `run --turns TURNS c.json`.
+fn run_of<W: Threads + Wait + Sync, C: Source, K: Clock + Send, F: Fetch + Send>(
+    rt: &W,
+    means: Means,
+    turns: &str,
+    files: FileList,
+    control: C,
+    clock: K,
+    fetchers: Vec<F>,
+) -> Result<Put, Fail>
+    requires { vec_len fetchers ≡ 2 }
+{
+    let alloc = means.alloc;
+    let words = words_of(alloc, &["run", "--turns", turns, "c.json"])?;
+    let mut shelf = MemShelf::new(files, fails(alloc, &[])?)?;
+    let mut out = MemSink::new(alloc, ROOM, fails(alloc, &[])?)?;
+    let mut err = MemSink::new(alloc, ROOM, fails(alloc, &[])?)?;
+    let mut trail = MemSink::new(alloc, ROOM, fails(alloc, &[])?)?;
+    let Finished { status, .. } = tool(
+        rt,
+        means,
+        words.as_slice(),
+        &mut shelf,
+        &mut out,
+        &mut err,
+        &mut trail,
+        control,
+        clock,
+        fetchers,
+    );
+    Ok(Put {
+        status,
+        out,
+        err,
+        trail,
+    })
+}
+
+/// The trail of a run replays to what the run printed.
+fn replays(rt: &impl Abort, means: Means, put: &Put) -> Result<(), Fail> {
+    let alloc = means.alloc;
+    let words = words_of(alloc, &["replay", "trail"])?;
+    let file = StoredFile {
+        name: Name::from_str(alloc, "trail")?,
+        bytes: Blob::from_slice(alloc, put.trail.bytes())?,
+    };
+    let items = vec![in alloc; file]?;
+    let mut shelf = MemShelf::new(FileList { items }, fails(alloc, &[])?)?;
+    let mut out = MemSink::new(alloc, ROOM, fails(alloc, &[])?)?;
+    let mut err = MemSink::new(alloc, ROOM, fails(alloc, &[])?)?;
+    let status = tool_still(means, words.as_slice(), &mut shelf, &mut out, &mut err);
+    assert_eq!(rt; status, 0);
+    assert!(rt; out.bytes() == put.out.bytes());
+    Ok(())
+}
+
+/// What two forced scrapes print, at the second sweep.
+const FORCED: &str = r#"60000 0 report up{instance="a:1",job="j"} 0
+60000 0 report scrape_duration_seconds{instance="a:1",job="j"} 0.000
+60000 0 report scrape_samples_scraped{instance="a:1",job="j"} 0
+60000 0 report scrape_samples_post_metric_relabeling{instance="a:1",job="j"} 0
+60000 0 report scrape_series_added{instance="a:1",job="j"} 0
+60000 1 report up{instance="b:1",job="j"} 0
+60000 1 report scrape_duration_seconds{instance="b:1",job="j"} 0.000
+60000 1 report scrape_samples_scraped{instance="b:1",job="j"} 0
+60000 1 report scrape_samples_post_metric_relabeling{instance="b:1",job="j"} 0
+60000 1 report scrape_series_added{instance="b:1",job="j"} 0
+"#;
+
+/// Two fetches are in flight at once while a reload cancels both: their finishes are late, and the next sweep forces both scrapes.
+#[test]
+fn run_with_held_fetches(rt: HostRuntime) -> Result<(), Fail> {
+    let means = means_of(&rt)?;
+    let alloc = rt.alloc();
+    let stage = new_stage(alloc)?;
+    let one = held_fetch(alloc, &stage)?;
+    let other = held_fetch(alloc, &stage)?;
+    let items = vec![in alloc;
+        stored(alloc, "c.json", TWO)?,
+        stored(alloc, "d.json", LIMITED)?,
+    ]?;
+    let control = held_source(alloc, &stage)?;
+    let clock = held_clock(alloc, &stage)?;
+    let fetchers = vec![in alloc; one, other]?;
+    let put = run_of(
+        &rt,
+        means,
+        "2",
+        FileList { items },
+        control,
+        clock,
+        fetchers,
+    )?;
+    assert_eq!(&rt; put.status, 0);
+    assert!(&rt; stage.given_up.load(Ordering::SeqCst) == 0);
+    assert!(&rt; put.err.bytes().is_empty());
+    assert!(&rt; put.out.bytes() == FORCED.as_bytes());
+    replays(&rt, means, &put)
+}
+
+/// A configuration with a listed file.
+const LISTING: &str =
+    r#"{"scrape_configs":[{"job_name":"j","file_sd_configs":[{"files":["f.json"]}],"static_configs":[{"targets":["a:1"]}]}]}"#;
+
+/// Control lines that succeed, and one for each way not to.
+const LINES: &str =
+    "load c.json\nload bad.json\nload no.json\nx\ntargets j f.json\ntargets k f.json\ntargets j c.json";
+
+const SAID: &str =
+    "control 2: refused NotJson\ncontrol 3: absent\ncontrol 4: not a command\ncontrol 6: no job\ncontrol 7: no file\n";
+
+fn lost_fetch(alloc: Global) -> Result<MemFetch, NoMemory> {
+    let items = Vec::new(alloc);
+    MemFetch::new(alloc, FetchedList { items }, fails(alloc, &[])?)
+}
+
+#[test]
+fn run_with_control_lines(rt: HostRuntime) -> Result<(), Fail> {
+    let means = means_of(&rt)?;
+    let alloc = rt.alloc();
+    let items = vec![in alloc;
+        stored(alloc, "c.json", LISTING)?,
+        stored(alloc, "f.json", r#"[{"targets":["c:1"]}]"#)?,
+        stored(alloc, "bad.json", "{")?,
+    ]?;
+    let text = Blob::from_slice(alloc, LINES.as_bytes())?;
+    let control = MemSource::new(text, fails(alloc, &[])?)?;
+    let moments = vec![in alloc; 0, 0, 60_000, 120_000]?;
+    let clock = MemClock::new(MomentList { items: moments })?;
+    let one = lost_fetch(alloc)?;
+    let other = lost_fetch(alloc)?;
+    let fetchers = vec![in alloc; one, other]?;
+    let put = run_of(
+        &rt,
+        means,
+        "3",
+        FileList { items },
+        control,
+        clock,
+        fetchers,
+    )?;
+    assert_eq!(&rt; put.status, 0);
+    assert!(&rt; put.err.bytes() == SAID.as_bytes());
+    replays(&rt, means, &put)
+}
