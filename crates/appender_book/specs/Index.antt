@@ -1,6 +1,8 @@
--- How a book finds the last kept entry of a series: by the hash of its set, and from there back over the kept entries of the same hash.
-use Rattle.std.specs.Prelude.{◌≡◌, ℕ, zero, suc, ◌+◌, ◌<◌, ◌≤◌, Bool, false, ◌&&◌, List, [], ◌∷◌, ◌++◌, length, if◌then◌else◌, slice_get, nat_eq, unwrap_or, vec_len, vec_capacity}
+-- How a book finds the last kept entry of a series. Series have places in the order in which they first came, and numbers, one more than their places.
+-- The number of a series is found by what is expected next, or else by the hash of its set, and from there back over the series of the same hash.
+use Rattle.std.specs.Prelude.{◌≡◌, ℕ, zero, suc, ◌+◌, ◌<◌, ◌≤◌, Bool, true, false, ◌&&◌, List, [], ◌∷◌, ◌++◌, map, length, if◌then◌else◌, slice_get, slice_set, nat_eq, unwrap_or, vec_len, vec_capacity}
 use Rattle.std.specs.List.{fold}
+use Rattle.std.specs.Option.{option_map}
 use Rattle.std.specs.declared.option.Option.{Option}
 use Rattle.std.specs.declared.option.Option.TheVariants.{None, Some}
 use Rattle.std.specs.declared.hash.DefaultHasher.{DefaultHasher}
@@ -13,6 +15,8 @@ use Rattle.label_set.specs.declared.texts.Pair.{Pair}
 use Rattle.report_samples.specs.declared.entries.Entry.{Entry}
 use Rattle.appender_book.specs.declared.verdicts.Verdict.{Verdict}
 use Rattle.appender_book.specs.declared.index.Index.{Index}
+use Rattle.appender_book.specs.declared.index.Found.{Found}
+use Rattle.appender_book.specs.declared.index.Found.TheVariants.{Known, New}
 use Rattle.appender_book.specs.Verdicts.{is_kept, verdict_at}
 
 -- the hash of a set, begun with this hasher
@@ -44,15 +48,6 @@ kept_end entries test = last_end (is_kept_with entries test)
 abbrev pub has_hash : DefaultHasher → ℕ → List Pair → Bool
 has_hash hasher hash set = nat_eq hash (hash_of hasher set)
 
--- the hash of an entry
-abbrev pub hash_in : DefaultHasher → Option Entry → ℕ
-hash_in hasher None = 0
-hash_in hasher (Some e) = hash_of hasher e.series
-
--- the hash of the entry at a place
-abbrev pub hash_at : DefaultHasher → List Entry → ℕ → ℕ
-hash_at hasher entries place = hash_in hasher (slice_get entries place)
-
 -- the sets of a series
 abbrev pub is_series : List Pair → List Pair → Bool
 is_series series set = is_eq (set_cmp series set)
@@ -62,35 +57,117 @@ abbrev pub entry_before : List Entry → ℕ → Option Entry
 entry_before entries zero = None
 entry_before entries (suc place) = slice_get entries place
 
--- the end that the index has for a hash
-abbrev pub end_of_hash : Index → ℕ → ℕ
-end_of_hash index hash = unwrap_or (get nat_eq index.last hash) 0
+-- the entry before the end that may be there
+abbrev pub entry_of_end : List Entry → Option ℕ → Option Entry
+entry_of_end entries None = None
+entry_of_end entries (Some end) = entry_before entries end
+
+-- the last kept entry of the series at a place, where these are the ends of the series
+abbrev pub entry_at : List Entry → List ℕ → ℕ → Option Entry
+entry_at entries ends place = entry_of_end entries (slice_get ends place)
+
+abbrev pub set_before : List Entry → ℕ → Option (List Pair)
+set_before entries end = option_map (λ (e : Entry). e.series) (entry_before entries end)
+
+-- the sets of the series, where these are their ends
+abbrev pub sets_of : List Entry → List ℕ → List (Option (List Pair))
+sets_of entries ends = map (set_before entries) ends
+
+abbrev pub passes : (List Pair → Bool) → Option (Option (List Pair)) → Bool
+passes test None = false
+passes test (Some None) = false
+passes test (Some (Some set)) = test set
+
+-- the set at a place passes
+unfoldable pub passes_at : List (Option (List Pair)) → (List Pair → Bool) → ℕ → Bool
+passes_at sets test place = passes test (slice_get sets place)
+
+-- the number of the last of the first n series whose set passes; 0 where there is none
+abbrev pub number_in : List (Option (List Pair)) → (List Pair → Bool) → ℕ → ℕ
+number_in sets test = last_end (passes_at sets test)
+
+-- the number of the series with a set
+abbrev pub number_of : List Entry → List ℕ → List Pair → ℕ
+number_of entries ends series = number_in (sets_of entries ends) (is_series series) (length ends)
+
+-- the end of the series with a number; 0 where there is none
+abbrev pub end_of : List ℕ → ℕ → ℕ
+end_of ends zero = 0
+end_of ends (suc place) = unwrap_or (slice_get ends place) 0
+
+abbrev pub hash_in : DefaultHasher → Option (Option (List Pair)) → ℕ
+hash_in hasher None = 0
+hash_in hasher (Some None) = 0
+hash_in hasher (Some (Some set)) = hash_of hasher set
+
+-- the hash of the set at a place
+abbrev pub hash_at : DefaultHasher → List (Option (List Pair)) → ℕ → ℕ
+hash_at hasher sets place = hash_in hasher (slice_get sets place)
+
+-- the number that the index has for a hash
+abbrev pub number_of_hash : Index → ℕ → ℕ
+number_of_hash index hash = unwrap_or (get nat_eq index.last hash) 0
 
 -- the index is that of these entries
 pub record IsIndex (entries : List Entry) (index : Index) : Type 0 where
   pub judged : length index.verdicts.items ≡ length entries
   pub verdicts : (place : ℕ) → slice_get index.verdicts.items place ≡ verdict_at entries place
-  pub counted : length index.earlier.items ≡ length entries
-  pub earlier : (place : ℕ) → place < length entries →
-      slice_get index.earlier.items place ≡ Some (kept_end entries (has_hash index.hasher (hash_at index.hasher entries place)) place)
-  pub last : (hash : ℕ) → end_of_hash index hash ≡ kept_end entries (has_hash index.hasher hash) (length entries)
+  pub counted : length index.earlier.items ≡ length index.ends.items
+  pub within : (place end : ℕ) → slice_get index.ends.items place ≡ Some end → end ≤ length entries
+  pub ends : (series : List Pair) → end_of index.ends.items (number_of entries index.ends.items series) ≡ kept_end entries (is_series series) (length entries)
+  pub alone : (series : List Pair) (place : ℕ) → passes_at (sets_of entries index.ends.items) (is_series series) place ≡ true →
+      number_of entries index.ends.items series ≡ suc place
+  pub earlier : (place : ℕ) → place < length index.ends.items →
+      slice_get index.earlier.items place ≡ Some (number_in (sets_of entries index.ends.items) (has_hash index.hasher (hash_at index.hasher (sets_of entries index.ends.items) place)) place)
+  pub last : (hash : ℕ) → number_of_hash index hash ≡ number_in (sets_of entries index.ends.items) (has_hash index.hasher hash) (length index.ends.items)
+
+-- this is found of a series
+abbrev pub IsFound : List Entry → Index → List Pair → Found → Type 0
+IsFound entries index series (Known place) = number_of entries index.ends.items series ≡ suc place
+IsFound entries index series (New hash last) =
+    (number_of entries index.ends.items series ≡ 0) × (hash ≡ hash_of index.hasher series) × (last ≡ number_of_hash index hash)
+
+-- the index has room for n more series
+pub record HasSeriesRoom (n : ℕ) (index : Index) : Type 0 where
+  pub ends : vec_len index.ends + n ≤ vec_capacity index.ends
+  pub earlier : vec_len index.earlier + n ≤ vec_capacity index.earlier
+  pub next : vec_len index.next + n ≤ vec_capacity index.next
+  pub last : n ≤ spare index.last
 
 -- the index has room for n more entries
 pub record HasRoom (n : ℕ) (index : Index) : Type 0 where
   pub verdicts : vec_len index.verdicts + n ≤ vec_capacity index.verdicts
-  pub earlier : vec_len index.earlier + n ≤ vec_capacity index.earlier
-  pub last : n ≤ spare index.last
+  pub series : HasSeriesRoom n index
 
 -- the same is noted
 pub record IsSameIndex (old new : Index) : Type 0 where
   pub verdicts : new.verdicts.items ≡ old.verdicts.items
+  pub ends : new.ends.items ≡ old.ends.items
   pub earlier : new.earlier.items ≡ old.earlier.items
   pub hasher : new.hasher ≡ old.hasher
-  pub last : (hash : ℕ) → end_of_hash new hash ≡ end_of_hash old hash
+  pub last : (hash : ℕ) → number_of_hash new hash ≡ number_of_hash old hash
 
--- an entry at a place is noted as well, of this hash and verdict
-pub record IsNoted (old new : Index) (place hash : ℕ) (verdict : Verdict) : Type 0 where
+-- the ends, with another one at a place
+abbrev pub with_end : List ℕ → ℕ → ℕ → List ℕ
+with_end ends place end = slice_set ends place end
+
+-- the ends after an entry, where this was found of its series
+abbrev pub ends_after : List ℕ → ℕ → Bool → Found → List ℕ
+ends_after ends end kept (Known place) = if kept then with_end ends place end else ends
+ends_after ends end kept (New hash last) = ends ++ end ∷ []
+
+abbrev pub earlier_after : List ℕ → Found → List ℕ
+earlier_after earlier (Known place) = earlier
+earlier_after earlier (New hash last) = earlier ++ last ∷ []
+
+abbrev pub last_after : Index → ℕ → Found → ℕ
+last_after index h (Known place) = number_of_hash index h
+last_after index h (New hash last) = if nat_eq h hash then length index.ends.items + 1 else number_of_hash index h
+
+-- an entry with an end is noted as well, of which this was found, and of this verdict
+pub record IsNoted (old new : Index) (end : ℕ) (found : Found) (verdict : Verdict) : Type 0 where
   pub verdicts : new.verdicts.items ≡ old.verdicts.items ++ verdict ∷ []
-  pub earlier : new.earlier.items ≡ old.earlier.items ++ end_of_hash old hash ∷ []
+  pub ends : new.ends.items ≡ ends_after old.ends.items end (is_kept verdict) found
+  pub earlier : new.earlier.items ≡ earlier_after old.earlier.items found
   pub hasher : new.hasher ≡ old.hasher
-  pub last : (h : ℕ) → end_of_hash new h ≡ (if is_kept verdict && nat_eq h hash then place + 1 else end_of_hash old h)
+  pub last : (h : ℕ) → number_of_hash new h ≡ last_after old h found

@@ -58,9 +58,10 @@ fn push(entries: &mut Vec<Entry>, index: &mut Index, entry: Entry)
     ensures capacity { vec_capacity entries.new ≡ vec_capacity entries.old }
     ensures index_room { (n : ℕ) → spec.HasRoom (n + 1) index.old → spec.HasRoom n index.new }
 {
-    let hash = index.hash_of(&entry.series);
-    let verdict = index.verdict_of(entries, hash, &entry);
-    index.note(entries, hash, verdict);
+    let found = index.find(entries, &entry.series);
+    let verdict = index.verdict_of(entries, found, &entry);
+    let end = entries.len() + 1;
+    index.note(end, found, verdict, entry.value.is_some());
     entries.push_reserved(entry);
 }
 
@@ -87,6 +88,11 @@ impl Book {
             index: Index::new(alloc, hasher),
             room: 0,
         }
+    }
+
+    /// The hasher with which each hash of the book begins, with the seed that the book was made with.
+    pub fn hasher(&self) -> DefaultHasher {
+        self.index.hasher()
     }
 
     /// Makes room for so many more entries.

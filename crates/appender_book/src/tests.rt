@@ -77,3 +77,30 @@ fn judges_what_is_appended(rt: HostRuntime) -> Result<(), NoMemory> {
     }
     Ok(())
 }
+
+/// Series that come back in their order, with one left out, one more, and in another order.
+#[test]
+fn finds_series_in_any_order(rt: HostRuntime) -> Result<(), NoMemory> {
+    let mut book = Book::new(rt.alloc())?;
+    let series = [
+        "a", "b", "c", "d", "a", "b", "c", "d", "a", "c", "d", "a", "b", "x", "c", "d", "d", "b",
+        "a", "x",
+    ];
+    for name in series {
+        book.reserve(1)?;
+        book.append(entry(rt.alloc(), name, 1, Some(1))?);
+    }
+    for (place, verdict) in [
+        (3, Verdict::Kept),
+        (4, Verdict::Same),
+        (9, Verdict::Same),
+        (10, Verdict::Same),
+        (13, Verdict::Kept),
+        (14, Verdict::Same),
+        (16, Verdict::Same),
+        (19, Verdict::Same),
+    ] {
+        assert_eq!(rt; book.verdict(place), Some(verdict), "{place}");
+    }
+    Ok(())
+}
