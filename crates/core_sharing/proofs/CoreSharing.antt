@@ -4,7 +4,8 @@ use denote.Param.SendFields.{declared_send, declared_sync}
 use Rattle.std.proofs.Crossing.{crosses}
 use Rattle.std.proofs.MapsCrossing as maps
 use Rattle.core_sharing.proofs.MapSharing.{columns_send, columns_sync, table_send, table_sync}
-use Rattle.core_sharing.proofs.TextSharing.{label_set_send, label_set_sync, set_list_send, set_list_sync, value_text_send, value_text_sync, journal_send, journal_sync}
+use Rattle.core_sharing.proofs.TextSharing.{label_set_send, label_set_sync, value_text_send, value_text_sync, journal_send, journal_sync}
+use Rattle.core_sharing.proofs.CacheSharing.{cache_send, cache_sync}
 use Rattle.core_sharing.proofs.ConfSharing.{job_send, job_sync, file_groups_send, file_groups_sync, targets_send, targets_sync}
 use Rattle.jobs_in_force.specs.contracts.jobs.SharedJob as SharedJob
 use Rattle.jobs_in_force.specs.contracts.jobs.Settings as Settings
@@ -25,6 +26,7 @@ use Rattle.life_roll.specs.contracts.moments.Planned as Planned
 use Rattle.life_roll.specs.contracts.schedule.InFlight as InFlight
 use Rattle.life_roll.specs.contracts.schedule.Schedule as Schedule
 use Rattle.scrape_loop.specs.contracts.target_labels.TargetLabels as TargetLabels
+use Rattle.scrape_loop.specs.contracts.past.Past as Past
 use Rattle.scrape_loop.specs.contracts.life_state.LifeState as LifeState
 use Rattle.scrape_machine.specs.contracts.lives.Life as Life
 use Rattle.scrape_machine.specs.contracts.lives.Start as Start
@@ -153,11 +155,17 @@ target_labels_send = search (report_sets_send, report_sets_sync, sendable, cross
 pub target_labels_sync : IsSync TargetLabels.the_row
 target_labels_sync = search (report_sets_send, report_sets_sync, sendable, crosses) depth 60 fits 10000
 
+pub past_send : IsSend Past.the_row
+past_send = search (target_labels_send, target_labels_sync, sendable, crosses) depth 60 fits 10000
+
+pub past_sync : IsSync Past.the_row
+past_sync = search (target_labels_send, target_labels_sync, sendable, crosses) depth 60 fits 10000
+
 pub life_state_send : IsSend LifeState.the_row
-life_state_send = search (target_labels_send, target_labels_sync, set_list_send, set_list_sync, sendable, crosses) depth 60 fits 10000
+life_state_send = search (past_send, past_sync, cache_send, cache_sync, sendable, crosses) depth 60 fits 10000
 
 pub life_state_sync : IsSync LifeState.the_row
-life_state_sync = search (target_labels_send, target_labels_sync, set_list_send, set_list_sync, sendable, crosses) depth 60 fits 10000
+life_state_sync = search (past_send, past_sync, cache_send, cache_sync, sendable, crosses) depth 60 fits 10000
 
 pub life_send : IsSend Life.the_row
 life_send = search (life_state_send, life_state_sync, label_set_send, label_set_sync, settings_send, settings_sync, schedule_send, schedule_sync, sendable, crosses) depth 60 fits 10000
@@ -178,13 +186,13 @@ pub state_sync : IsSync State.the_row
 state_sync = search (in_force_send, in_force_sync, life_send, life_sync, start_send, start_sync, sendable, crosses) depth 60 fits 10000
 
 inside_core_send : IsSend CoreInside.the_row
-inside_core_send = declared_send CoreInside.the_type (journal_send, (book_send, (state_send, tt)))
+inside_core_send = declared_send CoreInside.the_type (journal_send, (book_send, (state_send, (search sendable depth 20, tt))))
 
 pub core_send : IsSend Core.the_row
 core_send = search (inside_core_send, sendable) depth 10
 
 inside_core_sync : IsSync CoreInside.the_row
-inside_core_sync = declared_sync CoreInside.the_type (journal_sync, (book_sync, (state_sync, tt)))
+inside_core_sync = declared_sync CoreInside.the_type (journal_sync, (book_sync, (state_sync, (search sendable depth 20, tt))))
 
 pub core_sync : IsSync Core.the_row
 core_sync = search (inside_core_sync, sendable) depth 10

@@ -1,5 +1,6 @@
 pub mod PatternSharing
 pub mod TextSharing
 pub mod MapSharing
+pub mod CacheSharing
 pub mod ConfSharing
 pub mod CoreSharing

@@ -12,7 +12,6 @@ use Rattle.label_set.specs.contracts.texts.NameList as NameList
 use Rattle.label_set.specs.contracts.texts.PairList as PairList
 use Rattle.label_set.specs.contracts.shared.Shared as Shared
 use Rattle.label_set.specs.contracts.sets.LabelSet as LabelSet
-use Rattle.label_set.specs.contracts.set_list.SetList as SetList
 use Rattle.value_text.specs.contracts.texts.ValueText as ValueText
 use Rattle.outside.specs.contracts.replies.Reply as Reply
 use Rattle.journal_text.specs.contracts.events.Event as Event
@@ -69,12 +68,6 @@ label_set_send = search (shared_send, shared_sync, sendable, crosses) depth 60 f
 
 pub label_set_sync : IsSync LabelSet.the_row
 label_set_sync = search (shared_send, shared_sync, sendable, crosses) depth 60 fits 10000
-
-pub set_list_send : IsSend SetList.the_row
-set_list_send = search (label_set_send, label_set_sync, sendable, crosses) depth 60 fits 10000
-
-pub set_list_sync : IsSync SetList.the_row
-set_list_sync = search (label_set_send, label_set_sync, sendable, crosses) depth 60 fits 10000
 
 pub value_text_send : IsSend ValueText.the_row
 value_text_send = search (sendable, crosses) depth 60 fits 10000

@@ -128,6 +128,15 @@ impl ReadBody {
     }
 }
 
+/// A body with the rows that were read from it.
+pub(crate) fn with_rows(bytes: Blob, rows: Vec<BodyRow>) -> ReadBody
+    requires { reading bytes ≡ Ok rows.items }
+    ensures bytes { result.bytes ≡ bytes }
+    ensures rows { result.rows ≡ rows.items }
+{
+    ReadBody { bytes, rows }
+}
+
 /// Copies of the rows of a body.
 fn copies(alloc: Global, body: &LentBody<'_>) -> Result<Vec<BodyRow>, NoMemory>
     ensures { IfOk result (λ v. v.items ≡ body.now.rows) }

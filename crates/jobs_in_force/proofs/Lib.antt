@@ -1,3 +1,4 @@
 pub mod TargetLemmas
 pub mod IndexLemmas
 pub mod FewLemmas
+pub mod ListedLemmas

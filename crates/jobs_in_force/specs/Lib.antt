@@ -1,3 +1,4 @@
 pub mod TargetWords
 pub mod Settings
 pub mod Jobs
+pub mod Listed

@@ -1,5 +1,5 @@
 //! What a load and an update of a file's targets make of the configuration in force.
-ghost use Rattle.std.specs.Prelude.{◌≡◌, ◌≤◌, ◌∷◌, [], ◌++◌, map, nat_lt, position, option_map, option_copied, unwrap_or, None, Ok, Err, IfOk, IfErr, OnOk, All, codes};
+ghost use Rattle.std.specs.Prelude.{◌≡◌, ◌≤◌, ◌+◌, ◌∷◌, [], ◌++◌, map, nat_lt, position, option_map, option_copied, unwrap_or, None, Ok, Err, IfOk, IfErr, OnOk, All, codes};
 ghost use Rattle.std.specs.List.{find, list_any, sum_by};
 ghost use Rattle.std.specs.Str.{bytes_eq};
 ghost use Rattle.config_fields.specs.Places.{item_place};
@@ -7,6 +7,7 @@ ghost use Rattle.scrape_config.specs.Reading.{jobs_place};
 ghost use Rattle.scrape_config.specs.declared.conf.Job.{Job};
 ghost use Rattle.scrape_config.specs.Bounds.{IsBounded};
 ghost use Rattle.jobs_in_force.specs.Jobs as spec;
+ghost use Rattle.jobs_in_force.specs.Listed as listed;
 
 use crate::jobs::{Filed, InForce, SharedFiles, SharedJob, SharedTargets};
 use config_fields::ConfFault;
@@ -219,7 +220,7 @@ pub fn load_of(alloc: Global, jobs: &[InForce], text: &[u8]) -> Result<Vec<Filed
     }
 }
 
-/// A job in force: with the targets that its groups and those of its files list.
+/// A job in force: with the targets that its groups and those of its files list. The rules for targets are run once for each, which takes one step.
 #[tactic(auto, unfolding(crate::specs::Jobs::in_force), using(crate::proofs::TargetLemmas::no_names))]
 pub fn in_force<L: Ledger>(
     alloc: Global,
@@ -227,7 +228,9 @@ pub fn in_force<L: Ledger>(
     steps: &mut Steps<L>,
 ) -> Result<InForce, NoMemory>
     requires { spec.IsFew filed }
-    ensures { IfOk result (λ j. j ≡ spec.in_force filed) }
+    ensures job { IfOk result (λ j. j ≡ spec.in_force filed) }
+    ensures steps { IfOk result (λ j. steps.new ≡ steps.old + listed.listed_in j) }
+    ensures at_least { steps.old ≤ steps.new }
 {
     let Filed { job, files } = filed;
     let one = job.job();
@@ -242,14 +245,16 @@ pub fn in_force<L: Ledger>(
     })
 }
 
-/// The jobs in force after a load of these.
+/// The jobs in force after a load of these. Each target that they list takes one step.
 pub fn in_force_all<L: Ledger>(
     alloc: Global,
     filed: Vec<Filed>,
     steps: &mut Steps<L>,
 ) -> Result<Vec<InForce>, NoMemory>
     requires { All spec.IsFew filed.items }
-    ensures { IfOk result (λ v. v.items ≡ map spec.in_force filed.items) }
+    ensures jobs { IfOk result (λ v. v.items ≡ map spec.in_force filed.items) }
+    ensures steps { IfOk result (λ v. steps.new ≡ steps.old + listed.listed_by v.items) }
+    ensures at_least { steps.old ≤ steps.new }
 {
     let mut jobs = Vec::with_capacity(alloc, filed.len())?;
     for one in filed {

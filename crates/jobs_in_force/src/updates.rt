@@ -1,9 +1,10 @@
 //! What an update of a file's targets makes of the configuration in force.
-ghost use Rattle.std.specs.Prelude.{◌≡◌, ◌≤◌, [], map, option_copied, Ok, Err, IfOk, IfErr, OnOk, All};
+ghost use Rattle.std.specs.Prelude.{◌≡◌, ◌≤◌, ◌+◌, [], map, option_copied, Ok, Err, IfOk, IfErr, OnOk, All};
 ghost use Rattle.std.specs.List.{list_any};
 ghost use Rattle.std.specs.Str.{bytes_eq};
 ghost use Rattle.scrape_config.specs.Reading.{groups_reading};
 ghost use Rattle.jobs_in_force.specs.Jobs as spec;
+ghost use Rattle.jobs_in_force.specs.Listed as listed;
 
 use crate::jobs::{Filed, InForce, SharedFiles};
 use crate::loads::{crowd_of_all, crowd_place, in_force, is_named, is_of_file, job_named};
@@ -207,7 +208,9 @@ fn renewed<L: Ledger>(
     steps: &mut Steps<L>,
 ) -> Result<InForce, NoMemory>
     requires { spec.IsFew (spec.updated_job update.now.job update.now.file update.now.groups job.now) }
-    ensures { IfOk result (λ j. j ≡ spec.renewed update.now.job update.now.file update.now.groups job.now) }
+    ensures job { IfOk result (λ j. j ≡ spec.renewed update.now.job update.now.file update.now.groups job.now) }
+    ensures steps { IfOk result (λ j. steps.new ≡ steps.old + listed.named_count update.now.job j) }
+    ensures at_least { steps.old ≤ steps.new }
 {
     if is_named(&update.job, job) {
         let filed = updated_job(alloc, update, job)?;
@@ -217,7 +220,7 @@ fn renewed<L: Ledger>(
     }
 }
 
-/// The jobs in force after an update.
+/// The jobs in force after an update. Each target that its job lists takes one step.
 #[tactic(auto, unfolding(crate::specs::Jobs::jobs_updated))]
 pub fn jobs_updated<L: Ledger>(
     alloc: Global,
@@ -226,7 +229,9 @@ pub fn jobs_updated<L: Ledger>(
     steps: &mut Steps<L>,
 ) -> Result<Vec<InForce>, NoMemory>
     requires { All spec.IsFew (spec.filed_by_update jobs.now update.now.job update.now.file update.now.groups) }
-    ensures { IfOk result (λ v. v.items ≡ spec.jobs_updated jobs.now update.now.job update.now.file update.now.groups) }
+    ensures jobs { IfOk result (λ v. v.items ≡ spec.jobs_updated jobs.now update.now.job update.now.file update.now.groups) }
+    ensures steps { IfOk result (λ v. steps.new ≡ steps.old + listed.listed_by_named update.now.job v.items) }
+    ensures at_least { steps.old ≤ steps.new }
 {
     let mut news = Vec::with_capacity(alloc, jobs.len())?;
     for job in jobs {

@@ -40,17 +40,21 @@ of_rows rules metric target rows = of_left rules (left_from rules metric target 
 abbrev pub is_slow : RowRules → ℤ → Bool
 is_slow rules took = int_lt rules.timeout took
 
--- the fault for which the body of a reply isn't read: the first of those of the reply, its time, its status and its size
-unfoldable pub early_read_fault : RowRules → Reply → ℤ → Option ScrapeFault
-early_read_fault rules Lost took = Some fault.Lost
-early_read_fault rules Garbled took = Some fault.Garbled
-early_read_fault rules Unsent took = Some fault.Unsent
-early_read_fault rules Oversize took = if is_slow rules took then Some fault.Slow else Some fault.Size
-early_read_fault rules (Body status bytes) took =
+-- the fault for which a body with a status and so many bytes isn't read: the first of those of its time, its status and its size
+abbrev pub early_read_fault : RowRules → ℕ → ℕ → ℤ → Option ScrapeFault
+early_read_fault rules status size took =
     if is_slow rules took then Some fault.Slow
     else if not (status == 200) then Some (fault.Status status)
-    else if nat_lt (body_limit rules.limits) (length bytes) then Some fault.Size
+    else if nat_lt (body_limit rules.limits) size then Some fault.Size
     else None
+
+-- the fault for which the body of a reply isn't read: the first of those of the reply, its time, its status and its size
+unfoldable pub early_fault : RowRules → Reply → ℤ → Option ScrapeFault
+early_fault rules Lost took = Some fault.Lost
+early_fault rules Garbled took = Some fault.Garbled
+early_fault rules Unsent took = Some fault.Unsent
+early_fault rules Oversize took = if is_slow rules took then Some fault.Slow else Some fault.Size
+early_fault rules (Body status bytes) took = early_read_fault rules status (length bytes) took
 
 -- the bytes of the body of a reply
 abbrev pub body_of : Reply → List ℕ
@@ -68,8 +72,8 @@ unless_fault None rows = rows
 unless_fault (Some f) rows = Err f
 
 -- the rows of a reply, or the first fault for which none of them is looked at
-abbrev pub early_fault : RowRules → Reply → ℤ → Result (List BodyRow) ScrapeFault
-early_fault rules reply took = unless_fault (early_read_fault rules reply took) (or_line (reading (body_of reply)))
+abbrev pub rows_or_fault : RowRules → Reply → ℤ → Result (List BodyRow) ScrapeFault
+rows_or_fault rules reply took = unless_fault (early_fault rules reply took) (or_line (reading (body_of reply)))
 
 -- the outcome of rows, or of a fault for which none is looked at
 abbrev pub of_early : RowRules → List RuleConf → List Pair → Result (List BodyRow) ScrapeFault → Scrape
@@ -78,7 +82,7 @@ of_early rules metric target (Err f) = failed f
 
 -- the outcome of a scrape of a target by its reply and how long that took: the first fault in the order of `ScrapeFault`, or the samples left
 unfoldable pub outcome : RowRules → List RuleConf → List Pair → Reply → ℤ → Scrape
-outcome rules metric target reply took = of_early rules metric target (early_fault rules reply took)
+outcome rules metric target reply took = of_early rules metric target (rows_or_fault rules reply took)
 
 -- how many rows there are to look at
 abbrev pub row_count : Result (List BodyRow) ScrapeFault → ℕ
@@ -87,4 +91,4 @@ row_count (Err f) = 0
 
 -- how many rows the rules for samples are run on: all rows of a body that is read, and none of any other reply
 unfoldable pub runs : RowRules → Reply → ℤ → ℕ
-runs rules reply took = row_count (early_fault rules reply took)
+runs rules reply took = row_count (rows_or_fault rules reply took)

@@ -5,10 +5,11 @@
 #![tactic(auto)]
 
 pub mod fault;
-mod left;
-mod outcome;
+pub mod left;
+pub mod outcome;
 pub mod scrape;
 
 pub use fault::ScrapeFault;
-pub use outcome::rows;
+pub use left::{Sifted, own_stamp, row_fault, row_set};
+pub use outcome::{body_of, early_fault, early_read_fault, failed, judged, rows};
 pub use scrape::{RowRules, Sample, SampleList, Scrape};

@@ -17,8 +17,8 @@ use scrape_limits::{Limits, body_limit, too_many};
 use std::alloc::Global;
 use std::sync::ledger::Ledger;
 
-/// A scrape that failed before a row was looked at.
-fn failed(fault: ScrapeFault) -> Scrape
+/// A scrape that failed before a row was looked at: with no row scraped and none left.
+pub fn failed(fault: ScrapeFault) -> Scrape
     ensures { result ≡ spec.failed fault }
 {
     Scrape::Bad {
@@ -42,10 +42,12 @@ fn fault_of(limits: &Limits, sifted: &Sifted) -> Option<ScrapeFault>
     }
 }
 
-/// The outcome of so many rows, by their fault and the samples that are left of them.
-fn judged(fault: Option<ScrapeFault>, samples: Vec<Sample>, scraped: u64) -> Scrape
-    ensures { result ≡ spec.judged fault samples.items scraped }
+/// What a scrape of so many rows comes to, by what is left of them: the fault of a row, or that too many are left, or the samples.
+pub fn judged(rules: &RowRules, sifted: Sifted, scraped: u64) -> Scrape
+    ensures { result ≡ spec.judged (first_of sifted.fault (count_fault rules.now.limits (length sifted.samples.items))) sifted.samples.items scraped }
 {
+    let fault = fault_of(&rules.limits, &sifted);
+    let samples = sifted.samples;
     match fault {
         None => Scrape::Good {
             rows: SampleList { items: samples },
@@ -75,8 +77,7 @@ fn of_rows<L: Ledger>(
     ensures at_most { steps.new ≤ steps.old + length body.now.rows }
 {
     let sifted = sift(alloc, rules, metric, target, body, steps)?;
-    let fault = fault_of(&rules.limits, &sifted);
-    Ok(judged(fault, sifted.samples, body.len() as u64))
+    Ok(judged(rules, sifted, body.len() as u64))
 }
 
 /// The outcome of bytes that are read. Each row takes one step.
@@ -100,10 +101,37 @@ fn of_bytes<L: Ledger>(
     }
 }
 
-/// The fault for which the body of a reply that took so long isn't read.
-#[tactic(auto, unfolding(crate::specs::Outcomes::early_read_fault))]
-fn early_read_fault(rules: &RowRules, reply: &Reply, took: i64) -> Option<ScrapeFault>
-    ensures { result ≡ spec.early_read_fault rules.now reply.now took }
+/// The fault for which a body with a status and so many bytes that took so many milliseconds isn't looked at: the first of those of its time, its
+/// status and its size; `None` exactly where there is none. It is `early_fault` of that body, and takes no memory.
+///
+/// The source is "Configuration" of the Prometheus documentation, scrape_config: scrape_timeout, body_size_limit.
+pub fn early_read_fault(
+    rules: &RowRules,
+    status: u16,
+    size: usize,
+    took: i64,
+) -> Option<ScrapeFault>
+    ensures { result ≡ spec.early_read_fault rules.now status size took }
+{
+    if rules.timeout < took {
+        return Some(ScrapeFault::Slow);
+    }
+    if status != 200 {
+        return Some(ScrapeFault::Status(status));
+    }
+    if size as u64 > body_limit(&rules.limits) {
+        return Some(ScrapeFault::Size);
+    }
+    None
+}
+
+/// The fault for which the body of a reply that took so many milliseconds isn't read: the first of those that stand before `Line`; `None` exactly
+/// where there is none. It takes no memory.
+///
+/// The source is "Configuration" of the Prometheus documentation, scrape_config: scrape_timeout, body_size_limit.
+#[tactic(auto, unfolding(crate::specs::Outcomes::early_fault))]
+pub fn early_fault(rules: &RowRules, reply: &Reply, took: i64) -> Option<ScrapeFault>
+    ensures { result ≡ spec.early_fault rules.now reply.now took }
 {
     match reply {
         Reply::Lost => Some(ScrapeFault::Lost),
@@ -115,22 +143,13 @@ fn early_read_fault(rules: &RowRules, reply: &Reply, took: i64) -> Option<Scrape
             ScrapeFault::Size
         }),
         Reply::Body { status, bytes } => {
-            if rules.timeout < took {
-                return Some(ScrapeFault::Slow);
-            }
-            if *status != 200 {
-                return Some(ScrapeFault::Status(*status));
-            }
-            if bytes.as_slice().len() as u64 > body_limit(&rules.limits) {
-                return Some(ScrapeFault::Size);
-            }
-            None
+            early_read_fault(rules, *status, bytes.as_slice().len(), took)
         }
     }
 }
 
-/// The bytes of the body of a reply.
-fn body_of(reply: &Reply) -> &[u8]
+/// The bytes of the body of a reply; a reply without a body has none.
+pub fn body_of(reply: &Reply) -> &[u8]
     ensures { result.now ≡ spec.body_of reply.now }
 {
     match reply {
@@ -165,7 +184,7 @@ pub fn rows<L: Ledger>(
     ensures steps { OnOk result (steps.new ≡ steps.old + spec.runs rules.now reply.now took) }
     ensures at_least { steps.old ≤ steps.new }
 {
-    if let Some(fault) = early_read_fault(rules, reply, took) {
+    if let Some(fault) = early_fault(rules, reply, took) {
         return Ok(failed(fault));
     }
     of_bytes(alloc, rules, metric, target, body_of(reply), steps)

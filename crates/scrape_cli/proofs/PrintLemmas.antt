@@ -7,13 +7,12 @@ use Rattle.journal_text.specs.Faults.{IsJournalOf}
 use Rattle.report_samples.specs.declared.entries.Entry.{Entry}
 use Rattle.scrape_machine.specs.Machine.{book_of}
 use Rattle.book_text.specs.Texts.{printed}
-use Rattle.book_text.specs.Summaries.{summary_text}
 use Rattle.jobs_in_force.specs.declared.jobs.Filed.{Filed}
-use Rattle.synth.specs.Scripts.{script_events}
 use Rattle.synth.specs.declared.scripts.Plan.{Plan}
 use Rattle.scrape_cli.specs.Checks.{IsConf, ok_line}
 use Rattle.command_words.specs.Askings.{asking}
 use Rattle.command_words.specs.Words.{limit_of}
+use Rattle.scrape_cli.specs.Synths.{synth_text}
 use Rattle.scrape_cli.specs.Ends.{work, IsAskedFor, IsDone, IsRefused}
 use Rattle.command_words.specs.declared.words.Asked.TheVariants.{File, Synth}
 use Rattle.command_words.specs.declared.words.Command.TheVariants.{Replay, Check}
@@ -53,7 +52,7 @@ module _ (kept : Bool) (file bytes : List ℕ) (jobs : List Filed) (shelf : Use 
   ok_cut_by still cut = record { cause = record { text = ok_line (length jobs); asked_for = ok_asked_for; put = cut }; shelf = still; out = tt }
 
 module _ (p : Plan) (text : List ℕ) (shelf : ShelfSeen) (out : Use SinkSeen)
-    (summary : text ≡ summary_text (length (script_events p)) (book_of (script_events p))) where
+    (summary : text ≡ synth_text p) where
   made_asked_for : IsAskedFor text (work (Some (Synth p)) (used shelf shelf) out)
   made_asked_for = inr (record { plan = p; asked = refl; summary = summary })
 

@@ -9,8 +9,7 @@ use Rattle.scrape_machine.specs.Machine.{book_of}
 use Rattle.book_text.specs.Texts.{printed}
 use Rattle.scrape_cli.specs.Checks.{IsConf, IsFault, ok_line, fault_message}
 use Rattle.scrape_cli.specs.Scripts.{fault_message as script_message}
-use Rattle.book_text.specs.Summaries.{summary_text}
-use Rattle.synth.specs.Scripts.{script_events}
+use Rattle.scrape_cli.specs.Synths.{synth_text}
 use Rattle.synth.specs.declared.scripts.Plan.{Plan}
 use Rattle.command_words.specs.Askings.{asking}
 use Rattle.command_words.specs.Words.{OfFile, asked_in, file_in, limit_of}
@@ -63,11 +62,11 @@ pub record IsOfFile (text : List ℕ) (w : Work) : Type 0 where
   pub reads : Reads command bytes w
   pub output : IsOutput command reads.kept bytes text
 
--- a script of these numbers was asked for, and this is the summary of its book
+-- a script of these numbers was asked for, and this is what is printed of its journal
 pub record IsOfScript (text : List ℕ) (w : Work) : Type 0 where
   pub plan : Plan
   pub asked : w.asked ≡ Some (Synth plan)
-  pub summary : text ≡ summary_text (length (script_events plan)) (book_of (script_events plan))
+  pub summary : text ≡ synth_text plan
 
 -- this is the text that the words ask for
 abbrev pub IsAskedFor : List ℕ → Work → Type 0

@@ -1,5 +1,6 @@
 pub mod Checks
 pub mod Scripts
+pub mod Synths
 pub mod Ends
 pub mod Laws
 pub mod Lives

@@ -1,13 +1,12 @@
 //! The commands of the program.
-ghost use Rattle.std.specs.Prelude.{◌≡◌, ◌≤◌, Bool, length, Some, IfOk, IfErr, OnOk, IsErrOf};
+ghost use Rattle.std.specs.Prelude.{◌≡◌, ◌≤◌, ◌++◌, Bool, codes, length, Some, IfOk, IfErr, OnOk, IsErrOf};
 ghost use Rattle.outside.specs.Objects.{ShelfSeen, SinkSeen, used, HasFile, IsUntouched};
 ghost use Rattle.scrape_cli.specs.Ends.{work, WorkEnds, IsRefused};
 ghost use Rattle.command_words.specs.Askings.{asking};
 ghost use Rattle.command_words.specs.Words as words;
 ghost use Rattle.command_words.specs.declared.words.Asked.TheVariants.{File, Synth};
-ghost use Rattle.book_text.specs.Summaries.{summary_text};
-ghost use Rattle.scrape_machine.specs.Machine.{book_of};
-ghost use Rattle.synth.specs.Scripts.{script_events};
+ghost use Rattle.book_text.specs.Summaries.{number_line};
+ghost use Rattle.scrape_cli.specs.Synths.{synth_text};
 ghost use Rattle.command_words.specs.declared.words.Command.TheVariants.{Replay, Check};
 
 use crate::checks::{conf_of, print_ok};
@@ -15,6 +14,7 @@ use crate::refusals::Refusal;
 use crate::replays::replayed;
 use book_text::{PrintError, print_book, summary_of};
 use command_words::{Asked, Command, OfFile, Workload, limit_of};
+use itoa::Buffer;
 use journal_text::ScriptError;
 use label_set::{Blob, NoMemory};
 use live_run::Means;
@@ -98,18 +98,33 @@ fn check<S: Shelf, O: Sink>(
     }
 }
 
-/// The summary of a script that is made: its text goes the way of a replayed script.
+/// Adds the line that says how often relabelling rules were run.
+fn push_runs(text: &mut Vec<u8>, runs: u128) -> Result<(), NoMemory>
+    ensures { OnOk result (text.new.items ≡ text.old.items ++ number_line (codes "runs") runs) }
+{
+    let mut digits = Buffer::new();
+    text.extend_from_slice(b"runs ")?;
+    text.extend_from_slice(digits.format(runs).as_bytes())?;
+    text.extend_from_slice(b"\n")?;
+    Ok(())
+}
+
+/// The summary of a script that is made, with the number of its relabelling runs: its text goes the way of a replayed script.
 fn summary_for(means: Means, load: &Workload) -> Result<Vec<u8>, NoMemory>
-    ensures { IfOk result (λ text. text.items ≡ summary_text (length (script_events load.now)) (book_of (script_events load.now))) }
+    ensures { IfOk result (λ text. text.items ≡ synth_text load.now) }
 {
     let script = make_script(means.alloc, load.seed(), load.targets(), load.scrapes())?;
     match replayed(means, script.as_slice()) {
-        Ok(core) => summary_of(means.alloc, core.events(), core.book()),
+        Ok(core) => {
+            let mut text = summary_of(means.alloc, core.events(), core.book())?;
+            push_runs(&mut text, core.runs())?;
+            Ok(text)
+        }
         Err(_) => Err(NoMemory),
     }
 }
 
-/// Prints the summary of a script that is made.
+/// Prints the summary of a script that is made, and the number of its relabelling runs.
 fn synth<O: Sink>(means: Means, load: &Workload, out: &mut O) -> Result<(), Refusal>
     ensures { (shelf : ShelfSeen) → WorkEnds result (work (Some (Synth load.now)) (used shelf shelf) (used (O.seen out.old) (O.seen out.new))) }
 {

@@ -104,7 +104,7 @@ pub fn status_at(end: &Result<(), Refusal>) -> u8
 ///
 /// | status | comes |
 /// |---|---|
-/// | 0 | `replay`: the script was replayed and the whole text of its book, with verdicts where `--kept` was given, added to `out`; `check`: the configuration has no fault, and the line with the number of its jobs was added; `synth`: the script of the numbers was made and replayed, and the summary of its book added |
+/// | 0 | `replay`: the script was replayed and the whole text of its book, with verdicts where `--kept` was given, added to `out`; `check`: the configuration has no fault, and the line with the number of its jobs was added; `synth`: the script of the numbers was made and replayed, and the summary of its book added, with the number of its relabelling runs |
 /// | 2 | exactly where the words are none of these commands', but for want of memory |
 /// | 3 | the shelf has no file of the name, and counted that |
 /// | 4 | `check`: the configuration has a fault, which the message names |

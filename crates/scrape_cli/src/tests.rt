@@ -26,8 +26,11 @@ load 0 76
 sweep 0
 body 15 0 200 "#;
 
-/// More room than any text here needs.
+/// More room than any text here needs, but for a large book.
 const ROOM: usize = 1 << 20;
+
+/// Room for a book of 400,000 entries.
+const BOOK_ROOM: usize = 1 << 26;
 
 /// What a run of the program left.
 #[derive(Drop)]
@@ -279,7 +282,8 @@ fn push_number(alloc: Global, text: &mut Vec<u8>, word: &str, number: u64) -> Re
 }
 
 /// The summary of a script of so many targets and scrapes, by counting in its journal, with the digest of its book. A page has 90 samples,
-/// of which each next one lacks ten; the five reports of a scrape come each time; at the end each of the last series is marked.
+/// of which each next one lacks ten; the five reports of a scrape come each time; at the end each of the last series is marked. Rules are run for each
+/// target, and for each series that the scrape before lacked: as often as one is marked.
 fn summary_of(alloc: Global, targets: u64, scrapes: u64, book: &[u8]) -> Result<Vec<u8>, Fail> {
     let all = targets.saturating_mul(scrapes);
     let scraped = targets.saturating_mul(scrapes.min(1));
@@ -300,7 +304,16 @@ fn summary_of(alloc: Global, targets: u64, scrapes: u64, book: &[u8]) -> Result<
     push_number(alloc, &mut text, "report-stale", ends)?;
     let digest = hex::encode(alloc, Md5::digest(book))?;
     text.extend_from_slice(format!(in alloc; "digest {digest}\n")?.as_bytes())?;
+    push_number(alloc, &mut text, "runs", targets.saturating_add(stale))?;
     Ok(text)
+}
+
+/// The numbers of a script.
+#[derive(Clone, Copy)]
+struct Numbers {
+    seed: u64,
+    targets: u64,
+    scrapes: u64,
 }
 
 /// The summary of a script is that of the book which its replay prints.
@@ -308,16 +321,18 @@ fn assert_summed(
     rt: &impl Abort,
     means: Means,
     script: &[u8],
-    targets: u64,
-    scrapes: u64,
+    numbers: Numbers,
 ) -> Result<(), Fail> {
     let alloc = means.alloc;
-    let book = run_on(means, "replay", script)?;
+    let replay = words_of(alloc, &["replay", "s"])?;
+    let mut shelf = SureShelf::new(files(alloc, script)?)?;
+    let book = run_over(means, replay.as_slice(), &mut shelf, BOOK_ROOM, &[])?;
     assert_eq!(rt; book.status, 0);
-    let wanted = summary_of(alloc, targets, scrapes, book.out.bytes())?;
-    let targets = targets.to_string(alloc)?;
-    let scrapes = scrapes.to_string(alloc)?;
-    let words = words_of(alloc, &["synth", "4294967295", &targets, &scrapes])?;
+    let wanted = summary_of(alloc, numbers.targets, numbers.scrapes, book.out.bytes())?;
+    let seed = numbers.seed.to_string(alloc)?;
+    let targets = numbers.targets.to_string(alloc)?;
+    let scrapes = numbers.scrapes.to_string(alloc)?;
+    let words = words_of(alloc, &["synth", &seed, &targets, &scrapes])?;
     let mut shelf = SureShelf::new(files(alloc, b"")?)?;
     let ran = run_over(means, words.as_slice(), &mut shelf, ROOM, &[])?;
     assert_left(rt, &ran, 0, wanted.as_slice(), b"");
@@ -328,9 +343,30 @@ fn assert_summed(
 fn the_summary_of_a_script_is_that_of_its_replay(rt: HostRuntime) -> Result<(), Fail> {
     let means = means_of(&rt)?;
     let script = make_script(means.alloc, 4294967295, 3, 4)?;
-    assert_summed(&rt, means, script.as_slice(), 3, 4)?;
-    let script = make_script(means.alloc, 4294967295, 1, 1)?;
-    assert_summed(&rt, means, script.as_slice(), 1, 1)?;
-    let script = make_script(means.alloc, 4294967295, 2, 0)?;
-    assert_summed(&rt, means, script.as_slice(), 2, 0)
+    let numbers = Numbers {
+        seed: 4294967295,
+        targets: 3,
+        scrapes: 4,
+    };
+    assert_summed(&rt, means, script.as_slice(), numbers)?;
+    let script = make_script(means.alloc, 0, 1, 0)?;
+    let numbers = Numbers {
+        seed: 0,
+        targets: 1,
+        scrapes: 0,
+    };
+    assert_summed(&rt, means, script.as_slice(), numbers)
+}
+
+/// A journal of 3,007 events with 400,000 entries.
+#[test]
+fn generated_journal(rt: HostRuntime) -> Result<(), Fail> {
+    let means = means_of(&rt)?;
+    let script = make_script(means.alloc, 7, 1000, 3)?;
+    let numbers = Numbers {
+        seed: 7,
+        targets: 1000,
+        scrapes: 3,
+    };
+    assert_summed(&rt, means, script.as_slice(), numbers)
 }

@@ -1,6 +1,6 @@
 -- When a sweep acts: on one life, on one of some lives, and by its answer.
-use Rattle.std.proofs.Common.{◌≡◌, ℕ, ℤ, zero, suc, ◌+◌, ◌<◌, ◌≤◌, List, [], ◌∷◌, ◌++◌, length, take, get_or, Bool, true, false, cond, refl, sym, ap, ap₂, ◌∙◌, arith, rules, not, ◌&&◌, ◌||◌, pos, ◌^◌, max}
-use Rattle.std.specs.Prelude.{Option, Some, None, All, nat_lt, min, is_some, filter}
+use Rattle.std.proofs.Common.{◌≡◌, ℕ, ℤ, ◌+◌, ◌<◌, ◌≤◌, List, [], ◌∷◌, ◌++◌, length, take, get_or, Bool, true, false, cond, refl, sym, ap, ap₂, ◌∙◌, arith, not, ◌&&◌, ◌||◌, pos, ◌^◌, max}
+use Rattle.std.specs.Prelude.{Option, Some, None, nat_lt, is_some, filter}
 use Rattle.std.specs.List.{list_any}
 use Rattle.std.proofs.lemmas.Bool.Decides.{nat_tests}
 use Rattle.std.proofs.lemmas.List.{take_more}
@@ -9,7 +9,6 @@ use Rattle.journal_text.specs.declared.events.Event.{Event}
 use Rattle.journal_text.specs.declared.events.Event.TheVariants.{Sweep}
 use Rattle.journal_text.specs.Events.{now_of}
 use Rattle.journal_text.specs.Lines.{number}
-use Rattle.outside.specs.declared.requests.Request.{Request}
 use Rattle.label_set.specs.declared.texts.Pair.{Pair}
 use Rattle.scrape_config.specs.declared.conf.Job.{Job}
 use Rattle.jobs_in_force.specs.Settings.{settings_of}
@@ -17,11 +16,10 @@ use Rattle.target_set.specs.Requests.{request_of, request_at}
 use Rattle.end_of_run.specs.Endings.{due_at}
 use Rattle.life_roll.specs.Schedules as schedule
 use Rattle.jobs_in_force.specs.declared.jobs.InForce.{InForce}
-use Rattle.scrape_machine.specs.declared.answers.Answer.{Answer}
 use Rattle.scrape_machine.specs.declared.answers.Answer.TheVariants.{Halted}
 use Rattle.scrape_machine.specs.declared.lives.Life.{Life}
-use Rattle.scrape_machine.specs.Lives.{ends, closed_ends, ends_at, is_open}
-use Rattle.scrape_machine.specs.Machine.{World, world_of, answer, live_answer, sweep_answer, starts_in, forces_in, is_over}
+use Rattle.scrape_machine.specs.Lives.{ends, closed_ends}
+use Rattle.scrape_machine.specs.Machine.{World, world_of, answer, live_answer, starts_in, forces_in, is_over}
 use Rattle.scrape_core.specs.Readers.{did, is_due, acts, due_in, IsWake}
 use Rattle.scrape_core.specs.declared.state.State.{State}
 use Rattle.scrape_core.specs.Kept.{seen}

@@ -1,11 +1,10 @@
 -- One more event of a journal: which scrapes it starts, and which finishes it records.
-use Rattle.std.proofs.Common.{◌≡◌, ℕ, ℤ, zero, suc, ◌+◌, ◌<◌, ◌≤◌, ◌==◌, List, [], ◌∷◌, ◌++◌, length, length-append, Bool, true, false, cond, refl, sym, ap, ◌∙◌, rules, arith, not, ◌||◌}
+use Rattle.std.proofs.Common.{◌≡◌, ℕ, ℤ, zero, suc, ◌+◌, ◌<◌, ◌≤◌, ◌==◌, List, [], ◌∷◌, ◌++◌, length, length-append, Bool, true, false, cond, refl, sym, ap, ◌∙◌, arith, not, ◌||◌}
 use Rattle.std.specs.Prelude.{Option, Some, None, Result, Ok, Err, slice_get, slice_set, nat_lt, is_some}
 use Rattle.std.specs.List.{list_any}
 use Rattle.std.proofs.lemmas.Bool.{false≢true}
 use Rattle.std.proofs.lemmas.Bool.Decides.{nat_tests}
 use Rattle.std.proofs.lemmas.List.{length-set}
-use Rattle.std.proofs.lemmas.List.Folds.{list_any-append}
 use Rattle.std.proofs.lemmas.List.Sums.{sum_by-append, sum_by-cons}
 use Rattle.config_fields.specs.declared.fault.ConfFault.{ConfFault}
 use Rattle.jobs_in_force.specs.declared.jobs.Filed.{Filed}
@@ -18,15 +17,14 @@ use Rattle.life_roll.specs.declared.schedule.InFlight.{InFlight}
 use Rattle.outside.specs.declared.replies.Reply.{Reply}
 use Rattle.scrape_config.specs.declared.conf.Group.{Group}
 use Rattle.scrape_laws.specs.Flights.{is_finish_of}
-use Rattle.scrape_machine.specs.declared.answers.Answer.{Answer}
 use Rattle.scrape_machine.specs.declared.answers.Answer.TheVariants.{Halted, NoLife, Busy, NotDue, Forced, Started}
 use Rattle.scrape_machine.specs.declared.lives.Found.TheVariants.{NotStarted, Cancelled, Counts}
 use Rattle.scrape_machine.specs.declared.lives.Life.{Life}
 use Rattle.scrape_machine.specs.declared.lives.Start.{Start}
 use Rattle.scrape_machine.specs.Lives.{is_open}
-use Rattle.scrape_machine.specs.Machine.{World, beginning, world_of, run, step, answer, live_step, live_answer, started_after, starts_from, start_of, started_by, starts_in, is_over, tick_answer, is_halt, found_start, found_life, found_flight, finish_answer, finished, load_answer, update_answer, closed_count, begun_count}
+use Rattle.scrape_machine.specs.Machine.{World, beginning, world_of, run, step, answer, live_step, live_answer, started_after, starts_from, started_by, starts_in, is_over, tick_answer, is_halt, found_start, found_life, found_flight, finish_answer, finished, load_answer, update_answer, closed_count, begun_count}
 use Rattle.scrape_machine.proofs.StepLemmas.{world_push}
-use Rattle.scrape_core.specs.Records.{started_of, one_if, landed, landed_in, finishes, is_finish, answers_from, is_no_ticket, has_lost, is_live}
+use Rattle.scrape_core.specs.Records.{started_of, landed, landed_in, finishes, is_finish, answers_from, is_no_ticket, has_lost, is_live}
 
 -- no halt came
 pub live_world : (es : List Event) → is_live es ≡ true → (world_of es).halted ≡ false

@@ -1,9 +1,11 @@
 -- What a core keeps beside its journal.
-use Rattle.std.specs.Prelude.{◌≡◌, ◌<◌, ◌≤◌, ◌^◌, ◌++◌, false, List, length}
+use Rattle.std.specs.Prelude.{◌≡◌, ℕ, ◌<◌, ◌≤◌, ◌^◌, ◌++◌, false, All, List, length}
 use Rattle.journal_text.specs.declared.events.Event.{Event}
 use Rattle.journal_text.specs.Events.{JournalView}
 use Rattle.report_samples.specs.declared.entries.Entry.{Entry}
+use Rattle.scrape_machine.specs.Lives.{IsRightLife}
 use Rattle.scrape_machine.specs.Machine.{World, world, world_of, book_of, gives}
+use Rattle.scrape_machine.specs.Runs.{runs_of}
 use Rattle.scrape_core.specs.declared.state.State.{State}
 
 -- the world that a state is
@@ -18,11 +20,16 @@ live s = world s.jobs.items s.lives.items s.started.items
 abbrev pub HasFew : State → Type 0
 HasFew s = length s.lives.items < 2 ^ 32
 
--- the state and the book are those of the journal
-pub record IsKept (es : List Event) (book : List Entry) (s : State) : Type 0 where
+-- of each life what is known of the raw texts of its rows is right
+abbrev pub AreRightLives : State → Type 0
+AreRightLives s = All IsRightLife s.lives.items
+
+-- the state, the book and the number of runs are those of the journal
+pub record IsKept (es : List Event) (book : List Entry) (s : State) (runs : ℕ) : Type 0 where
   pub state : seen s ≡ world_of es
   pub book_is : book ≡ book_of es
   pub few : HasFew s
+  pub runs_are : runs ≡ runs_of es
 
 -- the entries of an event were appended
 abbrev pub Appends : World → Event → List Entry → List Entry → Type 0

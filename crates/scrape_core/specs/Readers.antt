@@ -15,7 +15,7 @@ use Rattle.scrape_machine.specs.declared.lives.Start.{Start}
 use Rattle.scrape_core.specs.declared.state.State.{State}
 use Rattle.scrape_core.specs.Wakes.{IsWakeBy}
 use Rattle.scrape_machine.specs.Lives.{ends}
-use Rattle.scrape_machine.specs.Machine.{World, world_of, answer}
+use Rattle.scrape_machine.specs.Machine.{world_of, answer}
 
 -- the answer to a sweep that started or forced a scrape, or took an ending
 abbrev pub did : Answer → Bool

@@ -3,10 +3,13 @@ ghost use Rattle.std.specs.Prelude.{◌≡◌, ◌≤◌, ◌<◌, ◌+◌, ◌^
 ghost use Rattle.journal_text.specs.declared.events.Event.TheVariants.{Load, Targets};
 ghost use Rattle.scrape_machine.specs.Machine as spec;
 ghost use Rattle.scrape_machine.specs.Plans as plan;
+ghost use Rattle.scrape_machine.specs.Runs.{runs};
 ghost use Rattle.scrape_core.specs.Kept as kept;
 
 use crate::state::State;
+use crate::taken::{Taken, without_runs};
 use jobs_in_force::jobs::InForce;
+use jobs_in_force::listed::{listed_by, listed_by_named};
 use jobs_in_force::loads::{in_force_all, load_of};
 use jobs_in_force::updates::{UpdateError, jobs_updated, update_of};
 use label_set::{Blob, Name, NoMemory, Steps};
@@ -109,9 +112,11 @@ pub fn take_load<L: Ledger>(
     moment: Moment,
     text: &Blob,
     steps: &mut Steps<L>,
-) -> Result<Answer, NoMemory>
+) -> Result<Taken, NoMemory>
     requires { kept.HasFew state.old }
-    ensures answer { IfOk result (λ a. a ≡ spec.answer (kept.live state.old) (Load moment text.now)) }
+    ensures answer { IfOk result (λ t. t.answer ≡ spec.answer (kept.live state.old) (Load moment text.now)) }
+    ensures runs { IfOk result (λ t. t.runs ≡ runs (kept.live state.old) (Load moment text.now)) }
+    ensures steps { OnOk result (steps.new ≡ steps.old + runs (kept.live state.old) (Load moment text.now)) }
     ensures state { OnOk result (kept.live state.new ≡ spec.step (kept.live state.old) (Load moment text.now)) }
     ensures few { OnOk result (kept.HasFew state.new) }
     ensures same { state.new.halted ≡ state.old.halted }
@@ -120,13 +125,15 @@ pub fn take_load<L: Ledger>(
     match load_of(alloc, &state.jobs, text.as_slice()) {
         Ok(filed) => {
             let jobs = in_force_all(alloc, filed, steps)?;
+            let runs = listed_by(&jobs)?;
             let synced = reload(alloc, state, moment, jobs)?;
-            Ok(Answer::Loaded {
+            let answer = Answer::Loaded {
                 closed: synced.closed,
                 begun: synced.begun,
-            })
+            };
+            Ok(Taken { answer, runs })
         }
-        Err(ConfError::Bad(fault)) => Ok(Answer::Refused(fault)),
+        Err(ConfError::Bad(fault)) => Ok(without_runs(Answer::Refused(fault))),
         Err(ConfError::NoMemory) => Err(NoMemory),
     }
 }
@@ -140,9 +147,11 @@ pub fn take_update<L: Ledger>(
     file: &Name,
     text: &Blob,
     steps: &mut Steps<L>,
-) -> Result<Answer, NoMemory>
+) -> Result<Taken, NoMemory>
     requires { kept.HasFew state.old }
-    ensures answer { IfOk result (λ a. a ≡ spec.answer (kept.live state.old) (Targets moment job.now file.now text.now)) }
+    ensures answer { IfOk result (λ t. t.answer ≡ spec.answer (kept.live state.old) (Targets moment job.now file.now text.now)) }
+    ensures runs { IfOk result (λ t. t.runs ≡ runs (kept.live state.old) (Targets moment job.now file.now text.now)) }
+    ensures steps { OnOk result (steps.new ≡ steps.old + runs (kept.live state.old) (Targets moment job.now file.now text.now)) }
     ensures state { OnOk result (kept.live state.new ≡ spec.step (kept.live state.old) (Targets moment job.now file.now text.now)) }
     ensures few { OnOk result (kept.HasFew state.new) }
     ensures same { state.new.halted ≡ state.old.halted }
@@ -151,15 +160,17 @@ pub fn take_update<L: Ledger>(
     match update_of(alloc, &state.jobs, job, file, text.as_slice()) {
         Ok(update) => {
             let jobs = jobs_updated(alloc, &state.jobs, &update, steps)?;
+            let runs = listed_by_named(job, &jobs)?;
             let synced = reload(alloc, state, moment, jobs)?;
-            Ok(Answer::Updated {
+            let answer = Answer::Updated {
                 closed: synced.closed,
                 begun: synced.begun,
-            })
+            };
+            Ok(Taken { answer, runs })
         }
-        Err(UpdateError::NoJob) => Ok(Answer::NoJob),
-        Err(UpdateError::NoFile) => Ok(Answer::NoFile),
-        Err(UpdateError::Bad(fault)) => Ok(Answer::Refused(fault)),
+        Err(UpdateError::NoJob) => Ok(without_runs(Answer::NoJob)),
+        Err(UpdateError::NoFile) => Ok(without_runs(Answer::NoFile)),
+        Err(UpdateError::Bad(fault)) => Ok(without_runs(Answer::Refused(fault))),
         Err(UpdateError::NoMemory) => Err(NoMemory),
     }
 }

@@ -1,12 +1,14 @@
 //! What each event does to what a core keeps.
-ghost use Rattle.std.specs.Prelude.{◌≡◌, ◌≤◌, ◌<◌, ◌^◌, ◌++◌, [], false, length, IfOk, OnOk, OnErr};
+ghost use Rattle.std.specs.Prelude.{◌≡◌, ◌≤◌, ◌<◌, ◌+◌, ◌^◌, ◌++◌, [], false, length, IfOk, OnOk, OnErr};
 ghost use Rattle.journal_text.specs.Events.{IsInLimits};
 ghost use Rattle.scrape_machine.specs.Machine as spec;
+ghost use Rattle.scrape_machine.specs.Runs.{runs};
 ghost use Rattle.scrape_core.specs.Kept as kept;
 
 use crate::changes::{take_load, take_update};
 use crate::finishes::take_finish;
 use crate::state::State;
+use crate::taken::{Taken, without_runs};
 use crate::turns::{take_sweep, take_tick};
 use appender_book::Book;
 use journal_text::Event;
@@ -23,11 +25,14 @@ fn take_live<L: Ledger>(
     book: &mut Book,
     event: &Event,
     steps: &mut Steps<L>,
-) -> Result<Answer, NoMemory>
+) -> Result<Taken, NoMemory>
     requires limits { IsInLimits event.now }
     requires few { kept.HasFew state.old }
+    requires right { kept.AreRightLives state.old }
     requires live { state.old.halted ≡ false }
-    ensures answer { IfOk result (λ a. a ≡ spec.answer (kept.live state.old) event.now) }
+    ensures answer { IfOk result (λ t. t.answer ≡ spec.answer (kept.live state.old) event.now) }
+    ensures runs { IfOk result (λ t. t.runs ≡ runs (kept.live state.old) event.now) }
+    ensures steps { OnOk result (steps.new ≡ steps.old + runs (kept.live state.old) event.now) }
     ensures state { OnOk result (kept.seen state.new ≡ spec.step (kept.live state.old) event.now) }
     ensures book { OnOk result (kept.Appends (kept.live state.old) event.now book.old.entries book.new.entries) }
     ensures few { OnOk result (kept.HasFew state.new) }
@@ -45,9 +50,13 @@ fn take_live<L: Ledger>(
             text,
         } => take_update(alloc, state, Moment::new(*moment), job, file, text, steps),
         Event::Tick { moment, life } => {
-            take_tick(alloc, state, book, Moment::new(*moment), *life)
+            let answer = take_tick(alloc, state, book, Moment::new(*moment), *life)?;
+            Ok(without_runs(answer))
         }
-        Event::Sweep { moment } => take_sweep(alloc, state, book, Moment::new(*moment)),
+        Event::Sweep { moment } => {
+            let answer = take_sweep(alloc, state, book, Moment::new(*moment))?;
+            Ok(without_runs(answer))
+        }
         Event::Finish {
             ticket,
             took,
@@ -55,22 +64,25 @@ fn take_live<L: Ledger>(
         } => take_finish(alloc, state, book, *ticket, *took, reply, steps),
         Event::Halt { moment: _ } => {
             state.halted = true;
-            Ok(Answer::Halted)
+            Ok(without_runs(Answer::Halted))
         }
     }
 }
 
-/// An event: the answer, the state and the book become those after it, or all stay as before.
+/// An event: the answer with the number of runs, the state and the book become those after it, or all stay as before.
 pub fn take<L: Ledger>(
     alloc: Global,
     state: &mut State,
     book: &mut Book,
     event: &Event,
     steps: &mut Steps<L>,
-) -> Result<Answer, NoMemory>
+) -> Result<Taken, NoMemory>
     requires limits { IsInLimits event.now }
     requires few { kept.HasFew state.old }
-    ensures answer { IfOk result (λ a. a ≡ spec.answer (kept.seen state.old) event.now) }
+    requires right { kept.AreRightLives state.old }
+    ensures answer { IfOk result (λ t. t.answer ≡ spec.answer (kept.seen state.old) event.now) }
+    ensures runs { IfOk result (λ t. t.runs ≡ runs (kept.seen state.old) event.now) }
+    ensures steps { OnOk result (steps.new ≡ steps.old + runs (kept.seen state.old) event.now) }
     ensures state { OnOk result (kept.seen state.new ≡ spec.step (kept.seen state.old) event.now) }
     ensures book { OnOk result (kept.Appends (kept.seen state.old) event.now book.old.entries book.new.entries) }
     ensures few { OnOk result (kept.HasFew state.new) }
@@ -78,7 +90,7 @@ pub fn take<L: Ledger>(
     ensures err_book { OnErr result (book.new.entries ≡ book.old.entries) }
 {
     if state.halted {
-        return Ok(Answer::Halted);
+        return Ok(without_runs(Answer::Halted));
     }
     take_live(alloc, state, book, event, steps)
 }

@@ -1,12 +1,14 @@
 //! Finished fetches.
-ghost use Rattle.std.specs.Prelude.{◌≡◌, ◌≤◌, ◌<◌, ◌^◌, ◌++◌, [], length, IfOk, OnOk, OnErr};
+ghost use Rattle.std.specs.Prelude.{◌≡◌, ◌≤◌, ◌<◌, ◌+◌, ◌^◌, ◌++◌, [], length, IfOk, OnOk, OnErr};
 ghost use Rattle.journal_text.specs.declared.events.Event.TheVariants.{Finish};
 ghost use Rattle.journal_text.specs.Lines.{IsMoment};
 ghost use Rattle.scrape_machine.specs.declared.lives.Found.TheVariants.{Counts};
 ghost use Rattle.scrape_machine.specs.Machine as spec;
+ghost use Rattle.scrape_machine.specs.Runs.{runs};
 ghost use Rattle.scrape_core.specs.Kept as kept;
 
 use crate::state::State;
+use crate::taken::{Taken, without_runs};
 use appender_book::Book;
 use label_set::{NoMemory, Steps};
 use life_roll::Moment;
@@ -28,12 +30,15 @@ fn finish_counted<L: Ledger>(
     life: u64,
     moment: Moment,
     steps: &mut Steps<L>,
-) -> Result<Answer, NoMemory>
+) -> Result<Taken, NoMemory>
     requires took { IsMoment took }
     requires few { kept.HasFew state.old }
+    requires right { kept.AreRightLives state.old }
     requires found { spec.found (kept.live state.old) ticket ≡ Counts life moment }
     requires within { life < length state.old.lives.items }
-    ensures answer { IfOk result (λ a. a ≡ spec.answer (kept.live state.old) (Finish ticket took reply.now)) }
+    ensures answer { IfOk result (λ t. t.answer ≡ spec.answer (kept.live state.old) (Finish ticket took reply.now)) }
+    ensures runs { IfOk result (λ t. t.runs ≡ runs (kept.live state.old) (Finish ticket took reply.now)) }
+    ensures steps { OnOk result (steps.new ≡ steps.old + runs (kept.live state.old) (Finish ticket took reply.now)) }
     ensures state { OnOk result (kept.live state.new ≡ spec.step (kept.live state.old) (Finish ticket took reply.now)) }
     ensures book { OnOk result (kept.Appends (kept.live state.old) (Finish ticket took reply.now) book.old.entries book.new.entries) }
     ensures few { kept.HasFew state.new }
@@ -42,9 +47,11 @@ fn finish_counted<L: Ledger>(
     ensures err_book { OnErr result (book.new.entries ≡ book.old.entries) }
 {
     let one = &mut state.lives[life as usize];
-    let fault = count(alloc, one, moment.ms(), reply, took, book, steps)?;
+    let counted = count(alloc, one, moment.ms(), reply, took, book, steps)?;
     finish(&mut state.started, ticket);
-    Ok(Answer::Counted(fault))
+    let answer = Answer::Counted(counted.fault);
+    let runs = counted.runs as u64;
+    Ok(Taken { answer, runs })
 }
 
 /// A finished fetch: it counts where its scrape is in flight.
@@ -56,10 +63,13 @@ pub fn take_finish<L: Ledger>(
     took: i64,
     reply: &Reply,
     steps: &mut Steps<L>,
-) -> Result<Answer, NoMemory>
+) -> Result<Taken, NoMemory>
     requires took { IsMoment took }
     requires few { kept.HasFew state.old }
-    ensures answer { IfOk result (λ a. a ≡ spec.answer (kept.live state.old) (Finish ticket took reply.now)) }
+    requires right { kept.AreRightLives state.old }
+    ensures answer { IfOk result (λ t. t.answer ≡ spec.answer (kept.live state.old) (Finish ticket took reply.now)) }
+    ensures runs { IfOk result (λ t. t.runs ≡ runs (kept.live state.old) (Finish ticket took reply.now)) }
+    ensures steps { OnOk result (steps.new ≡ steps.old + runs (kept.live state.old) (Finish ticket took reply.now)) }
     ensures state { OnOk result (kept.live state.new ≡ spec.step (kept.live state.old) (Finish ticket took reply.now)) }
     ensures book { OnOk result (kept.Appends (kept.live state.old) (Finish ticket took reply.now) book.old.entries book.new.entries) }
     ensures few { kept.HasFew state.new }
@@ -70,11 +80,11 @@ pub fn take_finish<L: Ledger>(
     match found(&state.lives, &state.started, ticket) {
         Found::NotStarted => {
             finish(&mut state.started, ticket);
-            Ok(Answer::NoTicket)
+            Ok(without_runs(Answer::NoTicket))
         }
         Found::Cancelled => {
             finish(&mut state.started, ticket);
-            Ok(Answer::Late)
+            Ok(without_runs(Answer::Late))
         }
         Found::Counts { life, moment } => finish_counted(
             alloc, state, book, ticket, took, reply, life, moment, steps,

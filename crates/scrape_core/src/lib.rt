@@ -11,6 +11,7 @@ mod finishes;
 pub mod machine;
 mod readers;
 pub mod state;
+mod taken;
 mod turns;
 
 pub use machine::Core;

@@ -1,5 +1,5 @@
 //! The core: what a scrape manager has taken so far, and one call that takes an event.
-ghost use Rattle.std.specs.Prelude.{◌≡◌, ℕ, List, ◌++◌, [], ◌∷◌, length, pos, true, IfOk, OnOk, OnErr};
+ghost use Rattle.std.specs.Prelude.{◌≡◌, ◌+◌, ◌^◌, ℕ, nat_lt, List, ◌++◌, [], ◌∷◌, length, pos, true, IfOk, OnOk, OnErr};
 ghost use Rattle.label_set.specs.declared.texts.Pair.{Pair};
 ghost use Rattle.journal_text.specs.declared.events.Event.{Event};
 ghost use Rattle.journal_text.specs.declared.events.Event.TheVariants.{Halt};
@@ -8,6 +8,7 @@ ghost use Rattle.journal_text.specs.Lines.{IsMoment, number};
 ghost use Rattle.scrape_core.specs.Readers.{IsWake, is_due, request};
 ghost use Rattle.scrape_core.specs.Records.{is_live, started_of};
 ghost use Rattle.scrape_machine.specs.Machine as spec;
+ghost use Rattle.scrape_machine.specs.Runs as relabelling;
 ghost use Rattle.scrape_laws.specs.Markers.{MarkerLaw, ReportMarkerLaw};
 ghost use Rattle.scrape_laws.specs.Runs.{ClosedRunsLaw};
 ghost use Rattle.scrape_laws.specs.Late.{LateLaw};
@@ -38,6 +39,8 @@ pub struct Core {
     journal: Journal,
     book: Book,
     state: State,
+    /// How often relabelling rules were run.
+    runs: u128,
 }
 
 impl Model for Core {
@@ -50,7 +53,7 @@ impl Model for Core {
 
     ghost view = { λ c. c.journal.events };
 
-    ghost invariant = { λ c. IsKept c.journal.events c.book.entries c.state × HasRoom c.state c.journal };
+    ghost invariant = { λ c. IsKept c.journal.events c.book.entries c.state c.runs × HasRoom c.state c.journal };
 }
 
 /// The halt at a moment.
@@ -69,6 +72,13 @@ fn last_moment(journal: &Journal) -> Moment
 {
     let _events = journal.events();
     Moment::new(journal.now())
+}
+
+/// Whether the runs of any event can be added to these without a number of more than 128 bits.
+fn has_room_for_runs(runs: u128) -> bool
+    ensures { result ≡ nat_lt (runs + 2 ^ 64) (2 ^ 128) }
+{
+    runs < u128::MAX - u64::MAX as u128
 }
 
 impl Core {
@@ -102,6 +112,7 @@ impl Core {
                 started: Vec::new(alloc),
                 halted: false,
             },
+            runs: 0,
         })
     }
 
@@ -113,6 +124,7 @@ impl Core {
     /// each closed run of a tracked series in a life has exactly one stale marker, after it, and no marker stands elsewhere (`markers`, `closed_runs`);
     /// the report markers are those of endings (`report_markers`); a finish that doesn't count adds nothing (`late`);
     /// an event that is nothing to a life, an idle scan and a refused event leave the life as it is (`nothing`, `undisturbed`, `idle`, `refused`);
+    /// each relabelling run takes one step (`steps`);
     /// lives that meet the same go alike (`apart`, `runs`), so that a reload doesn't tear the lives that it leaves alone (`reload`).
     pub fn step<L: Ledger>(
         &mut self,
@@ -136,6 +148,7 @@ impl Core {
         ensures apart { ApartLaw self.old event }
         ensures runs { (other : List Event) → ApartRunsLaw self.new other }
         ensures reload { ReloadLaw self.old event }
+        ensures steps { OnOk result (steps.new ≡ steps.old + relabelling.runs (spec.world_of self.old) event) }
     {
         markers();
         closed_runs();
@@ -145,10 +158,14 @@ impl Core {
         undisturbed();
         lives_apart();
         reloads();
+        if !has_room_for_runs(self.runs) {
+            return Err(NoMemory);
+        }
         self.journal.reserve(2)?;
-        let answer = take(alloc, &mut self.state, &mut self.book, &event, steps)?;
+        let taken = take(alloc, &mut self.state, &mut self.book, &event, steps)?;
+        self.runs += taken.runs as u128;
         self.journal.push(event);
-        Ok(answer)
+        Ok(taken.answer)
     }
 
     /// The moment of the last event that carries one, 0 before any, in milliseconds.
@@ -217,6 +234,14 @@ impl Core {
         ensures { IfOk result (λ o. o ≡ request self.now ticket) }
     {
         request_in(alloc, &self.state.lives, &self.state.started, ticket)
+    }
+
+    /// How often relabelling rules were run for the events of the journal: for each target that a load or an update lists, and for each raw text of a
+    /// body that the last good scrape of its life didn't have.
+    pub fn runs(&self) -> u128
+        ensures { result ≡ relabelling.runs_of self.now }
+    {
+        self.runs
     }
 
     /// How many scrapes were started.

@@ -291,8 +291,9 @@ fn refused_changes<L: Ledger>(
     sweeps(rt, alloc, core, steps, 60_000, "Halted")
 }
 
-/// How many entries the book has, and how many events the journal.
+/// How many entries the book has, and how many events the journal; and that rules were run for one listed target and two raw texts.
 fn has_kept(rt: &impl Abort, core: &Core, entries: usize, events: u64) {
+    expect(rt, core.runs() == 3);
     expect(rt, core.book().len() == entries);
     expect(rt, core.events() == events);
     expect(rt, core.journal().len() as u64 == events);

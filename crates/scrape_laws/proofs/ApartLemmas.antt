@@ -12,8 +12,8 @@ use Rattle.report_samples.specs.declared.entries.Entry.{Entry}
 use Rattle.report_samples.specs.Markers.{stale_entry, report_markers}
 use Rattle.report_samples.specs.Reports.{report_entries}
 use Rattle.end_of_run.specs.Endings.{ending_entries, marker_moment}
-use Rattle.scrape_loop.specs.Sets.{gone}
-use Rattle.scrape_loop.specs.Tracked.{LifeView, after_scrape, samples_of, tracked_sets}
+use Rattle.series_cache.specs.Sets.{gone}
+use Rattle.scrape_loop.specs.Tracked.{LifeView, after_forced, samples_of, tracked_sets}
 use Rattle.scrape_loop.specs.Entries.{sample_entry, counts_of, entries_of}
 use Rattle.life_roll.specs.Schedules as schedule
 use Rattle.life_roll.specs.declared.schedule.InFlight.{InFlight}
@@ -123,7 +123,7 @@ scan_bare m t over l None = by over (schedule.is_due (number m) l.schedule) (sch
   where
     after : ℕ → Bool → Bool → Life → Life
     after k b q p =
-        cond (b && q) (record p { state = after_scrape p.state forced; schedule = cond b (cond q (schedule.moved m p.schedule) (schedule.started m k p.schedule)) p.schedule })
+        cond (b && q) (record p { state = after_forced p.state; schedule = cond b (cond q (schedule.moved m p.schedule) (schedule.started m k p.schedule)) p.schedule })
         (record p { schedule = cond b (cond q (schedule.moved m p.schedule) (schedule.started m k p.schedule)) p.schedule })
 
     by : (q b c : Bool) → b ≡ c → bare (after t b q l) ≡ bare (after 0 c q (bare l))
@@ -139,7 +139,6 @@ scan_bare m t over l (Some c) = by (ends_at (number m) c l)
     by false = bare_twice l
 
 pub after_bare : (loc : Local) (l : Life) → bare (life_after loc l) ≡ bare (life_after (bare_local loc) (bare l))
-unfolding outcome_for
 after_bare Nothing l = bare_twice l
 after_bare (Scan m t over) l = scan_bare m t over l l.schedule.closed
 after_bare (Answered took r) l = refl

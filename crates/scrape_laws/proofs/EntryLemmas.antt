@@ -11,7 +11,7 @@ use Rattle.report_samples.specs.declared.scrape_reports.Report.{Report}
 use Rattle.report_samples.specs.Markers.{stale_entry, report_marker, report_markers}
 use Rattle.report_samples.specs.Reports.{report_entry, report_entries, report_order, report_value}
 use Rattle.end_of_run.specs.Endings.{ending_entries, marker_moment}
-use Rattle.scrape_loop.specs.Sets.{has, gone}
+use Rattle.series_cache.specs.Sets.{has, gone}
 use Rattle.scrape_loop.specs.Tracked.{LifeView, samples_of, tracked_sets}
 use Rattle.scrape_loop.specs.Entries.{sample_entry, sample_entries, stale_entries, entries_of, counts_of}
 use Rattle.scrape_laws.specs.Scrapes.{LifeScrape, same_series, is_sample_of, tracks}

@@ -7,8 +7,7 @@ use Rattle.journal_text.specs.declared.events.Event.{Event}
 use Rattle.journal_text.specs.declared.events.Event.TheVariants.{Load, Targets, Tick, Sweep, Finish, Halt}
 use Rattle.journal_text.specs.Lines.{number}
 use Rattle.scrape_config.specs.declared.conf.Job.{Job}
-use Rattle.sample_rows.specs.Outcomes.{forced}
-use Rattle.scrape_loop.specs.Tracked.{after_scrape}
+use Rattle.scrape_loop.specs.Tracked.{after_forced}
 use Rattle.life_roll.specs.Schedules as schedule
 use Rattle.life_roll.specs.declared.schedule.InFlight.{InFlight}
 use Rattle.life_roll.specs.declared.schedule.Schedule.{Schedule}
@@ -109,7 +108,7 @@ life_scan : (m : ℤ) (t k : ℕ) (over : Bool) (l : Life) (o : Option ℤ) → 
 life_scan m t k over l None lt = by (forces (number m) over l)
   where
     by : (b : Bool) →
-        since k (cond b (record l { state = after_scrape l.state forced; schedule = schedule.scanned m t over l.schedule }) (record l { schedule = schedule.scanned m t over l.schedule })).schedule.flight
+        since k (cond b (record l { state = after_forced l.state; schedule = schedule.scanned m t over l.schedule }) (record l { schedule = schedule.scanned m t over l.schedule })).schedule.flight
         ≡ since k l.schedule.flight
     by true = scan_since m t k over l.schedule (schedule.is_due (number m) l.schedule) refl lt
     by false = scan_since m t k over l.schedule (schedule.is_due (number m) l.schedule) refl lt

@@ -15,3 +15,6 @@ pub mod ApartLemmas
 pub mod MeetLemmas
 pub mod OwnLemmas
 pub mod RefusedLemmas
+pub mod ConfLemmas
+pub mod JobLemmas
+pub mod RightLemmas

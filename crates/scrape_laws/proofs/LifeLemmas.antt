@@ -4,11 +4,12 @@ use Rattle.std.specs.List.{filter}
 use Rattle.std.proofs.lemmas.Bool.{true≢false, false≢true, and_parts, not-true}
 use Rattle.label_set.specs.declared.texts.Pair.{Pair}
 use Rattle.journal_text.specs.Lines.{number}
+use Rattle.outside.specs.declared.replies.Reply.{Reply}
 use Rattle.sample_rows.specs.Outcomes.{forced}
 use Rattle.sample_rows.specs.declared.scrape.Scrape.{Scrape}
 use Rattle.report_samples.specs.declared.entries.Entry.{Entry}
 use Rattle.end_of_run.specs.Endings.{ending_entries, marker_moment}
-use Rattle.scrape_loop.specs.Tracked.{LifeView, after_scrape}
+use Rattle.scrape_loop.specs.Tracked.{LifeView, after_forced, after_scrape}
 use Rattle.scrape_loop.specs.Entries.{entries_of}
 use Rattle.life_roll.specs.Schedules as schedule
 use Rattle.life_roll.specs.declared.schedule.InFlight.{InFlight}
@@ -93,7 +94,7 @@ any_ends : (p : LifeScrape → Bool) (ss : List LifeScrape) → ends_with p fals
 any_ends p [] h = absurd (false≢true h)
 any_ends p (s ∷ ss) h = refl
 
-scanned_closed : (m : ℤ) (k : ℕ) (over : Bool) (s : Schedule) → (schedule.scanned m k over s).closed ≡ s.closed
+pub scanned_closed : (m : ℤ) (k : ℕ) (over : Bool) (s : Schedule) → (schedule.scanned m k over s).closed ≡ s.closed
 scanned_closed m k over s = by (schedule.is_due (number m) s) over
   where
     by : (b q : Bool) → (cond b (cond q (schedule.moved m s) (schedule.started m k s)) s).closed ≡ s.closed
@@ -132,8 +133,8 @@ module _ (n : ℕ) (x : List Pair) (ss : List LifeScrape) (l : Life) where
         reports = ap (λ z. reports_at n k.state.target z ss) (no_ending k (en ∙ d)) ∙ sym (append-nil _ ∙ no_reports_yet ss d);
       }
 
-  -- a scrape counts
-  scrape_goes : (k : Life) (s : LifeScrape) (took : ℤ) → k.state ≡ after_scrape l.state s.outcome → k.ended ≡ l.ended → is_open k ≡ true → is_open l ≡ true → Knows n x ss l →
+  -- a scrape counts, whatever is known of raw texts then
+  scrape_goes : (k : Life) (s : LifeScrape) (took : ℤ) → record k.state { cache = l.state.cache } ≡ after_scrape l.state s.outcome → k.ended ≡ l.ended → is_open k ≡ true → is_open l ≡ true → Knows n x ss l →
       Goes n x ss (ss ++ s ∷ []) l k (entries_of l.state s.outcome s.moment took)
   scrape_goes k s took at en p o w =
       let d = w.ended o in
@@ -155,12 +156,12 @@ module _ (n : ℕ) (x : List Pair) (ss : List LifeScrape) (l : Life) where
   -- a scan of an open life
   scan_open : (m : ℤ) (k : ℕ) (over b : Bool) → l.schedule.closed ≡ None → Knows n x ss l →
       Goes n x ss (ss ++ cond b (record { moment = m; outcome = forced } ∷ []) []) l
-      (cond b (record l { state = after_scrape l.state forced; schedule = schedule.scanned m k over l.schedule }) (record l { schedule = schedule.scanned m k over l.schedule }))
+      (cond b (record l { state = after_forced l.state; schedule = schedule.scanned m k over l.schedule }) (record l { schedule = schedule.scanned m k over l.schedule }))
       (cond b (entries_of l.state forced m (pos 0)) [])
   scan_open m k over true e w =
       let o : is_open l ≡ true = ap (λ z. not (is_some z)) e in
       let p : not (is_some (schedule.scanned m k over l.schedule).closed) ≡ true = ap (λ z. not (is_some z)) (scanned_closed m k over l.schedule ∙ e) in
-      scrape_goes (record l { state = after_scrape l.state forced; schedule = schedule.scanned m k over l.schedule }) (record { moment = m; outcome = forced })
+      scrape_goes (record l { state = after_forced l.state; schedule = schedule.scanned m k over l.schedule }) (record { moment = m; outcome = forced })
       (pos 0) refl refl p o w
   scan_open m k over false e w =
       let o : is_open l ≡ true = ap (λ z. not (is_some z)) e in
@@ -205,14 +206,15 @@ module _ (n : ℕ) (x : List Pair) (ss : List LifeScrape) (l : Life) where
   open_since false e f h = absurd (not_flying l.schedule.flight f (h e))
 
   -- the scrape in flight has its finish
-  answered_goes : (took : ℤ) (s : Scrape) (o : Option InFlight) → is_some o ≡ true → is_open l ≡ true → Knows n x ss l →
-      Goes n x ss (ss ++ flight_scrape s o) l (counted l s) (counting_entries l took s o)
-  answered_goes took s None e q w = absurd (false≢true e)
-  answered_goes took s (Some f) e q w = scrape_goes (counted l s) (record { moment = f.moment; outcome = s }) took refl refl q q w
+  answered_goes : (took : ℤ) (r : Reply) (o : Option InFlight) → is_some o ≡ true → is_open l ≡ true → Knows n x ss l →
+      Goes n x ss (ss ++ flight_scrape (outcome_for l took r) o) l (counted l took r) (counting_entries l took (outcome_for l took r) o)
+  unfolding outcome_for
+  answered_goes took r None e q w = absurd (false≢true e)
+  answered_goes took r (Some f) e q w = scrape_goes (counted l took r) (record { moment = f.moment; outcome = outcome_for l took r }) took refl refl q q w
 
   pub life_goes : (loc : Local) → Fits loc l → Knows n x ss l → Goes n x ss (ss ++ act_scrape loc l) l (life_after loc l) (life_gives loc l)
   life_goes Nothing f w = subst (λ ts. Goes n x ss ts l l []) (sym (append-nil ss)) (still_goes w)
   life_goes (Scan m k over) f w = scan_any m k over l.schedule.closed refl w
-  life_goes (Answered took r) f w = answered_goes took (outcome_for l took r) l.schedule.flight f (open_since (is_open l) refl f w.quiet) w
+  life_goes (Answered took r) f w = answered_goes took r l.schedule.flight f (open_since (is_open l) refl f w.quiet) w
   life_goes (Change m s) f w = subst (λ ts. Goes n x ss ts l (changed m s l) []) (sym (append-nil ss)) (quiet_goes (changed m s l) refl refl (λ h. refl) f w)
   life_goes (Close m) f w = subst (λ ts. Goes n x ss ts l (closed m l) []) (sym (append-nil ss)) (quiet_goes (closed m l) refl refl (λ h. refl) f w)

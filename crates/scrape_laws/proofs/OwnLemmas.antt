@@ -6,8 +6,7 @@ use Rattle.journal_text.specs.declared.events.Event.{Event}
 use Rattle.journal_text.specs.declared.events.Event.TheVariants.{Load, Targets, Tick, Sweep, Finish, Halt}
 use Rattle.journal_text.specs.Lines.{number}
 use Rattle.scrape_config.specs.declared.conf.Job.{Job}
-use Rattle.sample_rows.specs.Outcomes.{forced}
-use Rattle.scrape_loop.specs.Tracked.{after_scrape}
+use Rattle.scrape_loop.specs.Tracked.{after_forced}
 use Rattle.life_roll.specs.Flights.{is_flight}
 use Rattle.life_roll.specs.Schedules as schedule
 use Rattle.life_roll.specs.declared.schedule.InFlight.{InFlight}
@@ -79,7 +78,7 @@ scan_starts : (m : ℤ) (t k : ℕ) (over : Bool) (l : Life) (o : Option ℤ) �
 scan_starts m t k over l None h = by (forces (number m) over l) h
   where
     by : (b : Bool) →
-        flies k (cond b (record l { state = after_scrape l.state forced; schedule = schedule.scanned m t over l.schedule }) (record l { schedule = schedule.scanned m t over l.schedule })) ≡ true →
+        flies k (cond b (record l { state = after_forced l.state; schedule = schedule.scanned m t over l.schedule }) (record l { schedule = schedule.scanned m t over l.schedule })) ≡ true →
         (flies k l ≡ true) ⊎ ((t ≡ k) × (starts (number m) over l ≡ true))
     by true h = due_starts m t k over l.schedule (schedule.is_due (number m) l.schedule) h
     by false h = due_starts m t k over l.schedule (schedule.is_due (number m) l.schedule) h

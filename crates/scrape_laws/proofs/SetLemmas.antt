@@ -12,7 +12,7 @@ use Rattle.label_set.specs.Sets.{set_cmp, sets_total}
 use Rattle.label_set.specs.Same.{sets_decide}
 use Rattle.label_set.specs.declared.texts.Pair.{Pair}
 use Rattle.sample_rows.specs.declared.scrape.Sample.{Sample}
-use Rattle.scrape_loop.specs.Sets.{has, gone, rising}
+use Rattle.series_cache.specs.Sets.{has, gone, rising}
 use Rattle.scrape_loop.specs.Tracked.{samples_of, sets_in, tracked_in, tracked_sets}
 use Rattle.scrape_laws.specs.Scrapes.{LifeScrape, same_series, is_sample_of, tracks}
 

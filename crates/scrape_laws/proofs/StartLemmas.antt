@@ -6,8 +6,7 @@ use Rattle.outside.specs.declared.replies.Reply.{Reply}
 use Rattle.journal_text.specs.declared.events.Event.{Event}
 use Rattle.journal_text.specs.declared.events.Event.TheVariants.{Load, Targets, Tick, Sweep, Finish, Halt}
 use Rattle.journal_text.specs.Lines.{number}
-use Rattle.sample_rows.specs.Outcomes.{forced}
-use Rattle.scrape_loop.specs.Tracked.{after_scrape}
+use Rattle.scrape_loop.specs.Tracked.{after_forced}
 use Rattle.life_roll.specs.Schedules as schedule
 use Rattle.life_roll.specs.declared.schedule.InFlight.{InFlight}
 use Rattle.life_roll.specs.declared.schedule.Schedule.{Schedule}
@@ -39,7 +38,7 @@ scan_starts m t over l None e s = by (forces (number m) over l)
     due = due_since m t l.schedule (schedule.is_due (number m) l.schedule) over p.0 (not-true over p.1)
 
     by : (b : Bool) →
-        since t (cond b (record l { state = after_scrape l.state forced; schedule = schedule.scanned m t over l.schedule }) (record l { schedule = schedule.scanned m t over l.schedule })).schedule.flight
+        since t (cond b (record l { state = after_forced l.state; schedule = schedule.scanned m t over l.schedule }) (record l { schedule = schedule.scanned m t over l.schedule })).schedule.flight
         ≡ Some m
     by true = due
     by false = due

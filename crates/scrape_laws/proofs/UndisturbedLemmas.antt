@@ -7,7 +7,7 @@ use Rattle.journal_text.specs.declared.events.Event.TheVariants.{Load, Targets, 
 use Rattle.journal_text.specs.Lines.{number}
 use Rattle.sample_rows.specs.Outcomes.{forced}
 use Rattle.end_of_run.specs.Endings.{ending_entries}
-use Rattle.scrape_loop.specs.Tracked.{after_scrape}
+use Rattle.scrape_loop.specs.Tracked.{after_forced}
 use Rattle.scrape_loop.specs.Entries.{entries_of}
 use Rattle.life_roll.specs.Schedules as schedule
 use Rattle.scrape_machine.specs.declared.lives.Life.{Life}
@@ -56,7 +56,7 @@ module _ (m : ℤ) (t : ℕ) (over : Bool) (l : Life) where
       (scanned_life m t over l None ≡ l) × (scan_entries m over l None ≡ [])
   idle_open true d h = absurd (true≢false h)
   idle_open false d h = (
-    ap (λ b. cond (b && over) (record l { state = after_scrape l.state forced; schedule = cond b (cond over (schedule.moved m l.schedule) (schedule.started m t l.schedule)) l.schedule })
+    ap (λ b. cond (b && over) (record l { state = after_forced l.state; schedule = cond b (cond over (schedule.moved m l.schedule) (schedule.started m t l.schedule)) l.schedule })
         (record l { schedule = cond b (cond over (schedule.moved m l.schedule) (schedule.started m t l.schedule)) l.schedule })) d,
     ap (λ b. cond (b && over) (entries_of l.state forced m (pos 0)) []) d,
   )

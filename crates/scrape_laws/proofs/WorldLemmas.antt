@@ -14,7 +14,7 @@ use Rattle.jobs_in_force.specs.Jobs.{job_named, has_target}
 use Rattle.jobs_in_force.specs.Settings.{settings_of}
 use Rattle.life_roll.specs.Schedules as schedule
 use Rattle.life_roll.specs.declared.schedule.InFlight.{InFlight}
-use Rattle.scrape_loop.specs.Tracked.{after_scrape}
+use Rattle.scrape_loop.specs.Tracked.{after_forced}
 use Rattle.report_samples.specs.declared.entries.Entry.{Entry}
 use Rattle.sample_rows.specs.Outcomes.{forced}
 use Rattle.scrape_machine.specs.declared.lives.Life.{Life}
@@ -149,7 +149,7 @@ keeps_number (Scan m k over) l = scan_keeps l.schedule.closed
     scan_keeps : (o : Option ℤ) → (scanned_life m k over l o).state.life ≡ l.state.life
     scan_keeps None = by (forces (number m) over l)
       where
-        by : (b : Bool) → (cond b (record l { state = after_scrape l.state forced; schedule = schedule.scanned m k over l.schedule }) (record l { schedule = schedule.scanned m k over l.schedule })).state.life ≡ l.state.life
+        by : (b : Bool) → (cond b (record l { state = after_forced l.state; schedule = schedule.scanned m k over l.schedule }) (record l { schedule = schedule.scanned m k over l.schedule })).state.life ≡ l.state.life
         by true = refl
         by false = refl
     scan_keeps (Some c) = by (ends_at (number m) c l)

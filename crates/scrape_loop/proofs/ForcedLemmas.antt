@@ -1,7 +1,7 @@
 -- Of a scrape that isn't made.
 use Rattle.std.proofs.Common.{◌≡◌, List, [], ◌∷◌, refl, ap}
 use Rattle.label_set.specs.declared.texts.Pair.{Pair}
-use Rattle.scrape_loop.specs.Sets.{gone}
+use Rattle.series_cache.specs.Sets.{gone}
 
 -- where there are no sets any more, all are gone
 pub gone_all : (xs : List (List Pair)) → gone xs [] ≡ xs

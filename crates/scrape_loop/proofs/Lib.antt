@@ -1,4 +1,6 @@
+pub mod CountLemmas
 pub mod ForcedLemmas
-pub mod SampleLemmas
+pub mod RightLemmas
+pub mod ShownLemmas
 pub mod SettleLemmas
-pub mod WalkLemmas
+pub mod TextLemmas

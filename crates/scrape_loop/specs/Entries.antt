@@ -8,7 +8,7 @@ use Rattle.report_samples.specs.Markers.{stale_entry}
 use Rattle.report_samples.specs.Reports.{report_entries}
 use Rattle.sample_rows.specs.declared.scrape.Sample.{Sample}
 use Rattle.sample_rows.specs.declared.scrape.Scrape.{Scrape}
-use Rattle.scrape_loop.specs.Sets.{gone}
+use Rattle.series_cache.specs.Sets.{gone}
 use Rattle.scrape_loop.specs.Tracked.{LifeView, samples_of, tracked_sets, all_sets, is_good, scraped_of, left_of}
 
 -- the sample of a row of a scrape that started at m: at its own timestamp, or at m

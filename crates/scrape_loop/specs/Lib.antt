@@ -1,4 +1,5 @@
-pub mod Sets
+pub mod Texts
 pub mod Tracked
+pub mod Shown
 pub mod Entries
 pub mod Closings

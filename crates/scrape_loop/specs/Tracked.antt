@@ -1,6 +1,6 @@
 -- The sets of a scrape, and what it leaves to the life that it is of ("Staleness" of the Prometheus documentation: a series that is no longer
 -- present ends, and one whose samples have timestamps of their own isn't marked; "Configuration", scrape_config: honor_timestamps).
-use Rattle.std.specs.Prelude.{ℕ, ℤ, Bool, true, false, List, [], map, filter, length, Option, Some, None, is_none, if◌then◌else◌}
+use Rattle.std.specs.Prelude.{ℕ, ℤ, ◌-◌, Bool, true, false, List, [], map, filter, length, Option, Some, None, is_none}
 use Rattle.label_set.specs.declared.texts.Pair.{Pair}
 use Rattle.outside.specs.declared.replies.Reply.{Reply}
 use Rattle.relabel.specs.declared.conf.RuleConf.{RuleConf}
@@ -9,16 +9,19 @@ use Rattle.sample_rows.specs.declared.scrape.RowRules.{RowRules}
 use Rattle.sample_rows.specs.declared.scrape.Sample.{Sample}
 use Rattle.sample_rows.specs.declared.scrape.Scrape.{Scrape}
 use Rattle.sample_rows.specs.declared.scrape.Scrape.TheVariants.{Good, Bad}
-use Rattle.sample_rows.specs.Outcomes.{outcome}
-use Rattle.scrape_loop.specs.Sets.{rising}
+use Rattle.sample_rows.specs.Outcomes.{outcome, forced, rows_or_fault}
+use Rattle.series_cache.specs.Caches.{CacheView, kept_sets, turned, was_sets}
+use Rattle.series_cache.specs.Sets.{rising}
+use Rattle.scrape_loop.specs.Texts.{no_texts, texts_by}
 
 -- what contracts see of a life's state: its number, its target's labels, the sets that its last counted scrape tracked,
--- all sets of its last good one, and whether a scrape of it counted, a forced one too
+-- all sets of its last good one, what is known of the raw texts of that one, and whether a scrape of it counted, a forced one too
 pub record LifeView : Type 0 where
   pub life : ℕ
   pub target : List Pair
   pub tracked : List (List Pair)
   pub known : List (List Pair)
+  pub cache : CacheView
   pub scraped : Bool
 
 -- the fault, where the scrape isn't good
@@ -67,18 +70,39 @@ abbrev pub known_after : List (List Pair) → Scrape → List (List Pair)
 known_after known (Good rows scraped) = all_sets (Good rows scraped)
 known_after known (Bad f scraped left) = known
 
--- the state after a scrape, good or not, with the sets that it tracks and all its sets
-abbrev pub settled : LifeView → Bool → List (List Pair) → List (List Pair) → LifeView
-settled l good tracked all = record l { tracked = tracked; known = if good then all else l.known; scraped = true }
+-- the state of a life by its number, its target's labels, what is known of raw texts, and whether a scrape of it counted: the texts tell
+-- the sets that its last counted scrape tracked, and all sets of its last good one
+abbrev pub life_of : ℕ → List Pair → CacheView → Bool → LifeView
+life_of life target c scraped =
+    record { life = life; target = target; tracked = rising (was_sets c.texts); known = rising (kept_sets c); cache = c; scraped = scraped }
 
 -- the state of a life of which nothing was scraped yet
 abbrev pub fresh : ℕ → List Pair → LifeView
-fresh life target = record { life = life; target = target; tracked = []; known = []; scraped = false }
+fresh life target = record { life = life; target = target; tracked = []; known = []; cache = no_texts; scraped = false }
 
 -- the state after a scrape that counts, good or bad: it tracks what that scrape tracks
 abbrev pub after_scrape : LifeView → Scrape → LifeView
 after_scrape l s = record l { tracked = tracked_sets s; known = known_after l.known s; scraped = true }
 
+-- the state after a forced scrape: it tracks nothing, and what is known of raw texts stays
+abbrev pub after_forced : LifeView → LifeView
+after_forced l = record (after_scrape l forced) { cache = turned false l.cache }
+
 -- what a scrape of the life's target comes to, by the job's rules, the reply and how many milliseconds it took
 abbrev pub outcome_for : LifeView → RowRules → List RuleConf → Reply → ℤ → Scrape
 outcome_for l rules metric reply took = outcome rules metric l.target reply took
+
+-- what is known of raw texts, and shown, after the rows of a reply
+abbrev pub texts_for : LifeView → RowRules → List RuleConf → Reply → ℤ → CacheView
+texts_for l rules metric reply took = texts_by rules metric l.target l.cache (rows_or_fault rules reply took)
+
+-- the state after a reply to a scrape of the life's target that counts
+abbrev pub after_reply : LifeView → RowRules → List RuleConf → Reply → ℤ → LifeView
+after_reply l rules metric reply took =
+    record (after_scrape l (outcome_for l rules metric reply took)) {
+      cache = turned (is_good (outcome_for l rules metric reply took)) (texts_for l rules metric reply took);
+    }
+
+-- how often the rules for samples are run: once for each raw text of the rows that isn't known
+abbrev pub runs_for : LifeView → RowRules → List RuleConf → Reply → ℤ → ℕ
+runs_for l rules metric reply took = length (texts_for l rules metric reply took).texts - length l.cache.texts

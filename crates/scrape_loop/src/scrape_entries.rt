@@ -1,14 +1,17 @@
 //! The entries of a scrape.
-ghost use Rattle.std.specs.Prelude.{◌≡◌, ◌++◌, map, OnOk};
+ghost use Rattle.std.specs.Prelude.{◌≡◌, ◌++◌, map, IfOk, OnOk};
 ghost use Rattle.report_samples.specs.Markers.{stale_entry};
 ghost use Rattle.scrape_loop.specs.Entries as spec;
-ghost use Rattle.scrape_loop.specs.Sets.{IsRising, gone, unless_found};
-ghost use Rattle.scrape_loop.specs.Tracked.{all_sets};
+ghost use Rattle.scrape_loop.specs.Shown.{Shows};
+ghost use Rattle.scrape_loop.specs.Tracked.{tracked_sets};
+ghost use Rattle.series_cache.specs.Caches.{kept_sets, was_sets};
+ghost use Rattle.series_cache.specs.Sets.{gone, rising};
 
-use crate::walk::{count_without, meet};
-use label_set::{LabelSet, NoMemory};
+use label_set::{LabelSet, NoMemory, SetList};
 use report_samples::{Entry, Kind, ReportCounts, stale_entry};
 use sample_rows::{Sample, Scrape};
+use series_cache::SeriesCache;
+use std::alloc::Global;
 
 fn sample_entry(life: u64, moment: i64, sample: Sample) -> Entry
     ensures { result ≡ spec.sample_entry life moment sample }
@@ -39,55 +42,54 @@ pub fn push_samples(
     Ok(())
 }
 
-/// Adds a stale marker for a set, unless it was found.
-fn push_if_gone(
-    entries: &mut Vec<Entry>,
-    life: u64,
-    moment: i64,
-    found: bool,
-    set: &LabelSet,
-) -> Result<(), NoMemory>
-    ensures { OnOk result (entries.new.items ≡ entries.old.items ++ map (stale_entry life moment) (unless_found found set.now)) }
-{
-    if found {
-        return Ok(());
-    }
-    let entry = stale_entry(life, moment, set)?;
-    entries.reserve(1)?;
-    entries.push_reserved(entry);
-    Ok(())
-}
-
-/// Adds a stale marker for each of the sets before that isn't among those now.
+/// Adds a stale marker for each of some sets.
 pub fn push_stale(
     entries: &mut Vec<Entry>,
     life: u64,
     moment: i64,
-    before: &[LabelSet],
-    now: &[LabelSet],
+    sets: &[LabelSet],
 ) -> Result<(), NoMemory>
-    requires before { IsRising before.now }
-    requires now { IsRising now.now }
-    ensures { OnOk result (entries.new.items ≡ entries.old.items ++ map (stale_entry life moment) (gone before.now now.now)) }
+    ensures { OnOk result (entries.new.items ≡ entries.old.items ++ map (stale_entry life moment) sets.now) }
 {
-    let mut rest = now;
-    for set in before {
-        let met = meet(rest, set);
-        rest = met.above;
-        push_if_gone(entries, life, moment, met.found, set)?;
+    for set in sets {
+        let entry = stale_entry(life, moment, set)?;
+        entries.reserve(1)?;
+        entries.push_reserved(entry);
     }
     Ok(())
 }
 
-/// What the reports of a scrape say, by all its sets and those of the last good one.
-pub fn counts_of(scrape: &Scrape, took: i64, all: &[LabelSet], known: &[LabelSet]) -> ReportCounts
-    requires all { all.now ≡ all_sets scrape.now }
-    requires all_rise { IsRising all.now }
-    requires known_rise { IsRising known.now }
-    ensures { result ≡ spec.counts_of known.now scrape.now took }
+/// The series that end with a scrape, sets rising, where the cache shows the sets of the scrape.
+#[tactic(auto, using(crate::proofs::SettleLemmas::stale_shown))]
+pub fn ended(alloc: Global, cache: &SeriesCache, scrape: &Scrape) -> Result<SetList, NoMemory>
+    requires shows { Shows cache.now scrape.now }
+    ensures { IfOk result (λ l. l ≡ gone (rising (was_sets cache.now.texts)) (tracked_sets scrape.now)) }
 {
-    let added = count_without(all, known) as u64;
-    match scrape {
+    cache.vanished(alloc)
+}
+
+/// How many series a scrape adds, where the cache shows its sets.
+#[tactic(auto, using(crate::proofs::SettleLemmas::added_shown))]
+fn added(alloc: Global, cache: &SeriesCache, scrape: &Scrape) -> Result<u64, NoMemory>
+    requires shows { Shows cache.now scrape.now }
+    ensures { IfOk result (λ n. n ≡ spec.added_count (rising (kept_sets cache.now)) scrape.now) }
+{
+    let count = cache.added(alloc)?;
+    Ok(count as u64)
+}
+
+/// What the reports of a scrape say, where the cache shows its sets.
+pub fn counts_of(
+    alloc: Global,
+    cache: &SeriesCache,
+    scrape: &Scrape,
+    took: i64,
+) -> Result<ReportCounts, NoMemory>
+    requires shows { Shows cache.now scrape.now }
+    ensures { IfOk result (λ r. r ≡ spec.counts_of (rising (kept_sets cache.now)) scrape.now took) }
+{
+    let added = added(alloc, cache, scrape)?;
+    Ok(match scrape {
         Scrape::Good { rows, scraped } => ReportCounts {
             up: true,
             took,
@@ -106,5 +108,5 @@ pub fn counts_of(scrape: &Scrape, took: i64, all: &[LabelSet], known: &[LabelSet
             left: *left,
             added,
         },
-    }
+    })
 }

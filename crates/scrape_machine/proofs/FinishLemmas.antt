@@ -18,6 +18,7 @@ use Rattle.scrape_machine.specs.declared.lives.Found.TheVariants.{NotStarted, Ca
 use Rattle.scrape_machine.specs.declared.lives.Local.TheVariants.{Nothing, Answered}
 use Rattle.scrape_machine.specs.Lives.{life_after, life_gives, outcome_for, counted, counting_entries}
 use Rattle.scrape_machine.specs.Machine.{world, local, finish_local, finish_answer, fault_at, found, found_flight, found_life, found_start, finished, IsMissed, step, gives, answer}
+use Rattle.scrape_machine.specs.Runs.{runs, finish_runs, life_runs, scrape_runs}
 use Rattle.scrape_machine.proofs.OneLemmas.{quiet_lives, quiet_gives, one_life, one_life_gives}
 
 -- what stands behind a finish that counts: the life has the scrape in flight, since the moment
@@ -60,6 +61,11 @@ module _ (jobs : List InForce) (ls : List Life) (ss : List Start) (k : ℕ) (too
   missed_local a Cancelled h n = refl
   missed_local a (Counts j m) h n = absurd h
 
+  missed_runs_by : (a : Answer) (f : Found) → IsMissed a f → finish_runs (world jobs ls ss) took r f ≡ 0
+  missed_runs_by a NotStarted h = refl
+  missed_runs_by a Cancelled h = refl
+  missed_runs_by a (Counts j m) h = absurd h
+
   missed_answer : (a : Answer) (f : Found) → IsMissed a f → a ≡ finish_answer (world jobs ls ss) took r f
   missed_answer a NotStarted h = h
   missed_answer a Cancelled h = h
@@ -79,6 +85,10 @@ module _ (jobs : List InForce) (ls : List Life) (ss : List Start) (k : ℕ) (too
   unfolding answer
   missed_said a h = missed_answer a (found (world jobs ls ss) k) h
 
+  pub missed_runs : (a : Answer) → IsMissed a (found (world jobs ls ss) k) → runs (world jobs ls ss) (Finish k took r) ≡ 0
+  unfolding runs
+  missed_runs a h = missed_runs_by a (found (world jobs ls ss) k) h
+
   -- a finish that counts
   module _ (j : ℕ) (m : ℤ) (e : found (world jobs ls ss) k ≡ Counts j m) where
     other : (n : ℕ) (l : Life) → (j ≡ n → ⊥) → local (world jobs ls ss) (Finish k took r) n l ≡ Nothing
@@ -87,13 +97,13 @@ module _ (jobs : List InForce) (ls : List Life) (ss : List Start) (k : ℕ) (too
     here : (l : Life) → local (world jobs ls ss) (Finish k took r) j l ≡ Answered took r
     here l = ap (finish_local j took r) e ∙ ap (λ b. cond b (Answered took r) Nothing) (eq-eqb j j refl)
 
-    pub counted_world : (ts : List Start) (d y : Life) → j < length ls → y ≡ counted (get_or ls j d) (outcome_for (get_or ls j d) took r) →
+    pub counted_world : (ts : List Start) (d y : Life) → j < length ls → y ≡ counted (get_or ls j d) took r →
         ts ≡ finished (slice_get ss k) ss k → world jobs (set ls j y) ts ≡ step (world jobs ls ss) (Finish k took r)
     unfolding step
     counted_world ts d y lt hy ht =
         let q = start_found ls k j m (slice_get ss k) e in
         let at : q.life ≡ get_or ls j q.life = sym (get_or_from_slice_get ls j q.life q.life q.is) in
-        let new : y ≡ counted q.life (outcome_for q.life took r) = hy ∙ ap (λ l. counted l (outcome_for l took r)) (get_or_from_slice_get ls j q.life d q.is) in
+        let new : y ≡ counted q.life took r = hy ∙ ap (λ (l : Life). counted l took r) (get_or_from_slice_get ls j q.life d q.is) in
         ap₂ (λ z zs. world jobs (set ls j z) zs) new ht
         ∙ ap (λ (z : List Life). world jobs z (finished (slice_get ss k) ss k))
         (sym (append-nil _ ∙ one_life (world jobs ls ss) (Finish k took r) j other ls q.life lt at ∙ ap (λ p. set ls j (life_after p q.life)) (here q.life)))
@@ -117,3 +127,11 @@ module _ (jobs : List InForce) (ls : List Life) (ss : List Start) (k : ℕ) (too
         ap (finish_answer (world jobs ls ss) took r) e
         ∙ ap (λ o. Counted (fault_at took r o)) q.is
         ∙ ap (λ l. Counted (fault_of (outcome_for l took r))) (sym (get_or_from_slice_get ls j q.life d q.is))
+
+    pub counted_runs : (d : Life) → runs (world jobs ls ss) (Finish k took r) ≡ scrape_runs took r (get_or ls j d)
+    unfolding runs
+    counted_runs d =
+        let q = start_found ls k j m (slice_get ss k) e in
+        ap (finish_runs (world jobs ls ss) took r) e
+        ∙ ap (life_runs took r) q.is
+        ∙ ap (scrape_runs took r) (sym (get_or_from_slice_get ls j q.life d q.is))

@@ -1,3 +1,4 @@
 pub mod Lives
 pub mod Machine
 pub mod Plans
+pub mod Runs

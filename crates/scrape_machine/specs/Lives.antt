@@ -11,7 +11,8 @@ use Rattle.sample_rows.specs.declared.scrape.Scrape.{Scrape}
 use Rattle.report_samples.specs.declared.closing.Closing.{Closing}
 use Rattle.report_samples.specs.declared.entries.Entry.{Entry}
 use Rattle.end_of_run.specs.Endings.{due_at, ending_entries}
-use Rattle.scrape_loop.specs.Tracked.{after_scrape, fresh}
+use Rattle.scrape_loop.specs.Texts.{AreRight}
+use Rattle.scrape_loop.specs.Tracked.{after_forced, after_reply, fresh}
 use Rattle.scrape_loop.specs.Closings.{closing_of}
 use Rattle.scrape_loop.specs.Entries.{entries_of}
 use Rattle.target_set.specs.declared.targets.Target.{Target}
@@ -72,13 +73,17 @@ outcome_for l took r = outcome (rules_of l.settings) l.settings.metric_rules l.s
 -- the life after a scan at m, where k is the next ticket, by whether it was closed: an open one is scanned, of a closed one the ending is taken
 abbrev pub scanned_life : ℤ → ℕ → Bool → Life → Option ℤ → Life
 scanned_life m k over l None =
-    if forces (number m) over l then record l { state = after_scrape l.state forced; schedule = schedule.scanned m k over l.schedule }
+    if forces (number m) over l then record l { state = after_forced l.state; schedule = schedule.scanned m k over l.schedule }
     else record l { schedule = schedule.scanned m k over l.schedule }
 scanned_life m k over l (Some c) = if ends_at (number m) c l then record l { ended = true } else l
 
--- the life after a scrape that counts: nothing is in flight, and its state is that after the scrape
-abbrev pub counted : Life → Scrape → Life
-counted l s = record l { state = after_scrape l.state s; schedule = schedule.landed l.schedule }
+-- the life after a scrape that counts, which took so long and got this reply: nothing is in flight, and its state is that after the reply
+abbrev pub counted : Life → ℤ → Reply → Life
+counted l took r = record l { state = after_reply l.state (rules_of l.settings) l.settings.metric_rules r took; schedule = schedule.landed l.schedule }
+
+-- what is known of the raw texts of a life's rows is right by its settings
+abbrev pub IsRightLife : Life → Type 0
+IsRightLife l = AreRight l.settings.conf.honor_labels l.settings.metric_rules l.state.target l.state.cache.texts
 
 -- the life after a change of its job's settings at m
 abbrev pub changed : ℤ → Job → Life → Life
@@ -92,7 +97,7 @@ closed m l = record l { schedule = schedule.closed_at m l.schedule }
 abbrev pub life_after : Local → Life → Life
 life_after Nothing l = l
 life_after (Scan m k over) l = scanned_life m k over l l.schedule.closed
-life_after (Answered took r) l = counted l (outcome_for l took r)
+life_after (Answered took r) l = counted l took r
 life_after (Change m s) l = changed m s l
 life_after (Close m) l = closed m l
 

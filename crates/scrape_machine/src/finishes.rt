@@ -1,8 +1,9 @@
 //! What a finish does.
-ghost use Rattle.std.specs.Prelude.{◌≡◌, ◌≤◌, ◌++◌, length, slice_get, option_copied, IfOk, OnOk, OnErr};
+ghost use Rattle.std.specs.Prelude.{◌≡◌, ◌≤◌, ◌+◌, ◌++◌, length, slice_get, option_copied, IfOk, OnOk, OnErr};
 ghost use Rattle.journal_text.specs.Lines.{IsMoment};
 ghost use Rattle.scrape_machine.specs.Lives as lives_of;
 ghost use Rattle.scrape_machine.specs.Machine as spec;
+ghost use Rattle.scrape_machine.specs.Runs.{scrape_runs};
 ghost use Rattle.scrape_loop.specs.Entries.{entries_of};
 ghost use Rattle.scrape_loop.specs.Tracked.{fault_of};
 
@@ -11,8 +12,9 @@ use appender_book::Book;
 use label_set::{NoMemory, Steps};
 use life_roll::InFlight;
 use outside::Reply;
-use sample_rows::{RowRules, ScrapeFault};
+use sample_rows::RowRules;
 use scrape_config::Job;
+use scrape_loop::Counted;
 use std::alloc::Global;
 use std::sync::ledger::Ledger;
 
@@ -88,7 +90,8 @@ fn rules_of(job: &Job) -> RowRules
     }
 }
 
-/// Counts a scrape of a life that started at a moment, and ended with a reply after so many milliseconds: its fault, if it isn't good.
+/// Counts a scrape of a life that started at a moment, and ended with a reply after so many milliseconds: its fault, if it isn't good, and how often the
+/// rules for samples were run, each of which takes one step.
 #[tactic(auto, unfolding(crate::specs::Lives::outcome_for))]
 pub fn count<L: Ledger>(
     alloc: Global,
@@ -98,19 +101,23 @@ pub fn count<L: Ledger>(
     took: i64,
     book: &mut Book,
     steps: &mut Steps<L>,
-) -> Result<Option<ScrapeFault>, NoMemory>
-    requires { IsMoment took }
-    ensures fault { IfOk result (λ f. f ≡ fault_of (lives_of.outcome_for life.old took reply.now)) }
-    ensures life { OnOk result (life.new ≡ lives_of.counted life.old (lives_of.outcome_for life.old took reply.now)) }
+) -> Result<Counted, NoMemory>
+    requires took { IsMoment took }
+    requires right { lives_of.IsRightLife life.old }
+    ensures fault { IfOk result (λ c. c.fault ≡ fault_of (lives_of.outcome_for life.old took reply.now)) }
+    ensures runs { IfOk result (λ c. c.runs ≡ scrape_runs took reply.now life.old) }
+    ensures life { OnOk result (life.new ≡ lives_of.counted life.old took reply.now) }
     ensures book { OnOk result (book.new.entries ≡ book.old.entries ++ entries_of life.old.state (lives_of.outcome_for life.old took reply.now) moment took) }
     ensures err_life { OnErr result (life.new ≡ life.old) }
     ensures err_book { OnErr result (book.new.entries ≡ book.old.entries) }
+    ensures steps { OnOk result (steps.new ≡ steps.old + scrape_runs took reply.now life.old) }
+    ensures at_least { steps.old ≤ steps.new }
 {
     let rules = rules_of(life.settings.job());
     let metric = &life.settings.job().metric_rules;
-    let fault = life
+    let counted = life
         .state
         .count(alloc, &rules, metric, moment, reply, took, book, steps)?;
     life.schedule.land();
-    Ok(fault)
+    Ok(counted)
 }

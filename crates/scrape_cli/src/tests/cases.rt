@@ -22,6 +22,7 @@ mod reloads;
 mod scripts;
 mod synths;
 mod targets;
+mod texts;
 mod updates;
 mod verdicts;
 mod words;
@@ -36,7 +37,7 @@ use std::str;
 use std::test::Fail;
 
 /// All cases, by subject.
-const TEXTS: [&str; 16] = [
+const TEXTS: [&str; 17] = [
     words::CASES,
     flags::CASES,
     scripts::CASES,
@@ -47,6 +48,7 @@ const TEXTS: [&str; 16] = [
     endings::CASES,
     verdicts::CASES,
     bodies::CASES,
+    texts::CASES,
     targets::CASES,
     conflicts::CASES,
     relabelling::CASES,

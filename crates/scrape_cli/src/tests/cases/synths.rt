@@ -10,6 +10,7 @@ stale 0
 report 0
 report-stale 0
 digest d41d8cd98f00b204e9800998ecf8427e
+runs 3
 -- status 0
 
 == largest_number_of_targets_without_scrapes
@@ -22,6 +23,7 @@ stale 0
 report 0
 report-stale 0
 digest d41d8cd98f00b204e9800998ecf8427e
+runs 10000
 -- status 0
 
 == ten_digits
@@ -34,6 +36,7 @@ stale 0
 report 0
 report-stale 0
 digest d41d8cd98f00b204e9800998ecf8427e
+runs 1
 -- status 0
 
 == synth_seed_one_too_large
@@ -154,5 +157,6 @@ stale 0
 report 0
 report-stale 0
 digest d41d8cd98f00b204e9800998ecf8427e
+runs 1
 -- status 0
 "#;

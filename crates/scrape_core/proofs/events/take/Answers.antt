@@ -1,11 +1,12 @@
-use Rattle.std.proofs.Common.{sym}
+use Rattle.std.proofs.Common.{◌∙◌, sym, arith}
 use Rattle.scrape_machine.proofs.EventLemmas.{dead_answer, dead_step, dead_gives}
+use Rattle.scrape_machine.proofs.RunLemmas.{dead_runs}
 use Rattle.scrape_core.specs.Kept.{seen}
 use Rattle.scrape_core.proofs.StateLemmas.{appends_none}
 use Rattle.scrape_core.proofs.events.take.Goals as goal
 
 pub returns-then-state-clause-answer : goal.returns-then-state-clause-answer
-returns-then-state-clause-answer g c = sym (dead_answer (seen c.args.state.now) c.args.event.now c.if-state.true)
+returns-then-state-clause-answer g c = c.without_runs.ensures.answer ∙ sym (dead_answer (seen c.args.state.now) c.args.event.now c.if-state.true)
 
 pub returns-then-state-clause-state : goal.returns-then-state-clause-state
 returns-then-state-clause-state g c = sym (dead_step (seen c.args.state.now) c.args.event.now c.if-state.true)
@@ -13,3 +14,9 @@ returns-then-state-clause-state g c = sym (dead_step (seen c.args.state.now) c.a
 pub returns-then-state-clause-book : goal.returns-then-state-clause-book
 returns-then-state-clause-book g c =
     appends_none (seen c.args.state.now) c.args.event.now c.args.book.now.entries (dead_gives (seen c.args.state.now) c.args.event.now c.if-state.true)
+
+pub returns-then-state-clause-runs : goal.returns-then-state-clause-runs
+returns-then-state-clause-runs g c = c.without_runs.ensures.runs ∙ sym (dead_runs (seen c.args.state.now) c.args.event.now c.if-state.true)
+
+pub returns-then-state-clause-steps : goal.returns-then-state-clause-steps
+returns-then-state-clause-steps g c = omega (arith, dead_runs (seen c.args.state.now) c.args.event.now c.if-state.true)

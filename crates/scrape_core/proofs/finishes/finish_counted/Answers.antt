@@ -1,6 +1,7 @@
-use Rattle.std.proofs.Common.{◌≡◌, ◌++◌, ◌∙◌, List, length, get_or, set, sym, ap, ap₂, rules, SFits, w64, to_z, of_z}
+use Rattle.std.proofs.Common.{◌≡◌, ◌+◌, ◌++◌, ◌∙◌, List, length, get_or, set, sym, ap, ap₂, subst, rules, SFits, w64, to_z, of_z}
 use Rattle.std.proofs.lemmas.Int.{to_z-of_z}
 use Rattle.std.proofs.lemmas.List.{with_items_is}
+use Rattle.std.proofs.lemmas.List.Elements.{All-get_or}
 use Rattle.std.specs.Prelude.{slice_get}
 use Rattle.report_samples.specs.declared.entries.Entry.{Entry}
 use Rattle.scrape_loop.specs.Entries.{entries_of}
@@ -8,18 +9,25 @@ use Rattle.scrape_loop.specs.Tracked.{fault_of}
 use Rattle.scrape_machine.specs.declared.answers.Answer.TheVariants.{Counted}
 use Rattle.scrape_machine.specs.declared.lives.Life.{Life}
 use Rattle.scrape_machine.specs.declared.lives.Start.{Start}
-use Rattle.scrape_machine.specs.Lives.{counted, outcome_for}
+use Rattle.scrape_machine.specs.Lives.{counted, outcome_for, IsRightLife}
 use Rattle.scrape_machine.specs.Machine.{world, finished}
-use Rattle.scrape_machine.proofs.FinishLemmas.{counted_answer, counted_world, counted_book}
+use Rattle.scrape_machine.specs.Runs.{scrape_runs}
+use Rattle.scrape_machine.proofs.FinishLemmas.{counted_answer, counted_world, counted_book, counted_runs}
 use Rattle.scrape_core.proofs.StateLemmas.{length-finished}
 use Rattle.scrape_core.proofs.finishes.finish_counted.Goals as goal
+
+pub count-requires-clause-right : goal.count-requires-clause-right
+count-requires-clause-right g c =
+    let lives = c.args.state.now.lives.items in
+    let d = c.index_mut-one.result.now in
+    subst IsRightLife (sym c.index_mut-one.ensures.value) (All-get_or IsRightLife lives c.args.life d c.requires.within c.requires.right)
 
 pub returns-clause-answer : goal.returns-clause-answer
 returns-clause-answer g c =
     let s = c.args.state.now in
     let d = c.index_mut-one.result.now in
     let t = to_z-of_z w64 c.args.took c.ranges.took in
-    ap Counted (c.in_ok-fault.ensures.fault ∙ ap₂ (λ (y : Life) z. fault_of (outcome_for y z c.args.reply.now)) c.index_mut-one.ensures.value t)
+    ap Counted (c.in_ok-counted.ensures.fault ∙ ap₂ (λ (y : Life) z. fault_of (outcome_for y z c.args.reply.now)) c.index_mut-one.ensures.value t)
     ∙ sym (counted_answer s.jobs.items s.lives.items s.started.items c.args.ticket c.args.took c.args.reply.now c.args.life c.args.moment c.requires.found d)
 
 pub returns-clause-state : goal.returns-clause-state
@@ -33,7 +41,7 @@ returns-clause-state g c =
     ap (λ ss. world s.jobs.items (set s.lives.items c.args.life c.count.new.life) ss) (with_items_is s.started c.finish.new.started long)
     ∙ counted_world s.jobs.items s.lives.items s.started.items c.args.ticket c.args.took c.args.reply.now c.args.life c.args.moment c.requires.found
     c.finish.new.started d c.count.new.life c.requires.within
-    (c.in_ok-fault.ensures.life ∙ ap₂ (λ (y : Life) z. counted y (outcome_for y z c.args.reply.now)) c.index_mut-one.ensures.value t) done
+    (c.in_ok-counted.ensures.life ∙ ap₂ (λ (y : Life) z. counted y z c.args.reply.now) c.index_mut-one.ensures.value t) done
 
 pub returns-clause-book : goal.returns-clause-book
 returns-clause-book g c =
@@ -42,7 +50,26 @@ returns-clause-book g c =
     let t = to_z-of_z w64 c.args.took c.ranges.took in
     let life = get_or s.lives.items c.args.life d in
     let fits : SFits w64 c.ms.result = search rules in
-    c.in_ok-fault.ensures.book ∙ ap (λ (es : List Entry). c.args.book.now.entries ++ es)
+    c.in_ok-counted.ensures.book ∙ ap (λ (es : List Entry). c.args.book.now.entries ++ es)
     (ap₂ (λ (y : Life) z. entries_of y.state (outcome_for y z c.args.reply.now) (to_z w64 (of_z w64 c.ms.result)) z) c.index_mut-one.ensures.value t
     ∙ ap (λ m. entries_of life.state (outcome_for life c.args.took c.args.reply.now) m c.args.took) (to_z-of_z w64 c.ms.result fits ∙ c.ms.ensures.value)
     ∙ sym (counted_book s.jobs.items s.lives.items s.started.items c.args.ticket c.args.took c.args.reply.now c.args.life c.args.moment c.requires.found d c.requires.within))
+
+pub returns-clause-runs : goal.returns-clause-runs
+returns-clause-runs g c =
+    let s = c.args.state.now in
+    let d = c.index_mut-one.result.now in
+    let t = to_z-of_z w64 c.args.took c.ranges.took in
+    c.in_ok-counted.ensures.runs
+    ∙ (ap₂ (λ (y : Life) z. scrape_runs z c.args.reply.now y) c.index_mut-one.ensures.value t
+    ∙ sym (counted_runs s.jobs.items s.lives.items s.started.items c.args.ticket c.args.took c.args.reply.now c.args.life c.args.moment c.requires.found d))
+
+pub returns-clause-steps : goal.returns-clause-steps
+returns-clause-steps g c =
+    let s = c.args.state.now in
+    let d = c.index_mut-one.result.now in
+    let t = to_z-of_z w64 c.args.took c.ranges.took in
+    c.in_ok-counted.ensures.steps
+    ∙ ap (λ n. c.args.steps.now + n)
+    (ap₂ (λ (y : Life) z. scrape_runs z c.args.reply.now y) c.index_mut-one.ensures.value t
+    ∙ sym (counted_runs s.jobs.items s.lives.items s.started.items c.args.ticket c.args.took c.args.reply.now c.args.life c.args.moment c.requires.found d))

@@ -1,4 +1,4 @@
-use Rattle.std.proofs.Common.{◌≡◌, ◌++◌, ◌∙◌, List, length, refl, sym, ap, ap₂, subst, append-nil}
+use Rattle.std.proofs.Common.{◌≡◌, ◌++◌, ◌∙◌, List, length, refl, sym, ap, ap₂, subst, append-nil, arith}
 use Rattle.std.proofs.lemmas.List.{with_items_is}
 use Rattle.std.specs.Prelude.{slice_get}
 use Rattle.report_samples.specs.declared.entries.Entry.{Entry}
@@ -6,13 +6,13 @@ use Rattle.scrape_machine.specs.declared.answers.Answer.TheVariants.{NoTicket, L
 use Rattle.scrape_machine.specs.declared.lives.Life.{Life}
 use Rattle.scrape_machine.specs.declared.lives.Start.{Start}
 use Rattle.scrape_machine.specs.Machine.{world, finished, found, found_start, IsMissed}
-use Rattle.scrape_machine.proofs.FinishLemmas.{missed_said, missed_step, missed_silent}
+use Rattle.scrape_machine.proofs.FinishLemmas.{missed_said, missed_step, missed_silent, missed_runs}
 use Rattle.scrape_core.specs.Kept.{live}
 use Rattle.scrape_core.proofs.StateLemmas.{length-finished}
 use Rattle.scrape_core.proofs.finishes.take_finish.Goals as goal
 
 -- no scrape with the ticket has started, or it had its finish
-none : (g : _) (c : goal.After-state-1 g) → IsMissed NoTicket (found (live c.args.state.now) c.args.ticket)
+none : (g : _) (c : goal.After-without_runs g) → IsMissed NoTicket (found (live c.args.state.now) c.args.ticket)
 none g c =
     subst (IsMissed NoTicket)
     (c.in-NotStarted.ensures.value ∙ ap₂ (λ (ls : List Life) (ss : List Start). found_start ls c.args.ticket (slice_get ss c.args.ticket)) c.deref.ensures.value c.deref-2.ensures.value) refl
@@ -20,7 +20,7 @@ none g c =
 pub returns-in-NotStarted-clause-answer : goal.returns-in-NotStarted-clause-answer
 returns-in-NotStarted-clause-answer g c =
     let s = c.args.state.now in
-    missed_said s.jobs.items s.lives.items s.started.items c.args.ticket c.args.took c.args.reply.now NoTicket (none g c)
+    c.without_runs.ensures.answer ∙ missed_said s.jobs.items s.lives.items s.started.items c.args.ticket c.args.took c.args.reply.now NoTicket (none g c)
 
 pub returns-in-NotStarted-clause-state : goal.returns-in-NotStarted-clause-state
 returns-in-NotStarted-clause-state g c =
@@ -38,7 +38,7 @@ returns-in-NotStarted-clause-book g c =
     ∙ ap (λ (es : List Entry). c.args.book.now.entries ++ es) (sym (missed_silent s.jobs.items s.lives.items s.started.items c.args.ticket c.args.took c.args.reply.now NoTicket (none g c)))
 
 -- the scrape was cancelled
-late : (g : _) (c : goal.After-state-in-Cancelled-1 g) → IsMissed Late (found (live c.args.state.now) c.args.ticket)
+late : (g : _) (c : goal.After-without_runs-in-Cancelled g) → IsMissed Late (found (live c.args.state.now) c.args.ticket)
 late g c =
     subst (IsMissed Late)
     (c.in-Cancelled.ensures.value ∙ ap₂ (λ (ls : List Life) (ss : List Start). found_start ls c.args.ticket (slice_get ss c.args.ticket)) c.deref.ensures.value c.deref-2.ensures.value) refl
@@ -46,7 +46,7 @@ late g c =
 pub returns-in-Cancelled-clause-answer : goal.returns-in-Cancelled-clause-answer
 returns-in-Cancelled-clause-answer g c =
     let s = c.args.state.now in
-    missed_said s.jobs.items s.lives.items s.started.items c.args.ticket c.args.took c.args.reply.now Late (late g c)
+    c.without_runs-in-Cancelled.ensures.answer ∙ missed_said s.jobs.items s.lives.items s.started.items c.args.ticket c.args.took c.args.reply.now Late (late g c)
 
 pub returns-in-Cancelled-clause-state : goal.returns-in-Cancelled-clause-state
 returns-in-Cancelled-clause-state g c =
@@ -62,3 +62,23 @@ returns-in-Cancelled-clause-book g c =
     let s = c.args.state.now in
     sym (append-nil _)
     ∙ ap (λ (es : List Entry). c.args.book.now.entries ++ es) (sym (missed_silent s.jobs.items s.lives.items s.started.items c.args.ticket c.args.took c.args.reply.now Late (late g c)))
+
+pub returns-in-NotStarted-clause-runs : goal.returns-in-NotStarted-clause-runs
+returns-in-NotStarted-clause-runs g c =
+    let s = c.args.state.now in
+    c.without_runs.ensures.runs ∙ sym (missed_runs s.jobs.items s.lives.items s.started.items c.args.ticket c.args.took c.args.reply.now NoTicket (none g c))
+
+pub returns-in-NotStarted-clause-steps : goal.returns-in-NotStarted-clause-steps
+returns-in-NotStarted-clause-steps g c =
+    let s = c.args.state.now in
+    omega (arith, missed_runs s.jobs.items s.lives.items s.started.items c.args.ticket c.args.took c.args.reply.now NoTicket (none g c))
+
+pub returns-in-Cancelled-clause-runs : goal.returns-in-Cancelled-clause-runs
+returns-in-Cancelled-clause-runs g c =
+    let s = c.args.state.now in
+    c.without_runs-in-Cancelled.ensures.runs ∙ sym (missed_runs s.jobs.items s.lives.items s.started.items c.args.ticket c.args.took c.args.reply.now Late (late g c))
+
+pub returns-in-Cancelled-clause-steps : goal.returns-in-Cancelled-clause-steps
+returns-in-Cancelled-clause-steps g c =
+    let s = c.args.state.now in
+    omega (arith, missed_runs s.jobs.items s.lives.items s.started.items c.args.ticket c.args.took c.args.reply.now Late (late g c))

@@ -1,7 +1,6 @@
-use Rattle.std.proofs.Common.{◌∙◌, Some, sym, ap}
-use Rattle.std.specs.Prelude.{Option, option_copied}
+use Rattle.std.proofs.Common.{◌∙◌, sym, ap}
+use Rattle.std.specs.Prelude.{option_copied}
 use Rattle.scrape_config.specs.declared.conf.Job.{Job}
-use Rattle.scrape_machine.specs.declared.lives.Life.{Life}
 use Rattle.target_set.specs.Requests.{request_of}
 use Rattle.scrape_core.specs.Readers.{life_request}
 use Rattle.scrape_core.proofs.ReaderLemmas.{request_settings}

@@ -1,4 +1,4 @@
-use Rattle.std.proofs.Common.{◌≡◌, ◌∙◌, List, [], ◌∷◌, ◌++◌, length, pos, Bool, true, false, sym, ap, ap₂, subst, arith, rules}
+use Rattle.std.proofs.Common.{◌≡◌, ◌∙◌, rules}
 use Rattle.journal_text.specs.Lines.{number}
 use Rattle.scrape_core.specs.Readers.{is_due}
 use Rattle.scrape_core.proofs.ReaderLemmas.{due_state}

@@ -1,8 +1,9 @@
-use Rattle.std.proofs.Common.{◌≡◌, ◌∙◌, List, [], ◌∷◌, ◌++◌, length, pos, Bool, true, false, sym, ap, ap₂, subst, arith, rules, refl, true≢false}
+use Rattle.std.proofs.Common.{◌≡◌, ◌∙◌, [], ◌∷◌, ◌++◌, false, sym, ap, refl, true≢false, arith}
 use Rattle.journal_text.specs.declared.events.Event.{Event}
 use Rattle.journal_text.specs.declared.events.Event.TheVariants.{Halt}
-use Rattle.report_samples.specs.declared.entries.Entry.{Entry}
 use Rattle.scrape_machine.specs.Machine.{World, step, gives, world_of, book_of}
+use Rattle.scrape_machine.specs.Runs.{runs_of}
+use Rattle.scrape_machine.proofs.RunLemmas.{halt_runs, runs_of_push}
 use Rattle.scrape_machine.proofs.StepLemmas.{world_push, book_of_push}
 use Rattle.scrape_core.specs.Records.{is_live}
 use Rattle.scrape_core.proofs.RecordLemmas.{live_world}
@@ -29,6 +30,7 @@ invariant_of-self c =
         state = halt_left s.jobs.items s.lives.items s.started.items e m refl ∙ (ap (λ v. step v e) w ∙ (sym (world_push es e) ∙ ap world_of (sym joined)));
         book_is = c.self.invariant.0.book_is ∙ (appends_none (world_of es) e (book_of es) (ap (λ v. gives v e) (sym w) ∙ halt_gives s.jobs.items s.lives.items s.started.items e m refl) ∙ (sym (book_of_push es e) ∙ ap book_of (sym joined)));
         few = c.self.invariant.0.few;
+        runs_are = c.self.invariant.0.runs_are ∙ (omega (arith, halt_runs (world_of es) m, runs_of_push es e) ∙ ap runs_of (sym joined));
       },
       λ h. absurd (true≢false h),
     )

@@ -1,4 +1,4 @@
-use Rattle.std.proofs.Common.{◌≡◌, ◌∙◌, List, sym, ap, ap₂, subst}
+use Rattle.std.proofs.Common.{◌≡◌, ◌∙◌, List, ap, ap₂, subst}
 use Rattle.std.specs.Prelude.{Option, IfOk, slice_get}
 use Rattle.outside.specs.declared.requests.Request.{Request}
 use Rattle.scrape_machine.specs.declared.lives.Life.{Life}

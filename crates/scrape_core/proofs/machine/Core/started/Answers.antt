@@ -1,4 +1,4 @@
-use Rattle.std.proofs.Common.{◌≡◌, ◌∙◌, List, [], ◌∷◌, ◌++◌, length, pos, Bool, true, false, sym, ap, ap₂, subst, arith, rules}
+use Rattle.std.proofs.Common.{◌∙◌, length, sym, ap}
 use Rattle.scrape_machine.specs.Machine.{World, world_of}
 use Rattle.scrape_core.proofs.RecordLemmas.{started_is_length}
 use Rattle.scrape_core.proofs.machine.Core.started.Goals as goal

@@ -1,4 +1,4 @@
-use Rattle.std.proofs.Common.{◌≡◌, ◌∙◌, List, [], ◌∷◌, ◌++◌, length, pos, Bool, true, false, sym, ap, ap₂, subst, arith, rules}
+use Rattle.std.proofs.Common.{◌∙◌, ap, subst}
 use Rattle.std.specs.Prelude.{ℕ}
 use Rattle.journal_text.specs.Lines.{number}
 use Rattle.scrape_machine.specs.Machine.{world_of}

@@ -1,11 +1,40 @@
-use Rattle.std.proofs.Common.{◌≡◌, rules}
-use Rattle.scrape_loop.specs.Tracked.{outcome_for}
-use Rattle.scrape_loop.proofs.SettleLemmas.{state_after}
+use Rattle.std.proofs.Common.{◌≡◌, ◌≤◌, ◌+◌, ◌++◌, ◌∙◌, List, length, is_some, ap, subst, sym, to_z, of_z, w64}
+use Rattle.std.proofs.lemmas.Int.{to_z-of_z}
+use Rattle.report_samples.specs.declared.entries.Entry.{Entry}
+use Rattle.scrape_loop.specs.Entries.{entries_of}
+use Rattle.scrape_loop.specs.Texts.{IsAtRest}
+use Rattle.scrape_loop.specs.Tracked.{life_of, outcome_for}
+use Rattle.scrape_loop.proofs.CountLemmas.{reply_entries, reply_state}
+use Rattle.scrape_loop.proofs.TextLemmas.{turned_rests}
 use Rattle.scrape_loop.proofs.life_state.LifeState.count.Goals as goal
 
-pub returns-clause-state : goal.returns-clause-state
-returns-clause-state g c =
-    let said = outcome_for c.args.self.now c.args.rules.now c.args.metric.now c.args.reply.now c.args.took in
-    let is : c.in_ok-scrape.scrape ≡ said = search rules in
-    state_after c.args.self.now c.settle.new.self c.in_ok-scrape.scrape said c.fault_in-fault.result c.in_ok-sets.sets.tracked c.in_ok-sets.sets.all is
-    c.settle.ensures c.fault_in-fault.ensures c.in_ok-sets.ensures.tracked c.in_ok-sets.ensures.all
+pub invariant_of-self-in-Ok : goal.invariant_of-self-in-Ok
+invariant_of-self-in-Ok g c = subst IsAtRest (sym c.turn.ensures.turned) (turned_rests c.is_none.result c.shown_rows.new.cache)
+
+pub returns-in-Ok-clause-state : goal.returns-in-Ok-clause-state
+returns-in-Ok-clause-state g c =
+    let p = c.self.inside.past in
+    let took : to_z w64 (of_z w64 c.args.took) ≡ c.args.took = to_z-of_z w64 c.args.took c.ranges.took in
+    let s = c.in_ok-scrape in
+    reply_state p.life p.target c.set-target.result.now p.scraped c.self.inside.cache c.seed.new.cache c.shown_rows.new.cache c.args.rules.now c.args.metric.now c.args.reply.now
+    c.args.took (to_z w64 (of_z w64 c.args.took)) s.field-0.scrape c.args.self.now c.self.view_is c.set-target.ensures.value c.seed.ensures.same took s.ensures.outcome s.ensures.undone c.is_none.result
+    c.turn.new.self (sym (ap is_some c.fault_in-fault.ensures) ∙ c.is_none.ensures) s.ensures.shows s.ensures.cache c.turn.ensures.turned c.turn.ensures.was
+
+entries : (g : _) (c : goal.After-turn g) →
+    entries_of (life_of c.self.inside.past.life c.self.inside.past.target c.shown_rows.new.cache c.self.inside.past.scraped) c.in_ok-scrape.field-0.scrape (to_z w64 (of_z w64 c.args.moment))
+    (to_z w64 (of_z w64 c.args.took))
+    ≡ entries_of c.args.self.now (outcome_for c.args.self.now c.args.rules.now c.args.metric.now c.args.reply.now c.args.took) c.args.moment c.args.took
+entries g c =
+    let p = c.self.inside.past in
+    let took : to_z w64 (of_z w64 c.args.took) ≡ c.args.took = to_z-of_z w64 c.args.took c.ranges.took in
+    let moment : to_z w64 (of_z w64 c.args.moment) ≡ c.args.moment = to_z-of_z w64 c.args.moment c.ranges.moment in
+    let s = c.in_ok-scrape in
+    reply_entries p.life p.target c.set-target.result.now p.scraped c.self.inside.cache c.seed.new.cache c.shown_rows.new.cache c.args.rules.now c.args.metric.now c.args.reply.now
+    c.args.took (to_z w64 (of_z w64 c.args.took)) s.field-0.scrape c.args.self.now c.self.view_is c.set-target.ensures.value c.seed.ensures.same took s.ensures.outcome s.ensures.undone c.args.moment
+    (to_z w64 (of_z w64 c.args.moment)) moment s.ensures.was
+
+pub returns-in-Ok-clause-entries : goal.returns-in-Ok-clause-entries
+returns-in-Ok-clause-entries g c = c.in-Ok.ensures.entries ∙ ap (λ (es : List Entry). c.args.book.now.entries ++ es) (entries g c)
+
+pub returns-in-Ok-clause-spare : goal.returns-in-Ok-clause-spare
+returns-in-Ok-clause-spare g c = subst (λ (es : List Entry). c.args.book.now.spare ≤ c.append.new.book.spare + length es) (entries g c) c.in-Ok.ensures.spare

@@ -1,5 +1,18 @@
-use Rattle.scrape_loop.proofs.WalkLemmas.{none_rise}
+use Rattle.std.proofs.Common.{subst, sym, false}
+use Rattle.scrape_loop.specs.Texts.{IsAtRest}
+use Rattle.scrape_loop.proofs.CountLemmas.{force_state}
+use Rattle.scrape_loop.proofs.TextLemmas.{turned_rests}
 use Rattle.scrape_loop.proofs.life_state.LifeState.force.Goals as goal
 
 pub invariant_of-self : goal.invariant_of-self
-invariant_of-self c = (none_rise c.clear.new.sets c.clear.ensures, c.self.invariant.1)
+invariant_of-self c = subst IsAtRest (sym c.turn.ensures.turned) (turned_rests false c.self.inside.cache)
+
+pub returns-clause-state : goal.returns-clause-state
+returns-clause-state c =
+    force_state c.self.inside.past.life c.self.inside.past.target c.self.inside.past.scraped c.self.inside.cache c.turn.new.self c.args.self.now c.self.view_is c.turn.ensures.turned
+    c.turn.ensures.was
+
+pub returns-clause-none_tracked : goal.returns-clause-none_tracked
+returns-clause-none_tracked c =
+    force_state c.self.inside.past.life c.self.inside.past.target c.self.inside.past.scraped c.self.inside.cache c.turn.new.self c.args.self.now c.self.view_is c.turn.ensures.turned
+    c.turn.ensures.was

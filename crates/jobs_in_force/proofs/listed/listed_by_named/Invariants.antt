@@ -1,0 +1,6 @@
+use Rattle.std.proofs.Common.{◌≡◌, take}
+use Rattle.jobs_in_force.specs.Listed as spec
+use Rattle.jobs_in_force.proofs.listed.listed_by_named.Given as goal
+
+abbrev pub invariant-loop-job : goal.invariant-loop-job
+invariant-loop-job l = l.listed ≡ spec.listed_by_named l.name (take l.job-index l.jobs)

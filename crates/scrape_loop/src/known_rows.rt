@@ -1,0 +1,268 @@
+//! What is left of the rows of a body, where a raw text that is known costs no relabelling.
+ghost use Rattle.std.specs.Prelude.{◌≡◌, ◌≤◌, ◌+◌, ◌-◌, false, length, None, IfOk, IfSome, OnOk, OnErr};
+ghost use Rattle.expo_reader.specs.Bodies.{IsFit, reading};
+ghost use Rattle.label_conflict.specs.Merging.{bears};
+ghost use Rattle.label_set.specs.SetText.{metric_label};
+ghost use Rattle.sample_rows.specs.Outcomes.{of_early, or_line, outcome, rows_or_fault};
+ghost use Rattle.sample_rows.specs.Rows.{row_series, left_from, samples_of, first_fault};
+ghost use Rattle.series_cache.specs.Caches.{find, look_up, told, turned, undone, was_sets};
+ghost use Rattle.scrape_loop.specs.Shown.{Shows};
+ghost use Rattle.scrape_loop.specs.Tracked.{is_good};
+ghost use Rattle.scrape_loop.specs.Texts as spec;
+
+use crate::scrape_parts::fault_in;
+use expo_reader::{BodyCause, LentBody, LentSample, read_lent};
+use label_conflict::{LentTarget, labels_in};
+use label_set::{LabelSet, NoMemory, Steps};
+use outside::Reply;
+use relabel::{Rules, Runner};
+use sample_rows::{
+    RowRules, Scrape, ScrapeFault, Sifted, body_of, early_fault, failed, judged, own_stamp, row_set,
+};
+use series_cache::{Look, SeriesCache};
+use std::alloc::Global;
+use std::sync::ledger::Ledger;
+
+/// What the rows of a reply go by: the settings of the job, its rules for samples, and the labels of the target.
+#[derive(Clone, Copy)]
+pub struct Terms<'a> {
+    pub rules: &'a RowRules,
+    pub metric: &'a Rules,
+    pub target: &'a LabelSet,
+}
+
+/// What a scrape comes to, and how often the rules for samples were run for it.
+#[derive(Debug, Drop)]
+pub struct Settled {
+    pub scrape: Scrape,
+    pub runs: usize,
+}
+
+/// A series once more, if there is one.
+fn shared(series: &Option<LabelSet>) -> Result<Option<LabelSet>, NoMemory>
+    ensures { IfOk result (λ s. s ≡ series.now) }
+{
+    match series {
+        None => Ok(None),
+        Some(set) => Ok(Some(set.copy()?)),
+    }
+}
+
+/// The series of a known text, or none where the text was dropped; nothing of a text that isn't known.
+fn known(look: Look<'_>) -> Result<Option<Option<LabelSet>>, NoMemory>
+    ensures { IfOk result (λ k. k ≡ told look.entry) }
+{
+    match look {
+        Look::Unknown => Ok(None),
+        Look::Dropped => Ok(Some(None)),
+        Look::Set(set) => Ok(Some(Some(set.copy()?))),
+    }
+}
+
+/// The series of a row whose text isn't known; the text is put with it. It takes one step.
+#[tactic(auto, using(crate::proofs::TextLemmas::put_undone))]
+fn put_series<L: Ledger>(
+    alloc: Global,
+    rules: &RowRules,
+    metric: &mut Runner<'_>,
+    target: &LentTarget<'_, '_>,
+    row: &LentSample<'_, '_>,
+    cache: &mut SeriesCache,
+    steps: &mut Steps<L>,
+) -> Result<Option<LabelSet>, NoMemory>
+    requires fit { IsFit row.now }
+    requires nameless { bears target.now metric_label ≡ false }
+    requires unknown { look_up row.now.raw cache.old.texts ≡ None }
+    requires kept { cache.old.kept ≤ length cache.old.texts }
+    ensures series { IfOk result (λ o. o ≡ row_series rules.now.honor_labels metric.old target.now row.now) }
+    ensures same { metric.new ≡ metric.old }
+    ensures cache { OnOk result (cache.new ≡ spec.with_put row.now.raw (row_series rules.now.honor_labels metric.old target.now row.now) cache.old) }
+    ensures err { OnErr result (cache.new ≡ cache.old) }
+    ensures undone { undone cache.new ≡ undone cache.old }
+    ensures steps { OnOk result (steps.new ≡ steps.old + 1) }
+    ensures at_least { steps.old ≤ steps.new }
+{
+    let series = row_set(alloc, rules, metric, target, row, steps)?;
+    let kept = shared(&series)?;
+    cache.put(alloc, row.raw(), kept)?;
+    Ok(series)
+}
+
+/// The series of a row, by its text where that is known. It takes a step for a text that isn't known.
+fn series_of<L: Ledger>(
+    alloc: Global,
+    rules: &RowRules,
+    metric: &mut Runner<'_>,
+    target: &LentTarget<'_, '_>,
+    row: &LentSample<'_, '_>,
+    cache: &mut SeriesCache,
+    steps: &mut Steps<L>,
+) -> Result<Option<LabelSet>, NoMemory>
+    requires fit { IsFit row.now }
+    requires nameless { bears target.now metric_label ≡ false }
+    requires right { IfSome (find row.now.raw cache.old.texts) (λ k. k.set ≡ row_series rules.now.honor_labels metric.old target.now row.now) }
+    ensures series { IfOk result (λ o. o ≡ row_series rules.now.honor_labels metric.old target.now row.now) }
+    ensures same { metric.new ≡ metric.old }
+    ensures cache { OnOk result (cache.new ≡ spec.noted rules.now metric.old target.now cache.old row.now) }
+    ensures undone { undone cache.new ≡ undone cache.old }
+    ensures steps { OnOk result (steps.new + length cache.old.texts ≡ steps.old + length cache.new.texts) }
+    ensures at_least { steps.old ≤ steps.new }
+{
+    match known(cache.look(row.raw()))? {
+        Some(series) => Ok(series),
+        None => put_series(alloc, rules, metric, target, row, cache, steps),
+    }
+}
+
+/// The series of a row, whose text is shown.
+#[tactic(auto, using(crate::proofs::TextLemmas::stamp_undone))]
+fn show_row<L: Ledger>(
+    alloc: Global,
+    rules: &RowRules,
+    metric: &mut Runner<'_>,
+    target: &LentTarget<'_, '_>,
+    row: &LentSample<'_, '_>,
+    cache: &mut SeriesCache,
+    steps: &mut Steps<L>,
+) -> Result<Option<LabelSet>, NoMemory>
+    requires fit { IsFit row.now }
+    requires nameless { bears target.now metric_label ≡ false }
+    requires right { IfSome (find row.now.raw cache.old.texts) (λ k. k.set ≡ row_series rules.now.honor_labels metric.old target.now row.now) }
+    ensures series { IfOk result (λ o. o ≡ row_series rules.now.honor_labels metric.old target.now row.now) }
+    ensures same { metric.new ≡ metric.old }
+    ensures cache { OnOk result (cache.new ≡ spec.shown_row rules.now metric.old target.now cache.old row.now) }
+    ensures undone { undone cache.new ≡ undone cache.old }
+    ensures steps { OnOk result (steps.new + length cache.old.texts ≡ steps.old + length cache.new.texts) }
+    ensures at_least { steps.old ≤ steps.new }
+{
+    let series = series_of(alloc, rules, metric, target, row, cache, steps)?;
+    cache.stamp(row.raw(), own_stamp(rules, row).is_none());
+    Ok(series)
+}
+
+/// What is left of the rows of a body, whose texts are shown. It takes a step for each text that isn't known.
+/// Where memory runs out, what was put and shown can be taken back.
+fn sift_known<L: Ledger>(
+    alloc: Global,
+    terms: &Terms<'_>,
+    body: &LentBody<'_>,
+    cache: &mut SeriesCache,
+    steps: &mut Steps<L>,
+) -> Result<Sifted, NoMemory>
+    requires nameless { bears terms.now.target.now metric_label ≡ false }
+    requires right { spec.AreRight terms.now.rules.now.honor_labels terms.now.metric.now terms.now.target.now cache.old.texts }
+    ensures samples { IfOk result (λ s. s.samples.items ≡ samples_of (left_from terms.now.rules.now terms.now.metric.now terms.now.target.now 0 body.now.rows)) }
+    ensures fault { IfOk result (λ s. s.fault ≡ first_fault terms.now.rules.now.limits (left_from terms.now.rules.now terms.now.metric.now terms.now.target.now 0 body.now.rows)) }
+    ensures cache { OnOk result (cache.new ≡ spec.shown_all terms.now.rules.now terms.now.metric.now terms.now.target.now cache.old body.now.rows) }
+    ensures undone { undone cache.new ≡ undone cache.old }
+    ensures steps { OnOk result (steps.new + length cache.old.texts ≡ steps.old + length cache.new.texts) }
+    ensures at_least { steps.old ≤ steps.new }
+{
+    let mut runner = terms.metric.runner(alloc)?;
+    let labels = labels_in(alloc, terms.target)?;
+    let lent = LentTarget::of(alloc, labels.as_slice())?;
+    let mut sifted = Sifted::new(alloc);
+    for place in 0..body.len() {
+        let row = body.row(place);
+        let series = show_row(alloc, terms.rules, &mut runner, &lent, &row, cache, steps)?;
+        let number = place as u64;
+        sifted.take(alloc, terms.rules, number, &row, series)?;
+    }
+    Ok(sifted)
+}
+
+/// What a scrape comes to by bytes that are read, whose texts are shown.
+fn of_bytes<L: Ledger>(
+    alloc: Global,
+    terms: &Terms<'_>,
+    bytes: &[u8],
+    cache: &mut SeriesCache,
+    steps: &mut Steps<L>,
+) -> Result<Scrape, NoMemory>
+    requires nameless { bears terms.now.target.now metric_label ≡ false }
+    requires right { spec.AreRight terms.now.rules.now.honor_labels terms.now.metric.now terms.now.target.now cache.old.texts }
+    ensures outcome { IfOk result (λ s. s ≡ of_early terms.now.rules.now terms.now.metric.now terms.now.target.now (or_line (reading bytes.now))) }
+    ensures cache { OnOk result (cache.new ≡ spec.texts_by terms.now.rules.now terms.now.metric.now terms.now.target.now cache.old (or_line (reading bytes.now))) }
+    ensures undone { undone cache.new ≡ undone cache.old }
+    ensures steps { OnOk result (steps.new + length cache.old.texts ≡ steps.old + length cache.new.texts) }
+    ensures at_least { steps.old ≤ steps.new }
+{
+    let body = match read_lent(alloc, bytes) {
+        Ok(body) => body,
+        Err(BodyCause::Line(line)) => return Ok(failed(ScrapeFault::Line(line))),
+        Err(BodyCause::NoMemory) => return Err(NoMemory),
+    };
+    let sifted = sift_known(alloc, terms, &body, cache, steps)?;
+    Ok(judged(terms.rules, sifted, body.len() as u64))
+}
+
+/// What a scrape comes to by its reply and the milliseconds that the fetch took, as `sample_rows::rows` has it. The texts of its rows are shown,
+/// and the rules for samples are run on those that aren't known alone, each of which takes one step.
+///
+/// # Errors
+///
+/// Only want of memory refuses; what was put and shown can then be taken back.
+#[tactic(auto, unfolding(sample_rows::specs::Outcomes::outcome))]
+fn known_rows<L: Ledger>(
+    alloc: Global,
+    terms: &Terms<'_>,
+    reply: &Reply,
+    took: i64,
+    cache: &mut SeriesCache,
+    steps: &mut Steps<L>,
+) -> Result<Scrape, NoMemory>
+    requires nameless { bears terms.now.target.now metric_label ≡ false }
+    requires right { spec.AreRight terms.now.rules.now.honor_labels terms.now.metric.now terms.now.target.now cache.old.texts }
+    ensures outcome { IfOk result (λ s. s ≡ outcome terms.now.rules.now terms.now.metric.now terms.now.target.now reply.now took) }
+    ensures cache { OnOk result (cache.new ≡ spec.texts_by terms.now.rules.now terms.now.metric.now terms.now.target.now cache.old (rows_or_fault terms.now.rules.now reply.now took)) }
+    ensures undone { undone cache.new ≡ undone cache.old }
+    ensures steps { OnOk result (steps.new + length cache.old.texts ≡ steps.old + length cache.new.texts) }
+    ensures at_least { steps.old ≤ steps.new }
+{
+    if let Some(fault) = early_fault(terms.rules, reply, took) {
+        return Ok(failed(fault));
+    }
+    of_bytes(alloc, terms, body_of(reply), cache, steps)
+}
+
+/// The same, after which the cache shows just the sets of the scrape: what a scrape that isn't good showed is taken back.
+///
+/// # Errors
+///
+/// Only want of memory refuses; the cache is then as before.
+pub fn shown_rows<L: Ledger>(
+    alloc: Global,
+    terms: &Terms<'_>,
+    reply: &Reply,
+    took: i64,
+    cache: &mut SeriesCache,
+    steps: &mut Steps<L>,
+) -> Result<Settled, NoMemory>
+    requires nameless { bears terms.now.target.now metric_label ≡ false }
+    requires right { spec.AreRight terms.now.rules.now.honor_labels terms.now.metric.now terms.now.target.now cache.old.texts }
+    requires rest { spec.IsAtRest cache.old }
+    requires kept { cache.old.kept ≤ length cache.old.texts }
+    ensures outcome { IfOk result (λ s. s.scrape ≡ outcome terms.now.rules.now terms.now.metric.now terms.now.target.now reply.now took) }
+    ensures shows { IfOk result (λ s. Shows cache.new s.scrape) }
+    ensures cache { IfOk result (λ s. turned (is_good s.scrape) cache.new ≡ turned (is_good s.scrape) (spec.texts_by terms.now.rules.now terms.now.metric.now terms.now.target.now cache.old (rows_or_fault terms.now.rules.now reply.now took))) }
+    ensures was { OnOk result (was_sets cache.new.texts ≡ was_sets cache.old.texts) }
+    ensures undone { undone cache.new ≡ cache.old }
+    ensures err { OnErr result (cache.new ≡ cache.old) }
+    ensures steps { OnOk result (steps.new + length cache.old.texts ≡ steps.old + length (spec.texts_by terms.now.rules.now terms.now.metric.now terms.now.target.now cache.old (rows_or_fault terms.now.rules.now reply.now took)).texts) }
+    ensures runs { IfOk result (λ s. s.runs ≡ length (spec.texts_by terms.now.rules.now terms.now.metric.now terms.now.target.now cache.old (rows_or_fault terms.now.rules.now reply.now took)).texts - length cache.old.texts) }
+    ensures at_least { steps.old ≤ steps.new }
+{
+    match known_rows(alloc, terms, reply, took, cache, steps) {
+        Err(e) => {
+            cache.undo();
+            Err(e)
+        }
+        Ok(scrape) => {
+            let runs = cache.put_count();
+            if fault_in(&scrape).is_some() {
+                cache.undo();
+            }
+            Ok(Settled { scrape, runs })
+        }
+    }
+}

@@ -1,0 +1,49 @@
+//! A life of a target, and the entries of its scrapes.
+ghost use Rattle.std.specs.Prelude.{◌≡◌, ◌≤ℤ◌, pos, IfOk};
+ghost use Rattle.scrape_loop.specs.Entries as spec;
+ghost use Rattle.scrape_loop.specs.Shown.{Shows};
+ghost use Rattle.scrape_loop.specs.Tracked.{life_of};
+
+use crate::scrape_entries::{counts_of, ended, push_samples, push_stale};
+use crate::scrape_parts::into_samples;
+use crate::target_labels::TargetLabels;
+use label_set::NoMemory;
+use report_samples::EntryList;
+use sample_rows::Scrape;
+use series_cache::SeriesCache;
+use std::alloc::Global;
+
+/// The number of a life, the labels of its target, and whether a scrape of it counted.
+#[derive(Debug, Drop)]
+pub struct Past {
+    pub(crate) life: u64,
+    pub(crate) target: TargetLabels,
+    /// Whether a scrape of it counted, a forced one too.
+    pub(crate) scraped: bool,
+}
+
+impl Past {
+    /// The entries of a scrape that started at a moment and took so many milliseconds, where the cache shows its sets.
+    pub fn entries_of(
+        &self,
+        alloc: Global,
+        cache: &SeriesCache,
+        scrape: Scrape,
+        moment: i64,
+        took: i64,
+    ) -> Result<EntryList, NoMemory>
+        requires shows { Shows cache.now scrape }
+        requires took { pos 0 ≤ℤ took }
+        ensures { IfOk result (λ l. l ≡ spec.entries_of (life_of self.now.life self.now.target cache.now self.now.scraped) scrape moment took) }
+    {
+        let counts = counts_of(alloc, cache, &scrape, took)?;
+        let sets_of_reports = self.target.report_sets();
+        let mut last = sets_of_reports.reports(alloc, self.life, moment, &counts)?;
+        let stale = ended(alloc, cache, &scrape)?;
+        let mut items = Vec::new(alloc);
+        push_samples(&mut items, self.life, moment, into_samples(alloc, scrape))?;
+        push_stale(&mut items, self.life, moment, stale.as_slice())?;
+        items.append(&mut last.items)?;
+        Ok(EntryList { items })
+    }
+}

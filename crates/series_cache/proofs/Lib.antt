@@ -1,0 +1,7 @@
+pub mod OrderLemmas
+pub mod TextLemmas
+pub mod VanishLemmas
+pub mod CacheLemmas
+pub mod AddedLemmas
+pub mod MemberLemmas
+pub mod TurnLemmas

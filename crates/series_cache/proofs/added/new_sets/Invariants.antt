@@ -1,0 +1,14 @@
+use Rattle.std.proofs.Common.{◌≡◌, ◌≤◌, drop, length}
+use Rattle.series_cache.specs.Caches.{shown_sets}
+use Rattle.series_cache.specs.Sets.{rising}
+use Rattle.series_cache.proofs.added.new_sets.Given as goal
+
+abbrev pub invariant-loop-place : goal.invariant-loop-place
+invariant-loop-place l = record {
+  above : l.kept ≤ l.place;
+  within : l.place ≤ length l.texts;
+  sets : l.sets ≡ rising (shown_sets (drop l.place l.texts));
+}
+
+abbrev pub decreases-loop-place : goal.decreases-loop-place
+decreases-loop-place l = l.place
