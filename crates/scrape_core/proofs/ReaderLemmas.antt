@@ -1,9 +1,9 @@
 -- When a sweep acts: on one life, on one of some lives, and by its answer.
-use Rattle.std.proofs.Common.{◌≡◌, ℕ, ℤ, ◌+◌, ◌<◌, ◌≤◌, List, [], ◌∷◌, ◌++◌, length, take, get_or, Bool, true, false, cond, refl, sym, ap, ap₂, ◌∙◌, arith, not, ◌&&◌, ◌||◌, pos, ◌^◌, max}
+use Rattle.std.proofs.Common.{◌≡◌, ℕ, ℤ, ◌+◌, ◌<◌, ◌≤◌, List, [], ◌∷◌, ◌++◌, length, take, drop, get_or, Bool, true, false, cond, refl, sym, ap, ap₂, ◌∙◌, arith, not, ◌&&◌, ◌||◌, pos, ◌^◌, max}
 use Rattle.std.specs.Prelude.{Option, Some, None, nat_lt, is_some, filter}
 use Rattle.std.specs.List.{list_any}
 use Rattle.std.proofs.lemmas.Bool.Decides.{nat_tests}
-use Rattle.std.proofs.lemmas.List.{take_more}
+use Rattle.std.proofs.lemmas.List.{take_more, drop_more}
 use Rattle.std.proofs.lemmas.List.Folds.{list_any-append}
 use Rattle.journal_text.specs.declared.events.Event.{Event}
 use Rattle.journal_text.specs.declared.events.Event.TheVariants.{Sweep}
@@ -20,6 +20,8 @@ use Rattle.scrape_machine.specs.declared.answers.Answer.TheVariants.{Halted}
 use Rattle.scrape_machine.specs.declared.lives.Life.{Life}
 use Rattle.scrape_machine.specs.Lives.{ends, closed_ends}
 use Rattle.scrape_machine.specs.Machine.{World, world_of, answer, live_answer, starts_in, forces_in, is_over}
+use Rattle.scrape_machine.specs.Unended.{is_ended, unended}
+use Rattle.scrape_machine.proofs.UnendedLemmas.{any_unended, ended_closed, ended_ends}
 use Rattle.scrape_core.specs.Readers.{did, is_due, acts, due_in, IsWake}
 use Rattle.scrape_core.specs.declared.state.State.{State}
 use Rattle.scrape_core.specs.Kept.{seen}
@@ -96,6 +98,17 @@ more_reached lives i n l first next lt at was now =
     ∙ (list_any-append (acts n) (take i lives) (l ∷ [])
     ∙ (ap₂ (λ a b. a || b) was (or_false (acts n l) ∙ acts_by l n)
     ∙ (sooner_reached n first (wake_of l) ∙ ap (reached n) (sym now))))
+
+-- a life that has ended is acted on by no sweep
+ended_acts : (n : ℕ) (l : Life) → is_ended l ≡ true → acts n l ≡ false
+ended_acts n l h = ap₂ (λ a b. (a && (not (is_some l.schedule.flight) && not (nat_lt n l.schedule.planned))) || b) (ended_closed l h) (ended_ends n l h)
+
+pub acts_unended : (n : ℕ) (ls : List Life) → list_any (acts n) (unended ls) ≡ list_any (acts n) ls
+acts_unended n ls = any_unended (acts n) (ended_acts n) ls
+
+-- one life of those that are left of a loop
+pub any_left : (n : ℕ) (ls : List Life) (i : ℕ) (l : Life) → i < length ls → l ≡ get_or ls i l → list_any (acts n) (drop i ls) ≡ (acts n l || list_any (acts n) (drop (i + 1) ls))
+any_left n ls i l lt at = ap (list_any (acts n)) (drop_more ls i l lt ∙ ap (λ z. z ∷ drop (i + 1) ls) (sym at))
 
 -- the least moment that has reached the first one
 before_first : (n a now m : ℕ) → m ≡ max a now → now ≤ n → n < m → reached n (Some a) ≡ false

@@ -1,6 +1,7 @@
 -- What a state is seen as.
-use Rattle.std.proofs.Common.{◌≡◌, ℕ, ℤ, zero, suc, ◌<◌, List, [], ◌∷◌, ◌++◌, length, get_or, append-nil, refl, sym, ap, ap₂, ◌∙◌, subst, true, false, arith}
-use Rattle.std.specs.Prelude.{All, Result, Ok, Err, OnOk, Option, Some, None, slice_get}
+use Rattle.std.proofs.Common.{◌≡◌, ℕ, ℤ, zero, suc, ◌+◌, ◌<◌, List, [], ◌∷◌, ◌++◌, length, get_or, append-nil, refl, sym, ap, ap₂, ◌∙◌, subst, Bool, true, false, cond, not, ◌&&◌, arith}
+use Rattle.std.specs.Prelude.{All, Result, Ok, Err, OnOk, Option, Some, None, is_some, slice_get}
+use Rattle.std.specs.List.{range_with_len}
 use Rattle.std.proofs.lemmas.Bool.{false≢true}
 use Rattle.std.proofs.lemmas.List.{length-set}
 use Rattle.std.proofs.lemmas.Option.{slice_get_within}
@@ -15,6 +16,12 @@ use Rattle.report_samples.specs.declared.entries.Entry.{Entry}
 use Rattle.scrape_machine.specs.declared.answers.Answer.TheVariants.{Halted}
 use Rattle.scrape_machine.specs.declared.lives.Life.{Life}
 use Rattle.scrape_machine.specs.declared.lives.Start.{Start}
+use Rattle.journal_text.specs.Lines.{number}
+use Rattle.life_roll.specs.Schedules as schedule
+use Rattle.scrape_loop.specs.Tracked.{after_forced}
+use Rattle.scrape_laws.proofs.LifeLemmas.{scanned_closed}
+use Rattle.scrape_machine.specs.Lives.{is_open, forces, scanned_life}
+use Rattle.scrape_machine.specs.Unended.{is_ended}
 use Rattle.scrape_machine.specs.Machine.{World, world, is_open_life, tick_answer, finished, answer, step, gives}
 use Rattle.scrape_machine.proofs.EventLemmas.{load_silent, update_silent}
 use Rattle.scrape_machine.proofs.ScanLemmas.{halt_step, halt_silent}
@@ -57,9 +64,35 @@ found_there [] k x lt at = absurd (omega arith)
 found_there (y ∷ ys) zero x lt at = ap Some (sym at)
 found_there (y ∷ ys) (suc k) x lt at = found_there ys k x (omega arith) at
 
+pub get_or_at : {A : Type 0} (xs : List A) (k : ℕ) (d e : A) → k < length xs → get_or xs k d ≡ get_or xs k e
+get_or_at [] k d e lt = absurd (omega arith)
+get_or_at (y ∷ ys) zero d e lt = refl
+get_or_at (y ∷ ys) (suc k) d e lt = get_or_at ys k d e (omega arith)
+
 pub length-finished : (ss : List Start) (k : ℕ) (o : Option Start) → length (finished o ss k) ≡ length ss
 length-finished ss k None = refl
 length-finished ss k (Some s) = length-set ss k (record s { finished = true })
+
+-- an open life that is scanned has not ended by that
+pub scanned_open : (m : ℤ) (t : ℕ) (over : Bool) (x : Life) → is_open x ≡ true → is_ended (scanned_life m t over x x.schedule.closed) ≡ is_ended x
+scanned_open m t over x h = of x.schedule.closed h
+  where
+    by : (b : Bool) →
+        is_ended (cond b (record x { state = after_forced x.state; schedule = schedule.scanned m t over x.schedule }) (record x { schedule = schedule.scanned m t over x.schedule })) ≡ is_ended x
+    by true = ap (λ o. not (not (is_some o)) && x.ended) (scanned_closed m t over x.schedule)
+    by false = ap (λ o. not (not (is_some o)) && x.ended) (scanned_closed m t over x.schedule)
+
+    of : (o : Option ℤ) → not (is_some o) ≡ true → is_ended (scanned_life m t over x o) ≡ is_ended x
+    of None k = by (forces (number m) over x)
+    of (Some c) k = absurd (false≢true k)
+
+-- one more of the numbers from one on
+pub range_push : (a n : ℕ) → range_with_len a (n + 1) ≡ range_with_len a n ++ (a + n) ∷ []
+range_push a zero = let e : a ≡ a + 0 = omega arith in ap (λ k. k ∷ []) e
+range_push a (suc n) =
+    let e : suc n + 1 ≡ suc (n + 1) = omega arith in
+    let k : (a + 1) + n ≡ a + suc n = omega arith in
+    ap (range_with_len a) e ∙ ap (λ zs. a ∷ zs) (range_push (a + 1) n ∙ ap (λ j. range_with_len (a + 1) n ++ j ∷ []) k)
 
 -- the answer to a tick
 pub same_tick : (n : ℕ) (js ks : List InForce) (t u : ℕ) (o p : Option Life) → js ≡ ks → t ≡ u → o ≡ p → tick_answer js n t o ≡ tick_answer ks n u p

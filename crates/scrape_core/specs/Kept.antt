@@ -6,6 +6,7 @@ use Rattle.report_samples.specs.declared.entries.Entry.{Entry}
 use Rattle.scrape_machine.specs.Lives.{IsRightLife}
 use Rattle.scrape_machine.specs.Machine.{World, world, world_of, book_of, gives}
 use Rattle.scrape_machine.specs.Runs.{runs_of}
+use Rattle.scrape_machine.specs.Unended.{unended_from}
 use Rattle.scrape_core.specs.declared.state.State.{State}
 
 -- the world that a state is
@@ -20,6 +21,10 @@ live s = world s.jobs.items s.lives.items s.started.items
 abbrev pub HasFew : State → Type 0
 HasFew s = length s.lives.items < 2 ^ 32
 
+-- the lives that have not ended are listed
+abbrev pub IsListed : State → Type 0
+IsListed s = s.unended.items ≡ unended_from 0 s.lives.items
+
 -- of each life what is known of the raw texts of its rows is right
 abbrev pub AreRightLives : State → Type 0
 AreRightLives s = All IsRightLife s.lives.items
@@ -29,6 +34,7 @@ pub record IsKept (es : List Event) (book : List Entry) (s : State) (runs : ℕ)
   pub state : seen s ≡ world_of es
   pub book_is : book ≡ book_of es
   pub few : HasFew s
+  pub listed : IsListed s
   pub runs_are : runs ≡ runs_of es
 
 -- the entries of an event were appended

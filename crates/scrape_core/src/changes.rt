@@ -1,9 +1,11 @@
 //! Loads of a configuration and updates of a file's targets.
 ghost use Rattle.std.specs.Prelude.{◌≡◌, ◌≤◌, ◌<◌, ◌+◌, ◌^◌, ◌++◌, [], List, length, filter, vec_len, vec_capacity, Ok, IfOk, OnOk, OnErr};
+ghost use Rattle.std.specs.List.{range_with_len};
 ghost use Rattle.journal_text.specs.declared.events.Event.TheVariants.{Load, Targets};
 ghost use Rattle.scrape_machine.specs.Machine as spec;
 ghost use Rattle.scrape_machine.specs.Plans as plan;
 ghost use Rattle.scrape_machine.specs.Runs.{runs};
+ghost use Rattle.scrape_machine.specs.Unended as listed;
 ghost use Rattle.scrape_core.specs.Kept as kept;
 
 use crate::state::State;
@@ -19,6 +21,7 @@ use scrape_machine::Answer;
 use scrape_machine::acts::{Fate, meet_all};
 use scrape_machine::lives::Life;
 use scrape_machine::reloads::{births_of, count_closed, fates_of, held_of, names_of, verdicts_of};
+use scrape_machine::unended::{Lives, drop_ended};
 use std::alloc::Global;
 use std::sync::ledger::Ledger;
 
@@ -44,12 +47,12 @@ fn change_to(
     alloc: Global,
     moment: Moment,
     olds: &[InForce],
-    lives: &[Life],
+    lives: &Lives<'_>,
     news: &[InForce],
 ) -> Result<Change, NoMemory>
     requires { length lives.now < 2 ^ 32 }
-    ensures each { IfOk result (λ c. length c.fates.items ≡ length lives.now) }
-    ensures lives { IfOk result (λ c. plan.after_each moment c.fates.items lives.now ≡ spec.reload_lives moment news.now (spec.world olds.now lives.now [])) }
+    ensures each { IfOk result (λ c. length c.fates.items ≡ length (listed.unended lives.now)) }
+    ensures lives { IfOk result (λ c. plan.after_each moment (listed.all_fates c.fates.items lives.now) lives.now ≡ spec.reload_lives moment news.now (spec.world olds.now lives.now [])) }
     ensures closed { IfOk result (λ c. length (filter plan.closes c.fates.items) ≡ spec.closed_by moment news.now (spec.world olds.now lives.now [])) }
     ensures begun { IfOk result (λ c. c.begun.items ≡ spec.reload_births moment news.now (spec.world olds.now lives.now [])) }
 {
@@ -73,6 +76,17 @@ fn push_lives(lives: &mut Vec<Life>, begun: Vec<Life>)
     }
 }
 
+/// Adds so many places from the first one on, into room that was made before.
+fn push_places(places: &mut Vec<usize>, first: usize, count: usize)
+    requires room { vec_len places.old + count ≤ vec_capacity places.old }
+    requires few { first + count < 2 ^ 32 }
+    ensures { places.new.items ≡ places.old.items ++ range_with_len first count }
+{
+    for more in 0..count {
+        places.push_reserved(first + more);
+    }
+}
+
 /// Makes a change at a moment: how many lives close and begin.
 fn reload(
     alloc: Global,
@@ -80,18 +94,21 @@ fn reload(
     moment: Moment,
     jobs: Vec<InForce>,
 ) -> Result<Synced, NoMemory>
-    requires { kept.HasFew state.old }
+    requires few { kept.HasFew state.old }
+    requires listed { kept.IsListed state.old }
     ensures closed { IfOk result (λ s. s.closed ≡ spec.closed_by moment jobs.items (kept.live state.old)) }
     ensures begun { IfOk result (λ s. s.begun ≡ spec.begun_by moment jobs.items (kept.live state.old)) }
     ensures state { OnOk result (kept.live state.new ≡ spec.reloaded moment jobs.items (kept.live state.old)) }
     ensures few { OnOk result (kept.HasFew state.new) }
+    ensures listed { kept.IsListed state.new }
     ensures same { state.new.halted ≡ state.old.halted }
     ensures err { OnErr result (kept.live state.new ≡ kept.live state.old) }
 {
-    let change = change_to(alloc, moment, &state.jobs, &state.lives, &jobs)?;
+    let lives = Lives::of(&state.lives, &state.unended);
+    let change = change_to(alloc, moment, &state.jobs, &lives, &jobs)?;
     let (fates, begun) = (change.fates, change.begun);
-    let first = state.lives.len() as u64;
-    if first.saturating_add(begun.len() as u64) >= LIVES {
+    let first = state.lives.len();
+    if (first as u64).saturating_add(begun.len() as u64) >= LIVES {
         return Err(NoMemory);
     }
     let synced = Synced {
@@ -99,7 +116,10 @@ fn reload(
         begun: begun.len() as u32,
     };
     state.lives.reserve(begun.len())?;
-    meet_all(&mut state.lives, moment, fates);
+    state.unended.reserve(begun.len())?;
+    meet_all(&mut state.lives, &state.unended, moment, fates);
+    drop_ended(&mut state.unended, &state.lives);
+    push_places(&mut state.unended, first, begun.len());
     push_lives(&mut state.lives, begun);
     state.jobs = jobs;
     Ok(synced)
@@ -113,12 +133,14 @@ pub fn take_load<L: Ledger>(
     text: &Blob,
     steps: &mut Steps<L>,
 ) -> Result<Taken, NoMemory>
-    requires { kept.HasFew state.old }
+    requires few { kept.HasFew state.old }
+    requires listed { kept.IsListed state.old }
     ensures answer { IfOk result (λ t. t.answer ≡ spec.answer (kept.live state.old) (Load moment text.now)) }
     ensures runs { IfOk result (λ t. t.runs ≡ runs (kept.live state.old) (Load moment text.now)) }
     ensures steps { OnOk result (steps.new ≡ steps.old + runs (kept.live state.old) (Load moment text.now)) }
     ensures state { OnOk result (kept.live state.new ≡ spec.step (kept.live state.old) (Load moment text.now)) }
     ensures few { OnOk result (kept.HasFew state.new) }
+    ensures listed { kept.IsListed state.new }
     ensures same { state.new.halted ≡ state.old.halted }
     ensures err { OnErr result (kept.live state.new ≡ kept.live state.old) }
 {
@@ -148,12 +170,14 @@ pub fn take_update<L: Ledger>(
     text: &Blob,
     steps: &mut Steps<L>,
 ) -> Result<Taken, NoMemory>
-    requires { kept.HasFew state.old }
+    requires few { kept.HasFew state.old }
+    requires listed { kept.IsListed state.old }
     ensures answer { IfOk result (λ t. t.answer ≡ spec.answer (kept.live state.old) (Targets moment job.now file.now text.now)) }
     ensures runs { IfOk result (λ t. t.runs ≡ runs (kept.live state.old) (Targets moment job.now file.now text.now)) }
     ensures steps { OnOk result (steps.new ≡ steps.old + runs (kept.live state.old) (Targets moment job.now file.now text.now)) }
     ensures state { OnOk result (kept.live state.new ≡ spec.step (kept.live state.old) (Targets moment job.now file.now text.now)) }
     ensures few { OnOk result (kept.HasFew state.new) }
+    ensures listed { kept.IsListed state.new }
     ensures same { state.new.halted ≡ state.old.halted }
     ensures err { OnErr result (kept.live state.new ≡ kept.live state.old) }
 {

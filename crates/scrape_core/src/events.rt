@@ -28,6 +28,7 @@ fn take_live<L: Ledger>(
 ) -> Result<Taken, NoMemory>
     requires limits { IsInLimits event.now }
     requires few { kept.HasFew state.old }
+    requires listed { kept.IsListed state.old }
     requires right { kept.AreRightLives state.old }
     requires live { state.old.halted ≡ false }
     ensures answer { IfOk result (λ t. t.answer ≡ spec.answer (kept.live state.old) event.now) }
@@ -36,6 +37,7 @@ fn take_live<L: Ledger>(
     ensures state { OnOk result (kept.seen state.new ≡ spec.step (kept.live state.old) event.now) }
     ensures book { OnOk result (kept.Appends (kept.live state.old) event.now book.old.entries book.new.entries) }
     ensures few { OnOk result (kept.HasFew state.new) }
+    ensures listed { kept.IsListed state.new }
     ensures err { OnErr result (kept.seen state.new ≡ kept.live state.old) }
     ensures err_book { OnErr result (book.new.entries ≡ book.old.entries) }
 {
@@ -79,6 +81,7 @@ pub fn take<L: Ledger>(
 ) -> Result<Taken, NoMemory>
     requires limits { IsInLimits event.now }
     requires few { kept.HasFew state.old }
+    requires listed { kept.IsListed state.old }
     requires right { kept.AreRightLives state.old }
     ensures answer { IfOk result (λ t. t.answer ≡ spec.answer (kept.seen state.old) event.now) }
     ensures runs { IfOk result (λ t. t.runs ≡ runs (kept.seen state.old) event.now) }
@@ -86,6 +89,7 @@ pub fn take<L: Ledger>(
     ensures state { OnOk result (kept.seen state.new ≡ spec.step (kept.seen state.old) event.now) }
     ensures book { OnOk result (kept.Appends (kept.seen state.old) event.now book.old.entries book.new.entries) }
     ensures few { OnOk result (kept.HasFew state.new) }
+    ensures listed { kept.IsListed state.new }
     ensures err { OnErr result (kept.seen state.new ≡ kept.seen state.old) }
     ensures err_book { OnErr result (book.new.entries ≡ book.old.entries) }
 {

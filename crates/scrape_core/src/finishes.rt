@@ -33,6 +33,7 @@ fn finish_counted<L: Ledger>(
 ) -> Result<Taken, NoMemory>
     requires took { IsMoment took }
     requires few { kept.HasFew state.old }
+    requires listed { kept.IsListed state.old }
     requires right { kept.AreRightLives state.old }
     requires found { spec.found (kept.live state.old) ticket ≡ Counts life moment }
     requires within { life < length state.old.lives.items }
@@ -42,6 +43,7 @@ fn finish_counted<L: Ledger>(
     ensures state { OnOk result (kept.live state.new ≡ spec.step (kept.live state.old) (Finish ticket took reply.now)) }
     ensures book { OnOk result (kept.Appends (kept.live state.old) (Finish ticket took reply.now) book.old.entries book.new.entries) }
     ensures few { kept.HasFew state.new }
+    ensures listed { kept.IsListed state.new }
     ensures same { state.new.halted ≡ state.old.halted }
     ensures err { OnErr result (kept.live state.new ≡ kept.live state.old) }
     ensures err_book { OnErr result (book.new.entries ≡ book.old.entries) }
@@ -66,6 +68,7 @@ pub fn take_finish<L: Ledger>(
 ) -> Result<Taken, NoMemory>
     requires took { IsMoment took }
     requires few { kept.HasFew state.old }
+    requires listed { kept.IsListed state.old }
     requires right { kept.AreRightLives state.old }
     ensures answer { IfOk result (λ t. t.answer ≡ spec.answer (kept.live state.old) (Finish ticket took reply.now)) }
     ensures runs { IfOk result (λ t. t.runs ≡ runs (kept.live state.old) (Finish ticket took reply.now)) }
@@ -73,6 +76,7 @@ pub fn take_finish<L: Ledger>(
     ensures state { OnOk result (kept.live state.new ≡ spec.step (kept.live state.old) (Finish ticket took reply.now)) }
     ensures book { OnOk result (kept.Appends (kept.live state.old) (Finish ticket took reply.now) book.old.entries book.new.entries) }
     ensures few { kept.HasFew state.new }
+    ensures listed { kept.IsListed state.new }
     ensures same { state.new.halted ≡ state.old.halted }
     ensures err { OnErr result (kept.live state.new ≡ kept.live state.old) }
     ensures err_book { OnErr result (book.new.entries ≡ book.old.entries) }

@@ -109,6 +109,7 @@ impl Core {
             state: State {
                 jobs: Vec::new(alloc),
                 lives: Vec::new(alloc),
+                unended: Vec::new(alloc),
                 started: Vec::new(alloc),
                 halted: false,
             },

@@ -2,6 +2,7 @@
 ghost use Rattle.std.specs.Prelude.{◌≡◌, ◌<◌, ◌^◌, ℕ, slice_get, option_copied, IfOk};
 ghost use Rattle.std.specs.List.{list_any};
 ghost use Rattle.journal_text.specs.Lines.{number};
+ghost use Rattle.scrape_core.specs.Kept as kept;
 ghost use Rattle.scrape_core.specs.Readers as spec;
 ghost use Rattle.scrape_core.specs.Wakes as wakes;
 
@@ -12,6 +13,7 @@ use life_roll::Moment;
 use outside::Request;
 use scrape_machine::acts::ends;
 use scrape_machine::lives::{Life, Start};
+use scrape_machine::unended::Lives;
 use std::alloc::Global;
 use target_set::request_of;
 
@@ -23,10 +25,15 @@ fn acts(moment: Moment, life: &Life) -> bool
 }
 
 /// Whether a sweep at a moment would do so for one of these lives.
-fn any_due(lives: &[Life], moment: Moment) -> bool
+fn any_due(lives: &Lives<'_>, moment: Moment) -> bool
     ensures { result ≡ list_any (spec.acts (number moment)) lives.now }
 {
-    lives.iter().any(|life| acts(moment, life))
+    for index in 0..lives.unended() {
+        if acts(moment, lives.at(index)) {
+            return true;
+        }
+    }
+    false
 }
 
 /// The moment from which on a sweep would end a closed life, or make a scrape of an open one; none where that comes with no moment.
@@ -66,12 +73,12 @@ fn sooner(one: Option<u64>, other: Option<u64>) -> Option<u64>
 }
 
 /// The moment from which on a sweep would act on one of these lives.
-fn first_wake(lives: &[Life]) -> Option<u64>
+fn first_wake(lives: &Lives<'_>) -> Option<u64>
     ensures { (n : ℕ) → list_any (spec.acts n) lives.now ≡ wakes.reached n result }
 {
     let mut first = None;
-    for life in lives {
-        first = sooner(first, wake_of(life));
+    for index in 0..lives.unended() {
+        first = sooner(first, wake_of(lives.at(index)));
     }
     first
 }
@@ -99,20 +106,24 @@ fn wake_from(first: Option<u64>, now: u64) -> Option<i64>
 
 /// Whether a sweep at a moment would act on a life, unless a halt came.
 pub fn due_in(state: &State, moment: Moment) -> bool
+    requires { kept.IsListed state.now }
     ensures { result ≡ spec.due_in state.now (number moment) }
 {
-    !state.halted && any_due(&state.lives, moment)
+    let lives = Lives::of(&state.lives, &state.unended);
+    !state.halted && any_due(&lives, moment)
 }
 
 /// The least moment from `now` on at which a sweep would act on a life.
 pub fn wake_in(state: &State, now: u64) -> Option<i64>
-    requires { now < 2 ^ 52 }
+    requires small { now < 2 ^ 52 }
+    requires listed { kept.IsListed state.now }
     ensures { wakes.IsWakeBy (spec.due_in state.now) now result }
 {
     if state.halted {
         return None;
     }
-    wake_from(first_wake(&state.lives), now)
+    let lives = Lives::of(&state.lives, &state.unended);
+    wake_from(first_wake(&lives), now)
 }
 
 /// The request of a scrape of a life, by the settings at its start.

@@ -9,6 +9,8 @@ pub struct State {
     pub jobs: Vec<InForce>,
     /// The lives, by number.
     pub lives: Vec<Life>,
+    /// The numbers of the lives that have not ended, rising.
+    pub unended: Vec<usize>,
     /// The started scrapes, by ticket.
     pub started: Vec<Start>,
     /// Whether a halt came.

@@ -19,6 +19,7 @@ use scrape_machine::scans::{
     count_ends, count_forced, count_starts, entries_of, is_over_in, starts_of, sweep_lives,
     tick_answer, ticked,
 };
+use scrape_machine::unended::{Lives, drop_ended};
 use std::alloc::Global;
 
 /// Adds started scrapes, into room that was made before.
@@ -35,13 +36,15 @@ fn push_starts(started: &mut Vec<Start>, begun: Vec<Start>)
 fn sweep_answer(names: &JobNames, state: &State, moment: Moment) -> Answer
     requires names { names.now ≡ map plan.name_of state.now.jobs.items }
     requires few { kept.HasFew state.now }
+    requires listed { kept.IsListed state.now }
     ensures { result ≡ spec.sweep_answer (kept.live state.now) (number moment) }
 {
+    let lives = Lives::of(&state.lives, &state.unended);
     Answer::Swept {
         first: state.started.len() as u64,
-        started: count_starts(names, &state.jobs, moment, &state.lives) as u32,
-        forced: count_forced(names, &state.jobs, moment, &state.lives) as u32,
-        ended: count_ends(moment, &state.lives) as u64,
+        started: count_starts(names, &state.jobs, moment, &lives) as u32,
+        forced: count_forced(names, &state.jobs, moment, &lives) as u32,
+        ended: count_ends(moment, &lives) as u64,
     }
 }
 
@@ -52,28 +55,33 @@ pub fn take_sweep(
     book: &mut Book,
     moment: Moment,
 ) -> Result<Answer, NoMemory>
-    requires { kept.HasFew state.old }
+    requires few { kept.HasFew state.old }
+    requires listed { kept.IsListed state.old }
     ensures answer { IfOk result (λ a. a ≡ spec.answer (kept.live state.old) (Sweep moment)) }
     ensures state { OnOk result (kept.live state.new ≡ spec.step (kept.live state.old) (Sweep moment)) }
     ensures book { OnOk result (kept.Appends (kept.live state.old) (Sweep moment) book.old.entries book.new.entries) }
     ensures few { OnOk result (kept.HasFew state.new) }
+    ensures listed { kept.IsListed state.new }
     ensures same { state.new.halted ≡ state.old.halted }
     ensures err { OnErr result (kept.live state.new ≡ kept.live state.old) }
     ensures err_book { OnErr result (book.new.entries ≡ book.old.entries) }
 {
     let names = names_of(alloc, &state.jobs)?;
     let answer = sweep_answer(&names, state, moment);
-    let begun = starts_of(alloc, &names, &state.jobs, moment, &state.lives)?;
-    let items = entries_of(alloc, &names, &state.jobs, moment, &state.lives)?;
+    let lives = Lives::of(&state.lives, &state.unended);
+    let begun = starts_of(alloc, &names, &state.jobs, moment, &lives)?;
+    let items = entries_of(alloc, &names, &state.jobs, moment, &lives)?;
     state.started.reserve(begun.len())?;
     book.append_all(EntryList { items })?;
     sweep_lives(
         &names,
         &state.jobs,
         &mut state.lives,
+        &state.unended,
         &state.started,
         moment,
     );
+    drop_ended(&mut state.unended, &state.lives);
     push_starts(&mut state.started, begun);
     Ok(answer)
 }
@@ -88,9 +96,11 @@ fn tick_open(
 ) -> Result<(), NoMemory>
     requires there { spec.is_open_at (kept.live state.old) life ≡ true }
     requires few { kept.HasFew state.old }
+    requires listed { kept.IsListed state.old }
     ensures state { OnOk result (kept.live state.new ≡ spec.step (kept.live state.old) (Tick moment life)) }
     ensures book { OnOk result (kept.Appends (kept.live state.old) (Tick moment life) book.old.entries book.new.entries) }
     ensures few { OnOk result (kept.HasFew state.new) }
+    ensures listed { kept.IsListed state.new }
     ensures same { state.new.halted ≡ state.old.halted }
     ensures err { OnErr result (kept.live state.new ≡ kept.live state.old) }
     ensures err_book { OnErr result (book.new.entries ≡ book.old.entries) }
@@ -133,11 +143,13 @@ pub fn take_tick(
     moment: Moment,
     life: u64,
 ) -> Result<Answer, NoMemory>
-    requires { kept.HasFew state.old }
+    requires few { kept.HasFew state.old }
+    requires listed { kept.IsListed state.old }
     ensures answer { IfOk result (λ a. a ≡ spec.answer (kept.live state.old) (Tick moment life)) }
     ensures state { OnOk result (kept.live state.new ≡ spec.step (kept.live state.old) (Tick moment life)) }
     ensures book { OnOk result (kept.Appends (kept.live state.old) (Tick moment life) book.old.entries book.new.entries) }
     ensures few { OnOk result (kept.HasFew state.new) }
+    ensures listed { kept.IsListed state.new }
     ensures same { state.new.halted ≡ state.old.halted }
     ensures err { OnErr result (kept.live state.new ≡ kept.live state.old) }
     ensures err_book { OnErr result (book.new.entries ≡ book.old.entries) }

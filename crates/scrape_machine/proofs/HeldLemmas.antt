@@ -1,7 +1,6 @@
 -- One life more among those that stay open.
-use Rattle.std.proofs.Common.{◌≡◌, ℕ, ℤ, suc, ◌+◌, ◌<◌, Bool, ◌||◌, false, true, List, [], ◌∷◌, ◌++◌, length, take, drop, get_or, set, add-one, append_assoc, refl, sym, ap, ap₂, ◌∙◌, arith}
+use Rattle.std.proofs.Common.{◌≡◌, ℕ, ℤ, ◌+◌, ◌<◌, Bool, ◌||◌, false, true, List, [], ◌∷◌, ◌++◌, length, take, get_or, refl, sym, ap, ap₂, ◌∙◌, arith}
 use Rattle.std.specs.List.{list_any}
-use Rattle.std.proofs.Math.Seq.{drop-cons, get_or-append_seam, set-append_seam}
 use Rattle.std.proofs.lemmas.List.{take_more, length-take}
 use Rattle.std.proofs.lemmas.List.Folds.{list_any-append}
 use Rattle.label_set.specs.declared.texts.Pair.{Pair}
@@ -38,27 +37,3 @@ held_more m names place identity fs ls i f l old new hf hl af al ho hn =
     ∙ sym (ap (list_any (sits names place identity)) (after_more m fs ls i f l hf hl af al)
     ∙ list_any-append (sits names place identity) (after_each m (take i fs) (take i ls)) (life_after (local_of m f) l ∷ [])
     ∙ or_comm (list_any (sits names place identity) (after_each m (take i fs) (take i ls))) (sits names place identity (life_after (local_of m f) l)))
-
-length-after : (m : ℤ) (fs : List Fate) (ls : List Life) → length (after_each m fs ls) ≡ length ls
-length-after m [] ls = refl
-length-after m (f ∷ fs) [] = refl
-length-after m (f ∷ fs) (l ∷ ls) = ap (λ n. suc n) (length-after m fs ls)
-
--- one life more that met what becomes of it
-pub met_more : (m : ℤ) (ys : List Fate) (ls vs : List Life) (i : ℕ) (f : Fate) (x y : Life) → i ≡ length ys → i < length ls →
-    vs ≡ after_each m ys (take i ls) ++ drop i ls → x ≡ get_or vs i x → y ≡ life_after (local_of m f) x →
-    set vs i y ≡ after_each m (ys ++ f ∷ []) (take (i + 1) ls) ++ drop (i + 1) ls
-met_more m ys ls vs i f x y n lt hv hx hy =
-    let front = after_each m ys (take i ls) in
-    let len : length front ≡ i = length-after m ys (take i ls) ∙ omega (arith, length-take i ls) in
-    let back : drop i ls ≡ get_or ls i x ∷ drop (i + 1) ls = rw add-one (drop-cons ls i x lt) in
-    let split : vs ≡ front ++ get_or ls i x ∷ drop (i + 1) ls = hv ∙ ap (λ z. front ++ z) back in
-    let at : x ≡ get_or ls i x =
-    hx ∙ (ap (λ z. get_or z i x) split ∙ (ap (λ z. get_or (front ++ get_or ls i x ∷ drop (i + 1) ls) z x) (sym len) ∙ get_or-append_seam front (get_or ls i x) (drop (i + 1) ls) x)) in
-    let put : set vs i y ≡ front ++ y ∷ drop (i + 1) ls =
-    ap (λ z. set z i y) split ∙ (ap (λ z. set (front ++ get_or ls i x ∷ drop (i + 1) ls) z y) (sym len) ∙ set-append_seam front (get_or ls i x) (drop (i + 1) ls) y) in
-    let next : after_each m (ys ++ f ∷ []) (take (i + 1) ls) ≡ front ++ life_after (local_of m f) x ∷ [] =
-    ap (after_each m (ys ++ f ∷ [])) (take_more ls i x lt ∙ ap (λ z. take i ls ++ z ∷ []) (sym at))
-    ∙ after_push m ys (take i ls) f x (let a = length-take i ls in omega arith) in
-    put ∙ ap (λ z. front ++ z ∷ drop (i + 1) ls) hy ∙ sym (append_assoc front (life_after (local_of m f) x ∷ []) (drop (i + 1) ls))
-    ∙ ap (λ z. z ++ drop (i + 1) ls) (sym next)

@@ -8,3 +8,6 @@ pub mod HeldLemmas
 pub mod BirthLemmas
 pub mod WholeLemmas
 pub mod RunLemmas
+pub mod UnendedLemmas
+pub mod SweptLemmas
+pub mod ListedLemmas

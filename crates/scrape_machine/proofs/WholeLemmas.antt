@@ -16,7 +16,9 @@ use Rattle.scrape_machine.specs.Machine as spec
 use Rattle.scrape_machine.specs.Machine.{World, world, births, reload_local, reload_life, reload_lives, reload_births, reloaded, closed_by, begun_by}
 use Rattle.scrape_machine.specs.Plans as plan
 use Rattle.scrape_machine.specs.Plans.{local_of, after_each, name_of, fate_of, IsHeld, births_by}
+use Rattle.scrape_machine.specs.Unended.{unended, all_fates}
 use Rattle.scrape_machine.proofs.ReloadLemmas.{fate_local, each_after, has_place, births_alike, HasPlace}
+use Rattle.scrape_machine.proofs.UnendedLemmas.{ended_stays, all_fates_are, closes_unended}
 
 there : {A : Type 0} (xs : List A) (i : ℕ) (d : A) → i < length xs → slice_get xs i ≡ Some (get_or xs i d)
 there [] i d lt = absurd (omega arith)
@@ -47,18 +49,22 @@ closes_alike m f g (l ∷ ls) h =
     of false e = e
 
 module _ (m : ℤ) (olds news : List InForce) (ls : List Life) (ss : List Start) (names : List (List ℕ)) (vs : List Verdict) (fates : List Fate)
-    (n : names ≡ map name_of news) (v : vs ≡ map (spec.verdict olds) news) (f : fates ≡ map (fate_of names news vs) ls) where
+    (n : names ≡ map name_of news) (v : vs ≡ map (spec.verdict olds) news) (f : fates ≡ map (fate_of names news vs) (unended ls)) where
   local_is : (l : Life) → local_of m (fate_of names news vs l) ≡ reload_local m olds (Some news) l
   local_is l = fate_local m olds news names vs l n v
 
-  pub whole_lives : after_each m fates ls ≡ reload_lives m news (world olds ls ss)
-  whole_lives = ap (λ fs. after_each m fs ls) f ∙ each_after m (fate_of names news vs) (reload_local m olds (Some news)) ls local_is
+  pub whole_lives : after_each m (all_fates fates ls) ls ≡ reload_lives m news (world olds ls ss)
+  whole_lives =
+      ap (λ fs. after_each m fs ls) (ap (λ fs. all_fates fs ls) f ∙ all_fates_are (fate_of names news vs) (ended_stays names news vs) ls)
+      ∙ each_after m (fate_of names news vs) (reload_local m olds (Some news)) ls local_is
 
   pub whole_closed : length (filter plan.closes fates) ≡ closed_by m news (world olds ls ss)
-  whole_closed = ap (λ fs. length (filter plan.closes fs)) f ∙ closes_alike m (fate_of names news vs) (reload_local m olds (Some news)) ls local_is
+  whole_closed =
+      ap (λ fs. length (filter plan.closes fs)) f ∙ closes_unended (fate_of names news vs) (ended_stays names news vs) ls
+      ∙ closes_alike m (fate_of names news vs) (reload_local m olds (Some news)) ls local_is
 
-  pub whole_births : (held : Seats) → IsHeld held names (after_each m fates ls) →
+  pub whole_births : (held : Seats) → IsHeld held names (after_each m (all_fates fates ls) ls) →
       births_by (number m) (length ls) held names news ≡ reload_births m news (world olds ls ss)
   whole_births held h =
-      births_alike (number m) (length ls) held names (after_each m fates ls) news h (subst (λ ns. All (HasPlace ns) news) (sym n) (places news))
+      births_alike (number m) (length ls) held names (after_each m (all_fates fates ls) ls) news h (subst (λ ns. All (HasPlace ns) news) (sym n) (places news))
       ∙ ap (λ zs. births (number m) (length ls) zs news) whole_lives

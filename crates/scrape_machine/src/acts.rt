@@ -1,10 +1,12 @@
 //! What an event makes of a life, and the entries that it gives.
-ghost use Rattle.std.specs.Prelude.{◌≡◌, ◌≤◌, ◌++◌, [], map, length, filter, false, Some, None, IfOk, OnOk};
+ghost use Rattle.std.specs.Prelude.{◌≡◌, ◌<◌, ◌≤◌, ◌++◌, [], map, length, get_or, filter, false, Some, None, IfOk, OnOk};
 ghost use Rattle.end_of_run.specs.Endings.{IsInLimits};
 ghost use Rattle.journal_text.specs.Lines.{number};
+ghost use Rattle.scrape_machine.specs.declared.lives.Life.{Life};
 ghost use Rattle.scrape_machine.specs.Lives as spec;
 ghost use Rattle.scrape_machine.specs.Machine.{closes};
 ghost use Rattle.scrape_machine.specs.Plans as plan;
+ghost use Rattle.scrape_machine.specs.Unended as listed;
 
 use crate::lives::Life;
 use end_of_run::{due_at, ending_entries};
@@ -30,6 +32,13 @@ pub fn is_open(life: &Life) -> bool
     ensures { result ≡ spec.is_open life.now }
 {
     life.schedule.is_open()
+}
+
+/// Whether the life has ended: it is closed, and its ending was taken.
+pub fn is_ended(life: &Life) -> bool
+    ensures { result ≡ listed.is_ended life.now }
+{
+    !is_open(life) && life.ended
 }
 
 /// Whether a sweep at a moment takes the ending of a life that was closed at another.
@@ -121,15 +130,49 @@ fn meet(life: &mut Life, moment: Moment, fate: Fate)
     }
 }
 
-/// The lives after what becomes of each at a moment.
-pub fn meet_all(lives: &mut [Life], moment: Moment, fates: Vec<Fate>)
-    requires { length fates.items ≡ length lives.old }
-    ensures { lives.new ≡ plan.after_each moment fates.items lives.old }
+/// The life at a place.
+pub fn life_at(lives: &[Life], place: usize) -> &Life
+    requires { place < length lives.now }
+    ensures { result.now ≡ get_or lives.now place result.now }
 {
-    let mut place: usize = 0;
+    &lives[place]
+}
+
+/// The place that stands at an index.
+pub fn place_at(places: &[usize], index: usize) -> usize
+    requires { index < length places.now }
+    ensures { result ≡ get_or places.now index result }
+{
+    places[index]
+}
+
+/// Scans the life at a place.
+pub fn scan_at(lives: &mut [Life], place: usize, moment: Moment, ticket: u64, over: bool)
+    requires { place < length lives.old }
+    ensures { lives.new ≡ listed.changed_at place (λ (l : Life). spec.scanned_life moment ticket over l l.schedule.closed) lives.old }
+{
+    scan(&mut lives[place], moment, ticket, over);
+}
+
+/// The life at a place meets what becomes of it at a moment.
+fn meet_at(lives: &mut [Life], place: usize, moment: Moment, fate: Fate)
+    requires { place < length lives.old }
+    ensures { lives.new ≡ listed.changed_at place (λ (l : Life). spec.life_after (plan.local_of moment fate) l) lives.old }
+{
+    meet(&mut lives[place], moment, fate);
+}
+
+/// The lives after what becomes of each at a moment, by the places of those that have not ended and by what becomes of these.
+pub fn meet_all(lives: &mut [Life], places: &[usize], moment: Moment, fates: Vec<Fate>)
+    requires places { places.now ≡ listed.unended_from 0 lives.old }
+    requires each { length fates.items ≡ length places.now }
+    ensures { lives.new ≡ plan.after_each moment (listed.all_fates fates.items lives.old) lives.old }
+{
+    let mut index: usize = 0;
     for fate in fates {
-        meet(&mut lives[place], moment, fate);
-        place += 1;
+        let place = place_at(places, index);
+        meet_at(lives, place, moment, fate);
+        index += 1;
     }
 }
 

@@ -12,10 +12,12 @@ ghost use Rattle.jobs_in_force.specs.TargetWords.{HasNoName};
 ghost use Rattle.scrape_machine.specs.Lives as lives_of;
 ghost use Rattle.scrape_machine.specs.Machine as spec;
 ghost use Rattle.scrape_machine.specs.Plans as plan;
+ghost use Rattle.scrape_machine.specs.Unended as listed;
 ghost use Rattle.jobs_in_force.specs.Settings.{settings_of};
 
 use crate::acts::{Fate, is_open};
 use crate::lives::{Life, Verdict};
+use crate::unended::Lives;
 use jobs_in_force::jobs::{InForce, Settings};
 use jobs_in_force::loads::job_named;
 use label_set::{Name, NoMemory};
@@ -153,19 +155,19 @@ fn fate_of(
     fate_at(life, after, verdict)
 }
 
-/// What becomes of each life.
+/// What becomes of each life that has not ended.
 pub fn fates_of(
     alloc: Global,
     names: &JobNames,
     news: &[InForce],
     verdicts: &[Verdict],
-    lives: &[Life],
+    lives: &Lives<'_>,
 ) -> Result<Vec<Fate>, NoMemory>
-    ensures { IfOk result (λ v. v.items ≡ map (plan.fate_of names.now news.now verdicts.now) lives.now) }
+    ensures { IfOk result (λ v. v.items ≡ map (plan.fate_of names.now news.now verdicts.now) (listed.unended lives.now)) }
 {
-    let mut fates = Vec::with_capacity(alloc, lives.len())?;
-    for life in lives {
-        let fate = fate_of(names, news, verdicts, life)?;
+    let mut fates = Vec::with_capacity(alloc, lives.unended())?;
+    for index in 0..lives.unended() {
+        let fate = fate_of(names, news, verdicts, lives.at(index))?;
         fates.push(fate)?;
     }
     Ok(fates)
@@ -222,20 +224,20 @@ fn hold(held: &mut Seats, names: &JobNames, fate: &Fate, life: &Life) -> Result<
     }
 }
 
-/// The targets that lives have which stay open.
+/// The targets that lives have which stay open, by what becomes of those that have not ended.
 pub fn held_of(
     alloc: Global,
     names: &JobNames,
     fates: &[Fate],
-    lives: &[Life],
+    lives: &Lives<'_>,
 ) -> Result<Seats, NoMemory>
-    requires { length fates.now ≡ length lives.now }
-    ensures { IfOk result (λ s. (moment : ℤ) → plan.IsHeld s names.now (plan.after_each moment fates.now lives.now)) }
+    requires { length fates.now ≡ length (listed.unended lives.now) }
+    ensures { IfOk result (λ s. (moment : ℤ) → plan.IsHeld s names.now (plan.after_each moment (listed.all_fates fates.now lives.now) lives.now)) }
 {
     let mut held = Seats::new(alloc);
     let mut place: usize = 0;
     for fate in fates {
-        hold(&mut held, names, fate, &lives[place])?;
+        hold(&mut held, names, fate, lives.at(place))?;
         place += 1;
     }
     Ok(held)

@@ -7,11 +7,13 @@ ghost use Rattle.jobs_in_force.specs.Jobs as jobs_of;
 ghost use Rattle.scrape_machine.specs.Lives as lives_of;
 ghost use Rattle.scrape_machine.specs.Machine as spec;
 ghost use Rattle.scrape_machine.specs.Plans as plan;
+ghost use Rattle.scrape_machine.specs.Unended as listed;
 
-use crate::acts::{ends, forces, is_open, push_scan, scan, starts};
+use crate::acts::{ends, forces, is_open, life_at, push_scan, scan_at, starts};
 use crate::answers::Answer;
 use crate::lives::{Life, Start};
 use crate::reloads::{job_at, job_name};
+use crate::unended::Lives;
 use jobs_in_force::jobs::InForce;
 use jobs_in_force::loads::job_named;
 use label_set::NoMemory;
@@ -51,14 +53,14 @@ fn forces_in(names: &JobNames, jobs: &[InForce], moment: Moment, life: &Life) ->
 }
 
 /// How many lives a sweep starts a scrape of.
-pub fn count_starts(names: &JobNames, jobs: &[InForce], moment: Moment, lives: &[Life]) -> usize
+pub fn count_starts(names: &JobNames, jobs: &[InForce], moment: Moment, lives: &Lives<'_>) -> usize
     requires { names.now ≡ map plan.name_of jobs.now }
     ensures value { result ≡ length (filter (spec.starts_in jobs.now (number moment)) lives.now) }
     ensures few { result ≤ length lives.now }
 {
     let mut count: usize = 0;
-    for life in lives {
-        if starts_in(names, jobs, moment, life) {
+    for index in 0..lives.unended() {
+        if starts_in(names, jobs, moment, lives.at(index)) {
             count += 1;
         }
     }
@@ -66,14 +68,14 @@ pub fn count_starts(names: &JobNames, jobs: &[InForce], moment: Moment, lives: &
 }
 
 /// How many lives a sweep forces a scrape of.
-pub fn count_forced(names: &JobNames, jobs: &[InForce], moment: Moment, lives: &[Life]) -> usize
+pub fn count_forced(names: &JobNames, jobs: &[InForce], moment: Moment, lives: &Lives<'_>) -> usize
     requires { names.now ≡ map plan.name_of jobs.now }
     ensures value { result ≡ length (filter (spec.forces_in jobs.now (number moment)) lives.now) }
     ensures few { result ≤ length lives.now }
 {
     let mut count: usize = 0;
-    for life in lives {
-        if forces_in(names, jobs, moment, life) {
+    for index in 0..lives.unended() {
+        if forces_in(names, jobs, moment, lives.at(index)) {
             count += 1;
         }
     }
@@ -81,11 +83,17 @@ pub fn count_forced(names: &JobNames, jobs: &[InForce], moment: Moment, lives: &
 }
 
 /// How many endings a sweep takes.
-pub fn count_ends(moment: Moment, lives: &[Life]) -> usize
+pub fn count_ends(moment: Moment, lives: &Lives<'_>) -> usize
     ensures value { result ≡ length (filter (lives_of.ends (number moment)) lives.now) }
     ensures few { result ≤ length lives.now }
 {
-    lives.iter().filter(|life| ends(moment, life)).count()
+    let mut count: usize = 0;
+    for index in 0..lives.unended() {
+        if ends(moment, lives.at(index)) {
+            count += 1;
+        }
+    }
+    count
 }
 
 fn push_start(
@@ -117,16 +125,15 @@ pub fn starts_of(
     names: &JobNames,
     jobs: &[InForce],
     moment: Moment,
-    lives: &[Life],
+    lives: &Lives<'_>,
 ) -> Result<Vec<Start>, NoMemory>
     requires { names.now ≡ map plan.name_of jobs.now }
     ensures { IfOk result (λ v. v.items ≡ spec.starts_from jobs.now (number moment) 0 lives.now) }
 {
     let mut begun = Vec::new(alloc);
-    let mut place: u64 = 0;
-    for life in lives {
-        push_start(names, jobs, &mut begun, moment, life, place)?;
-        place += 1;
+    for index in 0..lives.unended() {
+        let place = lives.place(index) as u64;
+        push_start(names, jobs, &mut begun, moment, lives.at(index), place)?;
     }
     Ok(begun)
 }
@@ -137,40 +144,39 @@ pub fn entries_of(
     names: &JobNames,
     jobs: &[InForce],
     moment: Moment,
-    lives: &[Life],
+    lives: &Lives<'_>,
 ) -> Result<Vec<Entry>, NoMemory>
     requires { names.now ≡ map plan.name_of jobs.now }
     ensures { IfOk result (λ v. v.items ≡ flat_map (spec.swept_entries jobs.now moment) lives.now) }
 {
     let mut entries = Vec::new(alloc);
-    for life in lives {
-        push_scan(
-            alloc,
-            &mut entries,
-            moment,
-            is_over(names, jobs, life),
-            life,
-        )?;
+    for index in 0..lives.unended() {
+        let life = lives.at(index);
+        let over = is_over(names, jobs, life);
+        push_scan(alloc, &mut entries, moment, over, life)?;
     }
     Ok(entries)
 }
 
-/// Scans each life.
+/// Scans each life that has not ended, by their places.
 pub fn sweep_lives(
     names: &JobNames,
     jobs: &[InForce],
     lives: &mut [Life],
+    places: &[usize],
     started: &[Start],
     moment: Moment,
 )
-    requires { names.now ≡ map plan.name_of jobs.now }
+    requires names { names.now ≡ map plan.name_of jobs.now }
+    requires places { places.now ≡ listed.unended_from 0 lives.old }
     ensures { lives.new ≡ spec.lives_from (spec.world jobs.now lives.old started.now) (Sweep moment) 0 lives.old }
 {
     let mut ticket = started.len() as u64;
-    for life in lives.iter_mut() {
+    for place in places {
+        let life = life_at(lives, *place);
         let over = is_over(names, jobs, life);
         let one = starts(moment, over, life);
-        scan(life, moment, ticket, over);
+        scan_at(lives, *place, moment, ticket, over);
         if one {
             ticket += 1;
         }

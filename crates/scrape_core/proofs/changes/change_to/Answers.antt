@@ -1,4 +1,6 @@
-use Rattle.std.proofs.Common.{◌∙◌, []}
+use Rattle.std.proofs.Common.{◌∙◌, [], ap}
+use Rattle.journal_text.specs.Lines.{number}
+use Rattle.scrape_machine.specs.Plans.{births_by}
 use Rattle.scrape_machine.proofs.WholeLemmas.{whole_lives, whole_closed, whole_births}
 use Rattle.scrape_core.proofs.changes.change_to.Goals as goal
 
@@ -15,6 +17,7 @@ returns-clause-closed c =
 pub returns-clause-begun : goal.returns-clause-begun
 returns-clause-begun c =
     c.in_ok-begun.ensures
+    ∙ ap (λ n. births_by (number c.args.moment) n c.in_ok-held.held c.in_ok-names.names c.args.news.now) c.len-first.ensures
     ∙ whole_births c.args.moment c.args.olds.now c.args.news.now c.args.lives.now [] c.in_ok-names.names c.deref.result.now c.deref-2.result.now
     c.in_ok-names.ensures (c.deref.ensures.value ∙ c.in_ok-verdicts.ensures) (c.deref-2.ensures.value ∙ c.in_ok-fates.ensures)
     c.in_ok-held.held (c.in_ok-held.ensures c.args.moment)

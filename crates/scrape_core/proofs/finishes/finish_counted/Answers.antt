@@ -13,7 +13,9 @@ use Rattle.scrape_machine.specs.Lives.{counted, outcome_for, IsRightLife}
 use Rattle.scrape_machine.specs.Machine.{world, finished}
 use Rattle.scrape_machine.specs.Runs.{scrape_runs}
 use Rattle.scrape_machine.proofs.FinishLemmas.{counted_answer, counted_world, counted_book, counted_runs}
-use Rattle.scrape_core.proofs.StateLemmas.{length-finished}
+use Rattle.scrape_machine.specs.Unended.{is_ended}
+use Rattle.scrape_machine.proofs.ListedLemmas.{unended_set}
+use Rattle.scrape_core.proofs.StateLemmas.{length-finished, get_or_at}
 use Rattle.scrape_core.proofs.finishes.finish_counted.Goals as goal
 
 pub count-requires-clause-right : goal.count-requires-clause-right
@@ -73,3 +75,20 @@ returns-clause-steps g c =
     ∙ ap (λ n. c.args.steps.now + n)
     (ap₂ (λ (y : Life) z. scrape_runs z c.args.reply.now y) c.index_mut-one.ensures.value t
     ∙ sym (counted_runs s.jobs.items s.lives.items s.started.items c.args.ticket c.args.took c.args.reply.now c.args.life c.args.moment c.requires.found d))
+
+pub returns-clause-listed : goal.returns-clause-listed
+returns-clause-listed g c =
+    let s = c.args.state.now in
+    let d = c.index_mut-one.result.now in
+    let x = get_or s.lives.items c.args.life d in
+    let at = get_or_at s.lives.items c.args.life d x c.requires.within in
+    let new : c.count.new.life ≡ counted x (to_z w64 (of_z w64 c.args.took)) c.args.reply.now = c.in_ok-counted.ensures.life ∙ ap (λ (y : Life). counted y (to_z w64 (of_z w64 c.args.took)) c.args.reply.now) c.index_mut-one.ensures.value in
+    c.requires.listed ∙ sym (unended_set 0 s.lives.items c.args.life x c.count.new.life c.requires.within at (ap is_ended new))
+
+pub returns-in_err-counted-clause-listed : goal.returns-in_err-counted-clause-listed
+returns-in_err-counted-clause-listed g c =
+    let s = c.args.state.now in
+    let d = c.index_mut-one.result.now in
+    let x = get_or s.lives.items c.args.life d in
+    let at = get_or_at s.lives.items c.args.life d x c.requires.within in
+    c.requires.listed ∙ sym (unended_set 0 s.lives.items c.args.life x c.count.new.life c.requires.within at (ap is_ended (c.in_err-counted.ensures.err_life ∙ c.index_mut-one.ensures.value)))

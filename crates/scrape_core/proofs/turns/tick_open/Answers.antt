@@ -7,7 +7,9 @@ use Rattle.scrape_machine.specs.declared.lives.Start.{Start}
 use Rattle.scrape_machine.specs.Lives.{starts, scanned_life, scan_entries}
 use Rattle.scrape_machine.specs.Machine.{world, is_over, is_open_life, started_by}
 use Rattle.scrape_machine.proofs.ScanLemmas as scans
-use Rattle.scrape_core.proofs.StateLemmas.{open_there, found_there}
+use Rattle.scrape_machine.specs.Unended.{is_ended}
+use Rattle.scrape_machine.proofs.ListedLemmas.{unended_set}
+use Rattle.scrape_core.proofs.StateLemmas.{open_there, found_there, scanned_open}
 use Rattle.scrape_core.proofs.turns.tick_open.Goals as goal
 
 pub returns-clause-state : goal.returns-clause-state
@@ -42,3 +44,20 @@ returns-clause-book c =
     ∙ ap (λ (es : List Entry). c.args.book.now.entries ++ es)
     (c.in_ok-push_scan.ensures ∙ ap₂ (λ (es : List Entry) o. es ++ scan_entries m o x x.schedule.closed) c.new-items.ensures.items over
     ∙ sym (scans.tick_open_gives s.jobs.items s.lives.items s.started.items m k x lt c.index-one.ensures is))
+
+pub returns-clause-listed : goal.returns-clause-listed
+returns-clause-listed c =
+    let s = c.args.state.now in
+    let m = c.args.moment in
+    let k = c.args.life in
+    let x = c.index-one.result.now in
+    let lt = open_there s.lives.items k c.requires.there in
+    let found = found_there s.lives.items k x lt c.index-one.ensures in
+    let is = ap is_open_life (sym found) ∙ c.requires.there in
+    let over = c.is_over_in-over.ensures ∙ ap (λ js. is_over js x) c.deref.ensures.value in
+    let ticket = c.len-ticket.ensures ∙ c.reserve.new.self.ok.0 ∙ ap (λ (ss : List Start). length ss) c.in_ok-reserve.ensures.items in
+    let one = c.index_mut.ensures.value ∙ get_or_from_slice_get s.lives.items k x c.index_mut.result.now found in
+    let new = c.scan.ensures ∙ ap (λ (y : Life). scanned_life m c.len-ticket.result c.is_over_in-over.result y y.schedule.closed) one
+    ∙ ap₂ (λ t o. scanned_life m t o x x.schedule.closed) ticket over in
+    let stays = scanned_open m (length s.started.items) (is_over s.jobs.items x) x is in
+    c.requires.listed ∙ sym (unended_set 0 s.lives.items k x c.scan.new.life lt c.index-one.ensures (ap is_ended new ∙ stays))

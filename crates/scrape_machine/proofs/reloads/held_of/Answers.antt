@@ -4,18 +4,21 @@ use Rattle.std.proofs.lemmas.List.{take_all}
 use Rattle.scrape_machine.specs.declared.acts.Fate.{Fate}
 use Rattle.scrape_machine.specs.declared.lives.Life.{Life}
 use Rattle.scrape_machine.specs.Plans.{after_each, sits}
+use Rattle.scrape_machine.specs.Unended.{unended}
 use Rattle.scrape_machine.proofs.HeldLemmas.{held_more}
+use Rattle.scrape_machine.proofs.UnendedLemmas.{held_unended}
 use Rattle.scrape_machine.proofs.reloads.held_of.Goals as goal
 
 pub loop-fate-preserved : goal.loop-fate-preserved
 loop-fate-preserved c =
     let p = c.loop-fate.invariant.place in
     let n = c.requires in
+    let ls = unended c.args.lives.now in
     record {
       place = omega arith;
       held = λ moment place identity.
-          held_more moment c.args.names.now place identity c.args.fates.now c.args.lives.now c.loop-fate.fate-index c.fate-item.result c.index-lives-place.result _ _
-          c.loop-fate-test.true (omega (arith, p, n, c.loop-fate-test.true)) c.fate-item.is (c.index-lives-place.is ∙ ap (λ i. get_or c.args.lives.now i c.index-lives-place.result) p) (c.loop-fate.invariant.held moment place identity)
+          held_more moment c.args.names.now place identity c.args.fates.now ls c.loop-fate.fate-index c.fate-item.result c.at.result.now _ _
+          c.loop-fate-test.true (omega (arith, p, n, c.loop-fate-test.true)) c.fate-item.is (c.at.ensures ∙ ap (λ i. get_or ls i c.at.result.now) p) (c.loop-fate.invariant.held moment place identity)
           (c.in_ok-hold.ensures moment place identity);
     }
 
@@ -23,4 +26,5 @@ pub returns : goal.returns
 returns c = λ moment place identity.
     c.loop-fate.invariant.held moment place identity
     ∙ ap₂ (λ (fs : List Fate) (ls : List Life). list_any (sits c.args.names.now place identity) (after_each moment fs ls))
-    (take_all c.loop-fate.fate-index c.args.fates.now (omega (arith, c.loop-fate-test.false))) (take_all c.loop-fate.fate-index c.args.lives.now (omega (arith, c.loop-fate-test.false, c.requires)))
+    (take_all c.loop-fate.fate-index c.args.fates.now (omega (arith, c.loop-fate-test.false))) (take_all c.loop-fate.fate-index (unended c.args.lives.now) (omega (arith, c.loop-fate-test.false, c.requires)))
+    ∙ held_unended moment c.args.names.now place identity c.args.fates.now c.args.lives.now c.requires

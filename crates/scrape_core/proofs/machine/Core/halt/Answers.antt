@@ -30,6 +30,7 @@ invariant_of-self c =
         state = halt_left s.jobs.items s.lives.items s.started.items e m refl ∙ (ap (λ v. step v e) w ∙ (sym (world_push es e) ∙ ap world_of (sym joined)));
         book_is = c.self.invariant.0.book_is ∙ (appends_none (world_of es) e (book_of es) (ap (λ v. gives v e) (sym w) ∙ halt_gives s.jobs.items s.lives.items s.started.items e m refl) ∙ (sym (book_of_push es e) ∙ ap book_of (sym joined)));
         few = c.self.invariant.0.few;
+        listed = c.self.invariant.0.listed;
         runs_are = c.self.invariant.0.runs_are ∙ (omega (arith, halt_runs (world_of es) m, runs_of_push es e) ∙ ap runs_of (sym joined));
       },
       λ h. absurd (true≢false h),

@@ -23,6 +23,7 @@ invariant_of-self-2 g c =
         book_is = c.in_ok-taken.ensures.book ∙ ap₂ (λ (b : List Entry) w. b ++ gives w e) c.self.invariant.0.book_is c.self.invariant.0.state
             ∙ sym (book_of_push es e) ∙ ap book_of (sym joined);
         few = c.in_ok-taken.ensures.few;
+        listed = c.in_ok-taken.ensures.listed;
         runs_are = ap₂ (λ m n. m + n) c.self.invariant.0.runs_are (c.in_ok-taken.ensures.runs ∙ ap (λ w. runs w e) c.self.invariant.0.state)
             ∙ sym (runs_of_push es e) ∙ ap runs_of (sym joined);
       },
