@@ -9,7 +9,7 @@ ghost use Rattle.expo_reader.specs.Texts.{mark_in, word_in};
 use crate::faults::Fault;
 use crate::names::is_exposed_name;
 use crate::parts::{Part, mark_in, quick_name, text_in, word_in};
-use crate::texts::{LentText, lent_text, utf8_text};
+use crate::texts::{LentText, lent_text, utf8_text, whole_text};
 use label_set::{Name, NoMemory, Pair, PairList};
 use std::alloc::Global;
 use std::marker::Model;
@@ -30,6 +30,16 @@ impl<'b> Model for LentLabel<'b> {
 }
 
 impl<'b> LentLabel<'b> {
+    /// A label that borrows from one that stands alone.
+    pub(crate) fn of(label: &'b Pair) -> LentLabel<'b>
+        ensures { result ≡ label.now }
+    {
+        LentLabel {
+            name: label.name.as_str(),
+            value: whole_text(label.value.as_str()),
+        }
+    }
+
     /// The name.
     pub fn name(&self) -> &str
         ensures { result.now ≡ self.now.name }

@@ -14,6 +14,7 @@ use appender_book::Book;
 use journal_text::Event;
 use label_set::{NoMemory, Steps};
 use life_roll::Moment;
+use scrape_loop::LentReply;
 use scrape_machine::Answer;
 use std::alloc::Global;
 use std::sync::ledger::Ledger;
@@ -63,7 +64,10 @@ fn take_live<L: Ledger>(
             ticket,
             took,
             reply,
-        } => take_finish(alloc, state, book, *ticket, *took, reply, steps),
+        } => {
+            let reply = LentReply::whole(reply);
+            take_finish(alloc, state, book, *ticket, *took, &reply, steps)
+        }
         Event::Halt { moment: _ } => {
             state.halted = true;
             Ok(without_runs(Answer::Halted))

@@ -12,7 +12,7 @@ use crate::taken::{Taken, without_runs};
 use appender_book::Book;
 use label_set::{NoMemory, Steps};
 use life_roll::Moment;
-use outside::Reply;
+use scrape_loop::LentReply;
 use scrape_machine::Answer;
 use scrape_machine::finishes::{count, finish, found};
 use scrape_machine::lives::Found;
@@ -26,7 +26,7 @@ fn finish_counted<L: Ledger>(
     book: &mut Book,
     ticket: u64,
     took: i64,
-    reply: &Reply,
+    reply: &LentReply<'_>,
     life: u64,
     moment: Moment,
     steps: &mut Steps<L>,
@@ -56,14 +56,14 @@ fn finish_counted<L: Ledger>(
     Ok(Taken { answer, runs })
 }
 
-/// A finished fetch: it counts where its scrape is in flight.
+/// A finished fetch: it counts where its scrape is in flight. The body of its reply may be read already.
 pub fn take_finish<L: Ledger>(
     alloc: Global,
     state: &mut State,
     book: &mut Book,
     ticket: u64,
     took: i64,
-    reply: &Reply,
+    reply: &LentReply<'_>,
     steps: &mut Steps<L>,
 ) -> Result<Taken, NoMemory>
     requires took { IsMoment took }
@@ -94,4 +94,32 @@ pub fn take_finish<L: Ledger>(
             alloc, state, book, ticket, took, reply, life, moment, steps,
         ),
     }
+}
+
+/// A finished fetch, before a halt or after it: the same as its event.
+pub fn take_reply<L: Ledger>(
+    alloc: Global,
+    state: &mut State,
+    book: &mut Book,
+    ticket: u64,
+    took: i64,
+    reply: &LentReply<'_>,
+    steps: &mut Steps<L>,
+) -> Result<Taken, NoMemory>
+    requires took { IsMoment took }
+    requires few { kept.HasFew state.old }
+    requires right { kept.AreRightLives state.old }
+    ensures answer { IfOk result (λ t. t.answer ≡ spec.answer (kept.seen state.old) (Finish ticket took reply.now)) }
+    ensures runs { IfOk result (λ t. t.runs ≡ runs (kept.seen state.old) (Finish ticket took reply.now)) }
+    ensures steps { OnOk result (steps.new ≡ steps.old + runs (kept.seen state.old) (Finish ticket took reply.now)) }
+    ensures state { OnOk result (kept.seen state.new ≡ spec.step (kept.seen state.old) (Finish ticket took reply.now)) }
+    ensures book { OnOk result (kept.Appends (kept.seen state.old) (Finish ticket took reply.now) book.old.entries book.new.entries) }
+    ensures few { OnOk result (kept.HasFew state.new) }
+    ensures err { OnErr result (kept.seen state.new ≡ kept.seen state.old) }
+    ensures err_book { OnErr result (book.new.entries ≡ book.old.entries) }
+{
+    if state.halted {
+        return Ok(without_runs(Answer::Halted));
+    }
+    take_finish(alloc, state, book, ticket, took, reply, steps)
 }

@@ -33,6 +33,8 @@ use std::hash::RandomState;
 use std::marker::Model;
 use std::sync::ledger::Ledger;
 
+mod read_bodies;
+
 /// The core of a scrape manager, as the events that it took.
 #[derive(Drop)]
 pub struct Core {

@@ -11,6 +11,8 @@ use std::process::Abort;
 use std::sync::ledger::{Blank, Ledger};
 use std::test::Fail;
 
+mod read_body;
+
 /// A configuration of one job with one target.
 const CONF: &[u8] =
     br#"{"scrape_configs":[{"job_name":"j","static_configs":[{"targets":["a:1"]}]}]}"#;
@@ -247,8 +249,8 @@ fn counts<L: Ledger>(
     assert_said(rt, alloc, &answer, text)
 }
 
-/// A load, a sweep and a body with two samples.
-fn one_load<L: Ledger>(
+/// A load, and a sweep that starts a scrape.
+fn one_sweep<L: Ledger>(
     rt: &impl Abort,
     alloc: Global,
     core: &mut Core,
@@ -256,7 +258,17 @@ fn one_load<L: Ledger>(
 ) -> Result<(), NoMemory> {
     loads(rt, alloc, core, steps, "Loaded { closed: 0, begun: 1 }")?;
     let text = "Swept { first: 0, started: 1, forced: 0, ended: 0 }";
-    sweeps(rt, alloc, core, steps, 0, text)?;
+    sweeps(rt, alloc, core, steps, 0, text)
+}
+
+/// The same, and a body with two samples.
+fn one_load<L: Ledger>(
+    rt: &impl Abort,
+    alloc: Global,
+    core: &mut Core,
+    steps: &mut Steps<L>,
+) -> Result<(), NoMemory> {
+    one_sweep(rt, alloc, core, steps)?;
     counts(rt, alloc, core, steps, "Counted(None)")
 }
 

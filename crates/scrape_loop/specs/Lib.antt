@@ -1,3 +1,4 @@
+pub mod Replies
 pub mod Texts
 pub mod Tracked
 pub mod Shown

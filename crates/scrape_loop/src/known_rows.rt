@@ -3,22 +3,20 @@ ghost use Rattle.std.specs.Prelude.{◌≡◌, ◌≤◌, ◌+◌, ◌-◌, fals
 ghost use Rattle.expo_reader.specs.Bodies.{IsFit, reading};
 ghost use Rattle.label_conflict.specs.Merging.{bears};
 ghost use Rattle.label_set.specs.SetText.{metric_label};
-ghost use Rattle.sample_rows.specs.Outcomes.{of_early, or_line, outcome, rows_or_fault};
+ghost use Rattle.sample_rows.specs.Outcomes.{body_of, of_early, or_line, outcome, rows_or_fault};
 ghost use Rattle.sample_rows.specs.Rows.{row_series, left_from, samples_of, first_fault};
 ghost use Rattle.series_cache.specs.Caches.{find, look_up, told, turned, undone, was_sets};
 ghost use Rattle.scrape_loop.specs.Shown.{Shows};
 ghost use Rattle.scrape_loop.specs.Tracked.{is_good};
 ghost use Rattle.scrape_loop.specs.Texts as spec;
 
+use crate::lent_reply::LentReply;
 use crate::scrape_parts::fault_in;
-use expo_reader::{BodyCause, LentBody, LentSample, read_lent};
+use expo_reader::{BodyCause, LentBody, LentSample};
 use label_conflict::{LentTarget, labels_in};
 use label_set::{LabelSet, NoMemory, Steps};
-use outside::Reply;
 use relabel::{Rules, Runner};
-use sample_rows::{
-    RowRules, Scrape, ScrapeFault, Sifted, body_of, early_fault, failed, judged, own_stamp, row_set,
-};
+use sample_rows::{RowRules, Scrape, ScrapeFault, Sifted, failed, judged, own_stamp, row_set};
 use series_cache::{Look, SeriesCache};
 use std::alloc::Global;
 use std::sync::ledger::Ledger;
@@ -171,23 +169,23 @@ fn sift_known<L: Ledger>(
     Ok(sifted)
 }
 
-/// What a scrape comes to by bytes that are read, whose texts are shown.
-fn of_bytes<L: Ledger>(
+/// What a scrape comes to by the body of its reply, whose texts are shown.
+fn of_body<L: Ledger>(
     alloc: Global,
     terms: &Terms<'_>,
-    bytes: &[u8],
+    reply: &LentReply<'_>,
     cache: &mut SeriesCache,
     steps: &mut Steps<L>,
 ) -> Result<Scrape, NoMemory>
     requires nameless { bears terms.now.target.now metric_label ≡ false }
     requires right { spec.AreRight terms.now.rules.now.honor_labels terms.now.metric.now terms.now.target.now cache.old.texts }
-    ensures outcome { IfOk result (λ s. s ≡ of_early terms.now.rules.now terms.now.metric.now terms.now.target.now (or_line (reading bytes.now))) }
-    ensures cache { OnOk result (cache.new ≡ spec.texts_by terms.now.rules.now terms.now.metric.now terms.now.target.now cache.old (or_line (reading bytes.now))) }
+    ensures outcome { IfOk result (λ s. s ≡ of_early terms.now.rules.now terms.now.metric.now terms.now.target.now (or_line (reading (body_of reply.now)))) }
+    ensures cache { OnOk result (cache.new ≡ spec.texts_by terms.now.rules.now terms.now.metric.now terms.now.target.now cache.old (or_line (reading (body_of reply.now)))) }
     ensures undone { undone cache.new ≡ undone cache.old }
     ensures steps { OnOk result (steps.new + length cache.old.texts ≡ steps.old + length cache.new.texts) }
     ensures at_least { steps.old ≤ steps.new }
 {
-    let body = match read_lent(alloc, bytes) {
+    let body = match reply.rows(alloc) {
         Ok(body) => body,
         Err(BodyCause::Line(line)) => return Ok(failed(ScrapeFault::Line(line))),
         Err(BodyCause::NoMemory) => return Err(NoMemory),
@@ -206,7 +204,7 @@ fn of_bytes<L: Ledger>(
 fn known_rows<L: Ledger>(
     alloc: Global,
     terms: &Terms<'_>,
-    reply: &Reply,
+    reply: &LentReply<'_>,
     took: i64,
     cache: &mut SeriesCache,
     steps: &mut Steps<L>,
@@ -219,10 +217,10 @@ fn known_rows<L: Ledger>(
     ensures steps { OnOk result (steps.new + length cache.old.texts ≡ steps.old + length cache.new.texts) }
     ensures at_least { steps.old ≤ steps.new }
 {
-    if let Some(fault) = early_fault(terms.rules, reply, took) {
+    if let Some(fault) = reply.early_fault(terms.rules, took) {
         return Ok(failed(fault));
     }
-    of_bytes(alloc, terms, body_of(reply), cache, steps)
+    of_body(alloc, terms, reply, cache, steps)
 }
 
 /// The same, after which the cache shows just the sets of the scrape: what a scrape that isn't good showed is taken back.
@@ -233,7 +231,7 @@ fn known_rows<L: Ledger>(
 pub fn shown_rows<L: Ledger>(
     alloc: Global,
     terms: &Terms<'_>,
-    reply: &Reply,
+    reply: &LentReply<'_>,
     took: i64,
     cache: &mut SeriesCache,
     steps: &mut Steps<L>,

@@ -11,10 +11,9 @@ use crate::lives::{Found, Life, Start};
 use appender_book::Book;
 use label_set::{NoMemory, Steps};
 use life_roll::InFlight;
-use outside::Reply;
 use sample_rows::RowRules;
 use scrape_config::Job;
-use scrape_loop::Counted;
+use scrape_loop::{Counted, LentReply};
 use std::alloc::Global;
 use std::sync::ledger::Ledger;
 
@@ -91,13 +90,13 @@ fn rules_of(job: &Job) -> RowRules
 }
 
 /// Counts a scrape of a life that started at a moment, and ended with a reply after so many milliseconds: its fault, if it isn't good, and how often the
-/// rules for samples were run, each of which takes one step.
+/// rules for samples were run, each of which takes one step. The body of the reply may be read already.
 #[tactic(auto, unfolding(crate::specs::Lives::outcome_for))]
 pub fn count<L: Ledger>(
     alloc: Global,
     life: &mut Life,
     moment: i64,
-    reply: &Reply,
+    reply: &LentReply<'_>,
     took: i64,
     book: &mut Book,
     steps: &mut Steps<L>,

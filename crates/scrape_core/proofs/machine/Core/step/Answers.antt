@@ -1,13 +1,10 @@
-use Rattle.std.proofs.Common.{◌≡◌, ◌+◌, ◌++◌, ◌∷◌, [], ◌∙◌, List, sym, ap, ap₂, subst, arith}
+use Rattle.std.proofs.Common.{◌≡◌, ◌++◌, ◌∷◌, [], ◌∙◌, List, sym, ap, subst, arith}
 use Rattle.std.specs.Prelude.{All}
 use Rattle.journal_text.specs.declared.events.Event.{Event}
-use Rattle.report_samples.specs.declared.entries.Entry.{Entry}
 use Rattle.scrape_laws.proofs.RightLemmas.{lives_right}
 use Rattle.scrape_machine.specs.Lives.{IsRightLife}
-use Rattle.scrape_machine.specs.Machine.{World, step, gives, world_of, book_of}
-use Rattle.scrape_machine.specs.Runs.{runs, runs_of}
-use Rattle.scrape_machine.proofs.RunLemmas.{runs_of_push}
-use Rattle.scrape_machine.proofs.StepLemmas.{world_push, book_of_push}
+use Rattle.scrape_machine.specs.Machine.{World}
+use Rattle.scrape_core.proofs.KeptLemmas.{kept_push}
 use Rattle.scrape_core.proofs.machine.Core.step.Goals as goal
 
 pub take-requires-clause-right : goal.take-requires-clause-right
@@ -17,7 +14,9 @@ pub invariant_of-self-2 : goal.invariant_of-self-2
 invariant_of-self-2 g c =
     let es = c.self.inside.journal.events in
     let e = c.args.event in
+    let taken = c.in_ok-taken.ensures in
     let joined : c.push.new.self.events ≡ es ++ e ∷ [] = c.push.ensures.joined ∙ ap (λ (z : List Event). z ++ e ∷ []) c.in_ok-reserve.ensures.same in (
+<<<<<<< ours
       record {
         state = c.in_ok-taken.ensures.state ∙ ap (λ w. step w e) c.self.invariant.0.state ∙ sym (world_push es e) ∙ ap world_of (sym joined);
         book_is = c.in_ok-taken.ensures.book ∙ ap₂ (λ (b : List Entry) w. b ++ gives w e) c.self.invariant.0.book_is c.self.invariant.0.state
@@ -27,5 +26,8 @@ invariant_of-self-2 g c =
         runs_are = ap₂ (λ m n. m + n) c.self.invariant.0.runs_are (c.in_ok-taken.ensures.runs ∙ ap (λ w. runs w e) c.self.invariant.0.state)
             ∙ sym (runs_of_push es e) ∙ ap runs_of (sym joined);
       },
+=======
+      kept_push es c.push.new.self.events e c.self.inside.state _ c.self.inside.book.entries _ _ _ c.self.invariant.0 joined taken.state taken.book taken.few taken.runs,
+>>>>>>> theirs
       λ _. omega (arith, c.push.ensures.room, c.in_ok-reserve.ensures.room),
     )
