@@ -2,7 +2,7 @@
 ghost use Rattle.std.specs.Prelude.{◌≡◌, ◌<◌};
 
 use super::*;
-use expo_reader::read_body;
+use scrape_loop::ReadReply;
 
 /// A finish of the scrape with ticket 0 by a body that is read first.
 fn finish<L: Ledger>(
@@ -15,10 +15,13 @@ fn finish<L: Ledger>(
     if bytes.as_slice().len() > 100 {
         return Err(NoMemory);
     }
-    match read_body(alloc, bytes) {
-        Ok(body) => core.finish_read(alloc, 0, 15, 200, body, steps),
-        Err(_) => Err(NoMemory),
-    }
+    let read = ReadReply::read(alloc, 200, text.as_bytes())?;
+    let event = Event::Finish {
+        ticket: 0,
+        took: 15,
+        reply: Reply::Body { status: 200, bytes },
+    };
+    core.finish_read(alloc, event, &read, steps)
 }
 
 /// The journal and the book, as text.
