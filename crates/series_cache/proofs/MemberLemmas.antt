@@ -26,7 +26,7 @@ or_swap true false c = refl
 or_swap false b c = refl
 
 -- a set that is put is a member
-has_put : (x s : List Pair) (ys : List (List Pair)) → has x (insert_key set_cmp ys s) ≡ (is_eq (set_cmp x s) || has x ys)
+pub has_put : (x s : List Pair) (ys : List (List Pair)) → has x (insert_key set_cmp ys s) ≡ (is_eq (set_cmp x s) || has x ys)
 has_put x s [] = refl
 has_put x s (y ∷ ys) = by (set_cmp s y) refl (has_put x s ys)
   where

@@ -6,22 +6,27 @@ ghost use Rattle.series_cache.specs.Sets.{IsRising, gone};
 
 use label_set::{LabelSet, NoMemory, SetList};
 use std::alloc::Global;
-use std::collections::BTreeSet;
+use std::collections::{BTreeSet, HashSet};
 use std::marker::Model;
 
 /// Label sets, each once; seen as their rising list.
 #[derive(Debug, Drop)]
 pub struct RisingSets {
     sets: BTreeSet<LabelSet>,
+    /// Those that were put, by hash: most sets that are to be taken out aren't there, and a hash tells that before any two are compared.
+    hashed: HashSet<LabelSet>,
 }
 
 impl Model for RisingSets {
     ghost use Rattle.std.specs.Prelude.{List};
     ghost use Rattle.label_set.specs.declared.texts.Pair.{Pair};
+    ghost use Rattle.series_cache.specs.Hashed.{AreHashed};
 
     ghost Value = { List (List Pair) };
 
     ghost view = { λ s. s.sets.keys };
+
+    ghost invariant = { λ s. AreHashed s.sets.keys s.hashed };
 }
 
 impl RisingSets {
@@ -31,6 +36,7 @@ impl RisingSets {
     {
         RisingSets {
             sets: BTreeSet::new(alloc),
+            hashed: HashSet::new(alloc),
         }
     }
 
@@ -38,6 +44,7 @@ impl RisingSets {
     pub fn put(&mut self, set: LabelSet) -> Result<(), NoMemory>
         ensures { OnOk result (self.new ≡ insert_key set_cmp self.old set) }
     {
+        let _ = self.hashed.insert(set.copy()?)?;
         let _ = self.sets.insert(set)?;
         Ok(())
     }
@@ -60,6 +67,9 @@ impl RisingSets {
     pub fn remove(&mut self, set: &LabelSet)
         ensures { self.new ≡ gone self.old (set.now ∷ []) }
     {
+        if !self.hashed.contains(set) {
+            return;
+        }
         // What it tells is that the sets rise.
         let _len = self.sets.len();
         self.sets.remove(set);
