@@ -6,3 +6,4 @@ pub mod Places
 pub mod Vanished
 pub mod Added
 pub mod Hashed
+pub mod Hashes

@@ -1,4 +1,4 @@
-use Rattle.std.proofs.Common.{◌≡◌, List, refl, sym, ap, ◌∙◌}
+use Rattle.std.proofs.Common.{List, refl, sym, ap, ◌∙◌}
 use Rattle.std.specs.BTreeSet.{insert_key}
 use Rattle.label_set.specs.Sets.{set_cmp}
 use Rattle.label_set.specs.declared.texts.Pair.{Pair}

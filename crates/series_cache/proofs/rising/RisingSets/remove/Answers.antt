@@ -1,4 +1,4 @@
-use Rattle.std.proofs.Common.{◌≡◌, false, List, [], ◌∷◌, sym, ap, ◌∙◌}
+use Rattle.std.proofs.Common.{List, [], ◌∷◌, sym, ap, ◌∙◌}
 use Rattle.label_set.specs.declared.texts.Pair.{Pair}
 use Rattle.series_cache.specs.Sets.{gone}
 use Rattle.series_cache.proofs.HashedLemmas.{left_hashed, unfound}
