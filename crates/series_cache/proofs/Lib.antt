@@ -4,5 +4,5 @@ pub mod VanishLemmas
 pub mod CacheLemmas
 pub mod AddedLemmas
 pub mod MemberLemmas
-pub mod HashedLemmas
+pub mod HashLemmas
 pub mod TurnLemmas

@@ -13,7 +13,7 @@ use Rattle.series_cache.proofs.VanishLemmas.{above-equal, has-first, rising_rise
 use Rattle.series_cache.proofs.OrderLemmas.{above, above-more, none-above, turned}
 
 -- sets that comparing doesn't tell apart are the same
-exact : (x y : List Pair) → set_cmp x y ≡ Equal → x ≡ y
+pub exact : (x y : List Pair) → set_cmp x y ≡ Equal → x ≡ y
 exact x y e = (sets_decide x y).0 (ap is_eq e)
 
 or_twice : (b c : Bool) → (b || c) ≡ (b || (b || c))
