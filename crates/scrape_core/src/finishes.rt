@@ -108,6 +108,7 @@ pub fn take_reply<L: Ledger>(
 ) -> Result<Taken, NoMemory>
     requires took { IsMoment took }
     requires few { kept.HasFew state.old }
+    requires listed { kept.IsListed state.old }
     requires right { kept.AreRightLives state.old }
     ensures answer { IfOk result (λ t. t.answer ≡ spec.answer (kept.seen state.old) (Finish ticket took reply.now)) }
     ensures runs { IfOk result (λ t. t.runs ≡ runs (kept.seen state.old) (Finish ticket took reply.now)) }
@@ -115,6 +116,7 @@ pub fn take_reply<L: Ledger>(
     ensures state { OnOk result (kept.seen state.new ≡ spec.step (kept.seen state.old) (Finish ticket took reply.now)) }
     ensures book { OnOk result (kept.Appends (kept.seen state.old) (Finish ticket took reply.now) book.old.entries book.new.entries) }
     ensures few { OnOk result (kept.HasFew state.new) }
+    ensures listed { kept.IsListed state.new }
     ensures err { OnErr result (kept.seen state.new ≡ kept.seen state.old) }
     ensures err_book { OnErr result (book.new.entries ≡ book.old.entries) }
 {

@@ -16,18 +16,6 @@ invariant_of-self-2 g c =
     let e = c.args.event in
     let taken = c.in_ok-taken.ensures in
     let joined : c.push.new.self.events ≡ es ++ e ∷ [] = c.push.ensures.joined ∙ ap (λ (z : List Event). z ++ e ∷ []) c.in_ok-reserve.ensures.same in (
-<<<<<<< ours
-      record {
-        state = c.in_ok-taken.ensures.state ∙ ap (λ w. step w e) c.self.invariant.0.state ∙ sym (world_push es e) ∙ ap world_of (sym joined);
-        book_is = c.in_ok-taken.ensures.book ∙ ap₂ (λ (b : List Entry) w. b ++ gives w e) c.self.invariant.0.book_is c.self.invariant.0.state
-            ∙ sym (book_of_push es e) ∙ ap book_of (sym joined);
-        few = c.in_ok-taken.ensures.few;
-        listed = c.in_ok-taken.ensures.listed;
-        runs_are = ap₂ (λ m n. m + n) c.self.invariant.0.runs_are (c.in_ok-taken.ensures.runs ∙ ap (λ w. runs w e) c.self.invariant.0.state)
-            ∙ sym (runs_of_push es e) ∙ ap runs_of (sym joined);
-      },
-=======
-      kept_push es c.push.new.self.events e c.self.inside.state _ c.self.inside.book.entries _ _ _ c.self.invariant.0 joined taken.state taken.book taken.few taken.runs,
->>>>>>> theirs
+      kept_push es c.push.new.self.events e c.self.inside.state _ c.self.inside.book.entries _ _ _ c.self.invariant.0 joined taken.state taken.book taken.few taken.listed taken.runs,
       λ _. omega (arith, c.push.ensures.room, c.in_ok-reserve.ensures.room),
     )

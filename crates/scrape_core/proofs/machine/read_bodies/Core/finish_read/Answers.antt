@@ -27,7 +27,7 @@ invariant_of-self-2 g c =
     let same : Finish c.args.ticket (to_z w64 (of_z w64 c.args.took)) c.read-reply.result ≡ e = ap₂ (λ t r. Finish c.args.ticket t r) took c.read-reply.ensures in
     let joined : c.push.new.self.events ≡ es ++ e ∷ [] =
     c.push.ensures.joined ∙ ap₂ (λ (z : List Event) (f : Event). z ++ f ∷ []) c.in_ok-reserve.ensures.same c.finish_of.ensures in (
-      kept_push es c.push.new.self.events e before _ book _ _ _ c.self.invariant.0 joined (taken.state ∙ ap (step w) same) (taken.book ∙ ap (λ f. book ++ gives w f) same) taken.few
+      kept_push es c.push.new.self.events e before _ book _ _ _ c.self.invariant.0 joined (taken.state ∙ ap (step w) same) (taken.book ∙ ap (λ f. book ++ gives w f) same) taken.few taken.listed
           (taken.runs ∙ ap (runs w) same),
       λ _. omega (arith, c.push.ensures.room, c.in_ok-reserve.ensures.room),
     )
