@@ -4,19 +4,22 @@ ghost use Rattle.expo_reader.specs.Bodies.{IsFit, reading};
 ghost use Rattle.label_conflict.specs.Merging.{bears};
 ghost use Rattle.label_set.specs.SetText.{metric_label};
 ghost use Rattle.sample_rows.specs.Outcomes.{body_of, of_early, or_line, outcome, rows_or_fault};
+ghost use Rattle.scrape_loop.specs.Replies.{reading_of};
 ghost use Rattle.sample_rows.specs.Rows.{row_series, left_from, samples_of, first_fault};
 ghost use Rattle.series_cache.specs.Caches.{find, look_up, told, turned, undone, was_sets};
 ghost use Rattle.scrape_loop.specs.Shown.{Shows};
 ghost use Rattle.scrape_loop.specs.Tracked.{is_good};
 ghost use Rattle.scrape_loop.specs.Texts as spec;
 
-use crate::lent_reply::LentReply;
+use crate::lent_reply::{Given, LentReply, Reading, read_bytes};
 use crate::scrape_parts::fault_in;
-use expo_reader::{BodyCause, LentBody, LentSample};
+use expo_reader::{LentBody, LentSample};
 use label_conflict::{LentTarget, labels_in};
 use label_set::{LabelSet, NoMemory, Steps};
 use relabel::{Rules, Runner};
-use sample_rows::{RowRules, Scrape, ScrapeFault, Sifted, failed, judged, own_stamp, row_set};
+use sample_rows::{
+    RowRules, Scrape, ScrapeFault, Sifted, body_of, failed, judged, own_stamp, row_set,
+};
 use series_cache::{Look, SeriesCache};
 use std::alloc::Global;
 use std::sync::ledger::Ledger;
@@ -169,7 +172,31 @@ fn sift_known<L: Ledger>(
     Ok(sifted)
 }
 
-/// What a scrape comes to by the body of its reply, whose texts are shown.
+/// What a scrape comes to by what its body says; the texts of its rows are shown.
+fn of_reading<L: Ledger>(
+    alloc: Global,
+    terms: &Terms<'_>,
+    said: &Reading<'_>,
+    cache: &mut SeriesCache,
+    steps: &mut Steps<L>,
+) -> Result<Scrape, NoMemory>
+    requires nameless { bears terms.now.target.now metric_label ≡ false }
+    requires right { spec.AreRight terms.now.rules.now.honor_labels terms.now.metric.now terms.now.target.now cache.old.texts }
+    ensures outcome { IfOk result (λ s. s ≡ of_early terms.now.rules.now terms.now.metric.now terms.now.target.now (or_line (reading_of said.now))) }
+    ensures cache { OnOk result (cache.new ≡ spec.texts_by terms.now.rules.now terms.now.metric.now terms.now.target.now cache.old (or_line (reading_of said.now))) }
+    ensures undone { undone cache.new ≡ undone cache.old }
+    ensures steps { OnOk result (steps.new + length cache.old.texts ≡ steps.old + length cache.new.texts) }
+    ensures at_least { steps.old ≤ steps.new }
+{
+    let body = match said {
+        Reading::Rows(body) => body,
+        Reading::Faulty(line) => return Ok(failed(ScrapeFault::Line(*line))),
+    };
+    let sifted = sift_known(alloc, terms, body, cache, steps)?;
+    Ok(judged(terms.rules, sifted, body.len() as u64))
+}
+
+/// What a scrape comes to by the body of its reply, whose texts are shown. A body that is read is not read again.
 fn of_body<L: Ledger>(
     alloc: Global,
     terms: &Terms<'_>,
@@ -185,13 +212,13 @@ fn of_body<L: Ledger>(
     ensures steps { OnOk result (steps.new + length cache.old.texts ≡ steps.old + length cache.new.texts) }
     ensures at_least { steps.old ≤ steps.new }
 {
-    let body = match reply.rows(alloc) {
-        Ok(body) => body,
-        Err(BodyCause::Line(line)) => return Ok(failed(ScrapeFault::Line(line))),
-        Err(BodyCause::NoMemory) => return Err(NoMemory),
-    };
-    let sifted = sift_known(alloc, terms, &body, cache, steps)?;
-    Ok(judged(terms.rules, sifted, body.len() as u64))
+    match reply.given() {
+        Given::Read(reply) => of_reading(alloc, terms, reply.reading(), cache, steps),
+        Given::Whole(reply) => {
+            let said = read_bytes(alloc, body_of(reply))?;
+            of_reading(alloc, terms, &said, cache, steps)
+        }
+    }
 }
 
 /// What a scrape comes to by its reply and the milliseconds that the fetch took, as `sample_rows::rows` has it. The texts of its rows are shown,

@@ -16,5 +16,5 @@ mod scrape_entries;
 mod scrape_parts;
 mod target_labels;
 
-pub use lent_reply::LentReply;
+pub use lent_reply::{LentReply, ReadReply};
 pub use life_state::{Counted, LifeState};
