@@ -4,4 +4,5 @@ pub mod VanishLemmas
 pub mod CacheLemmas
 pub mod AddedLemmas
 pub mod MemberLemmas
+pub mod HashLemmas
 pub mod TurnLemmas

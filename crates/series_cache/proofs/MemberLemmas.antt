@@ -13,7 +13,7 @@ use Rattle.series_cache.proofs.VanishLemmas.{above-equal, has-first, rising_rise
 use Rattle.series_cache.proofs.OrderLemmas.{above, above-more, none-above, turned}
 
 -- sets that comparing doesn't tell apart are the same
-exact : (x y : List Pair) → set_cmp x y ≡ Equal → x ≡ y
+pub exact : (x y : List Pair) → set_cmp x y ≡ Equal → x ≡ y
 exact x y e = (sets_decide x y).0 (ap is_eq e)
 
 or_twice : (b c : Bool) → (b || c) ≡ (b || (b || c))
@@ -26,7 +26,7 @@ or_swap true false c = refl
 or_swap false b c = refl
 
 -- a set that is put is a member
-has_put : (x s : List Pair) (ys : List (List Pair)) → has x (insert_key set_cmp ys s) ≡ (is_eq (set_cmp x s) || has x ys)
+pub has_put : (x s : List Pair) (ys : List (List Pair)) → has x (insert_key set_cmp ys s) ≡ (is_eq (set_cmp x s) || has x ys)
 has_put x s [] = refl
 has_put x s (y ∷ ys) = by (set_cmp s y) refl (has_put x s ys)
   where

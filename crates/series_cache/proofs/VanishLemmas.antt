@@ -94,7 +94,7 @@ above-put x s (y ∷ ys) e a = by (set_cmp s y) refl (above-put x s ys e a.1)
     by Equal f rest = rw f a
     by Greater f rest = rw f (a.0, rest)
 
-put_rises : (s : List Pair) (xs : List (List Pair)) → IsRising xs → IsRising (insert_key set_cmp xs s)
+pub put_rises : (s : List Pair) (xs : List (List Pair)) → IsRising xs → IsRising (insert_key set_cmp xs s)
 unfolding IsStrictlySortedBy above
 put_rises s [] r = (tt, tt)
 put_rises s (x ∷ xs) r = by (set_cmp s x) refl (put_rises s xs r.1)

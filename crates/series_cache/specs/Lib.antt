@@ -5,3 +5,4 @@ pub mod Kept
 pub mod Places
 pub mod Vanished
 pub mod Added
+pub mod Hashes

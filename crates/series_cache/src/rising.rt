@@ -6,22 +6,23 @@ ghost use Rattle.series_cache.specs.Sets.{IsRising, gone};
 
 use label_set::{LabelSet, NoMemory, SetList};
 use std::alloc::Global;
-use std::collections::BTreeSet;
+use std::collections::HashSet;
 use std::marker::Model;
 
-/// Label sets, each once; seen as their rising list.
+/// Label sets, each once, kept by hash, so that most are told apart before any two are compared; seen as their rising list.
 #[derive(Debug, Drop)]
 pub struct RisingSets {
-    sets: BTreeSet<LabelSet>,
+    sets: HashSet<LabelSet>,
 }
 
 impl Model for RisingSets {
     ghost use Rattle.std.specs.Prelude.{List};
     ghost use Rattle.label_set.specs.declared.texts.Pair.{Pair};
+    ghost use Rattle.series_cache.specs.Sets.{rising};
 
     ghost Value = { List (List Pair) };
 
-    ghost view = { λ s. s.sets.keys };
+    ghost view = { λ s. rising s.sets.keys };
 }
 
 impl RisingSets {
@@ -30,11 +31,11 @@ impl RisingSets {
         ensures { result ≡ [] }
     {
         RisingSets {
-            sets: BTreeSet::new(alloc),
+            sets: HashSet::new(alloc),
         }
     }
 
-    /// Puts a set at its place, unless it is there.
+    /// Puts a set among them, unless it is there.
     pub fn put(&mut self, set: LabelSet) -> Result<(), NoMemory>
         ensures { OnOk result (self.new ≡ insert_key set_cmp self.old set) }
     {
@@ -46,7 +47,7 @@ impl RisingSets {
     pub fn is_empty(&self) -> bool
         ensures { IsTrue result ↔ (self.now ≡ []) }
     {
-        self.sets.is_empty()
+        self.len() == 0
     }
 
     /// How many they are.
@@ -60,8 +61,6 @@ impl RisingSets {
     pub fn remove(&mut self, set: &LabelSet)
         ensures { self.new ≡ gone self.old (set.now ∷ []) }
     {
-        // What it tells is that the sets rise.
-        let _len = self.sets.len();
         self.sets.remove(set);
     }
 
@@ -75,6 +74,7 @@ impl RisingSets {
             items.reserve(1)?;
             items.push_reserved(set.copy()?);
         }
+        items.sort_unstable();
         Ok(SetList { items })
     }
 }

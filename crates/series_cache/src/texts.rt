@@ -67,7 +67,7 @@ impl Texts {
         ensures { result ≡ [] }
     {
         Texts {
-            entries: IndexMap::with_hasher(alloc, Seeded { hasher }),
+            entries: IndexMap::with_hasher(alloc, Seeded::new(hasher)),
         }
     }
 
