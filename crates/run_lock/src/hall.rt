@@ -1,4 +1,4 @@
-//! The one lock of a run, and what tells waiting workers that something changed. It is held for a step only.
+//! The one lock of a run, and what tells waiting workers that something changed. It is held for a step only: bodies are read before it is taken.
 ghost use Rattle.std.specs.Prelude.{◌≡◌, ◌<◌, ◌+◌, ◌++◌, ◌∷◌, [], length, true, Some, None, All, IfOk, IfSome, OnSome};
 ghost use Rattle.crossbeam_queue.specs.Passes.{view};
 ghost use Rattle.outside.specs.Fetches.{IsInLimits};
@@ -9,6 +9,7 @@ ghost use Rattle.run_lock.specs.Listed.{IsListed, listed_in};
 ghost use Rattle.run_lock.specs.Tasks.{IsFit, IsOrdered, IsOwn, IsSeat, IsSwept, AfterTask, HasFit, finish_with};
 
 use crate::listed::Listed;
+use crate::readings::{body_copy, read_copy};
 use crate::station::Station;
 use crate::tasks::{Order, Task};
 use label_set::NoMemory;
@@ -68,6 +69,7 @@ impl<L: Ledger, B: Room> Hall<L, B> {
     }
 
     /// Brings what came back for the ticket that a worker has out. False where memory runs out.
+    /// Its body is read before the lock is taken, and what was read is let go after that.
     pub fn bring<R: Wait>(
         &self,
         rt: &R,
@@ -86,8 +88,11 @@ impl<L: Ledger, B: Room> Hall<L, B> {
         ensures own { IsPass B.table result.1 }
         ensures seat { result.0 ≡ true → view result.1 ≡ worker (2 + place) ((view seat).mine ++ Brought (finish_with ticket fetched) ∷ []) }
     {
+        let copy = body_copy(alloc, &fetched.reply);
+        let read = read_copy(alloc, &fetched.reply, &copy);
+        let read = read.as_ref();
         let mut station = self.lock.lock(rt);
-        let brought = station.finish(rt, alloc, desk, place, ticket, fetched, seat);
+        let brought = station.finish(rt, alloc, desk, place, ticket, fetched, read, seat);
         if station.has_failed() || station.is_over() {
             self.changed.notify_all();
         }

@@ -7,6 +7,7 @@
 pub mod hall;
 pub mod listed;
 pub mod passes;
+pub mod readings;
 pub mod station;
 pub mod tasks;
 

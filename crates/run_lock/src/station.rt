@@ -1,31 +1,33 @@
 //! What lies under the lock of a run: the core with the seats of its events, the tickets that are out, and what is still to come.
-ghost use Rattle.std.specs.Prelude.{◌≡◌, ◌<◌, ◌≤◌, ◌+◌, ◌^◌, ◌++◌, ◌∷◌, [], length, replicate, true, false, map, Some, None, vec_len, vec_capacity, All, IfErr, IfOk, IfSome, OnSome};
+ghost use Rattle.std.specs.Prelude.{◌≡◌, ◌<◌, ◌≤◌, ◌+◌, ◌^◌, ◌++◌, ◌∷◌, [], length, replicate, true, false, Some, None, vec_len, vec_capacity, All, IfErr, IfOk, IfSome, OnSome};
 ghost use Rattle.crossbeam_queue.specs.Passes.{view};
 ghost use Rattle.journal_text.specs.declared.events.Event.TheVariants.{Sweep};
 ghost use Rattle.journal_text.specs.Events.{now_of};
 ghost use Rattle.outside.specs.Fetches.{IsInLimits};
-ghost use Rattle.scrape_core.specs.Records.{IsFresh, IsWhole};
+ghost use Rattle.scrape_core.specs.Records.{IsFresh};
 ghost use Rattle.seat_notes.specs.declared.desk.Note.TheVariants.{Brought};
-ghost use Rattle.run_lock.specs.Held.{IsToldBy, any_over};
-ghost use Rattle.seat_notes.specs.Desks.{knower, worker, of, IsDesk, IsPass, IsWorker};
+ghost use Rattle.seat_notes.specs.Desks.{knower, worker, of, IsDesk, IsPass};
 ghost use Rattle.run_lock.specs.Held.{IsRunning, IsHeld, IsTold, IsShown, held};
-ghost use Rattle.run_lock.specs.Callers.{IsAnswered, IsBegun, IsOfCaller, jobs_known};
+ghost use Rattle.run_lock.specs.Callers.{IsAnswered, IsBegun, jobs_known};
 ghost use Rattle.run_lock.specs.Listed as listing;
 ghost use Rattle.run_lock.specs.Listed.{IsListed};
 ghost use Rattle.run_lock.specs.Tasks.{IsOwn, IsSeat, IsSwept, IsFit, IsOrdered, AfterTask, HasFit, event_at, finish_with, sweep_moment};
 
 use crate::listed::{Listed, listed_in};
-use crate::passes::look_all;
+use crate::readings::take_finish;
 use crate::tasks::{Order, Task, event_of, finish_event, first_seats, request_for, sweep_at};
 use label_set::{NoMemory, Steps};
 use life_roll::Moment;
 use outside::Fetched;
 use scrape_core::{Answer, Core};
+use scrape_loop::ReadReply;
 use seat_notes::desk::{Desk, Note, Room, Token, bring, look, make_note};
 use std::alloc::Global;
 use std::marker::PhantomData;
 use std::sync::Wait;
 use std::sync::ledger::Ledger;
+
+mod closing;
 
 /// The longest wait for a sweep after the last event, in milliseconds.
 const LONGEST_WAIT: i64 = 1_000;
@@ -182,7 +184,7 @@ impl<L: Ledger, B: Room> Station<L, B> {
         (Task::End, seat)
     }
 
-    /// Brings what came back for the ticket that a worker has out. False where memory runs out.
+    /// Brings what came back for the ticket that a worker has out, and what was read of it. False where memory runs out.
     pub fn finish<R: Wait>(
         &mut self,
         rt: &R,
@@ -191,10 +193,12 @@ impl<L: Ledger, B: Room> Station<L, B> {
         place: usize,
         ticket: u64,
         fetched: Fetched,
+        read: Option<&ReadReply<'_>>,
         seat: Token,
     ) -> (bool, Token)
         requires few { place < 1000 }
         requires limits { IsInLimits fetched }
+        requires read { IfSome read (λ r. fetched.reply ≡ r.now) }
         requires desk { IsDesk B.table desk.now }
         requires own { IsPass B.table seat }
         requires seat { IsSeat place (view seat) (Some ticket) }
@@ -207,7 +211,7 @@ impl<L: Ledger, B: Room> Station<L, B> {
         }
         let event = finish_event(ticket, fetched);
         let (event, seat) = bring(rt, desk, &mut self.keeper, seat, event);
-        let Ok(_) = self.core.step(alloc, event, &mut self.steps) else {
+        let Ok(_) = take_finish(&mut self.core, alloc, event, read, &mut self.steps) else {
             self.failed = true;
             return (false, seat);
         };
@@ -315,55 +319,5 @@ impl<L: Ledger, B: Room> Station<L, B> {
             Some(moment) => Some(moment.min(latest)),
             None => Some(latest),
         }
-    }
-
-    /// Halts the core at the end of all work, which the pass of a worker shows. The passes of all seats are compared with the record.
-    pub fn close(
-        self,
-        desk: &Desk,
-        seats: Vec<Token>,
-        ticker: Token,
-        caller: Token,
-    ) -> (Core, Vec<u32>)
-        requires live { self.failed ≡ false }
-        requires desk { IsDesk B.table desk.now }
-        requires own { All (IsPass B.table) seats.items }
-        requires workers { All IsWorker (map view seats.items) }
-        requires ended { any_over (map view seats.items) ≡ true }
-        requires ticker { IsPass B.table ticker × IsWorker (view ticker) }
-        requires caller { IsPass B.table caller × IsOwn 0 (view caller) }
-        ensures done { IsWhole result.0 }
-        ensures seats { vec_len result.1 ≡ length result.0 }
-        ensures told { All (IsToldBy result.0 result.1.items) (map view seats.items) }
-        ensures ticker { IsToldBy result.0 result.1.items (view ticker) }
-        ensures caller { IsOfCaller B.start result.0 result.1.items (view caller) }
-    {
-        let Station {
-            mut core,
-            steps: _,
-            seats: mut numbers,
-            next: _,
-            started: _,
-            slots: _,
-            out: _,
-            sweeps_left: _,
-            ended: _,
-            failed: _,
-            mut keeper,
-            room: _,
-        } = self;
-        look_all(desk, &mut keeper, seats);
-        let _ = look(desk, &mut keeper, ticker);
-        let _ = look(desk, &mut keeper, caller);
-        core.halt();
-        numbers.push_reserved(0);
-        (core, numbers)
-    }
-
-    /// The core as it is, with the seats of its events.
-    pub fn into_core(self) -> (Core, Vec<u32>)
-        ensures { vec_len result.1 ≡ length result.0 }
-    {
-        (self.core, self.seats)
     }
 }

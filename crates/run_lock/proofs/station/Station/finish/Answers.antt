@@ -49,7 +49,7 @@ invariant_of-self-2-clause-running g c =
     let m = ap (λ (y : View). y.made) old.knows ∙ ap (λ n. 2 + n) (sym (length-set slots c.args.place None)) in
     let log = k.all ++ act v.seat x ∷ [] in
     let again = knows_again (view c.bring-event.new.keeper) log k.made (2 + length rest) (c.bring-event.ensures.noted.kept ∙ ap (λ (z : Event). knower (k.all ++ act v.seat (Brought z) ∷ []) k.made) c.finish_event-event.ensures) m in
-    running_finish old.core c.step.new.self c.args.ticket c.args.fetched.took c.args.fetched.reply old.next old.started c.args.place slots rest old.running (c.in-Ok.ensures.joined ∙ ap (λ (z : Event). old.core ++ z ∷ []) (c.bring-event.ensures.same ∙ c.finish_event-event.ensures)) at.1 refl
+    running_finish old.core c.take_finish.new.core c.args.ticket c.args.fetched.took c.args.fetched.reply old.next old.started c.args.place slots rest old.running (c.in-Ok.ensures.joined ∙ ap (λ (z : Event). old.core ++ z ∷ []) (c.bring-event.ensures.same ∙ c.finish_event-event.ensures)) at.1 refl
 
 pub invariant_of-self-2-clause-counted : goal.invariant_of-self-2-clause-counted
 invariant_of-self-2-clause-counted g c =
@@ -134,8 +134,8 @@ invariant_of-self-2-clause-told g c =
     let m = ap (λ (y : View). y.made) old.knows ∙ ap (λ n. 2 + n) (sym (length-set slots c.args.place None)) in
     let log = k.all ++ act v.seat x ∷ [] in
     let again = knows_again (view c.bring-event.new.keeper) log k.made (2 + length rest) (c.bring-event.ensures.noted.kept ∙ ap (λ (z : Event). knower (k.all ++ act v.seat (Brought z) ∷ []) k.made) c.finish_event-event.ensures) m in
-    λ h. subst (λ (l : List Act). IsTold c.step.new.self c.push_reserved.new.self.items l) (sym again.1)
-    (told_bring old.core c.step.new.self old.seats.items c.push_reserved.new.self.items k.all v.seat e (sym old.seated.1) (old.told h) (c.in-Ok.ensures.joined ∙ ap (λ (z : Event). old.core ++ z ∷ []) (c.bring-event.ensures.same ∙ c.finish_event-event.ensures)) (c.push_reserved.ensures.items ∙ (ap (λ xs. xs ++ (2 + c.args.place) ∷ []) c.reserve.ensures.items ∙ ap (λ n. old.seats.items ++ n ∷ []) (sym s))))
+    λ h. subst (λ (l : List Act). IsTold c.take_finish.new.core c.push_reserved.new.self.items l) (sym again.1)
+    (told_bring old.core c.take_finish.new.core old.seats.items c.push_reserved.new.self.items k.all v.seat e (sym old.seated.1) (old.told h) (c.in-Ok.ensures.joined ∙ ap (λ (z : Event). old.core ++ z ∷ []) (c.bring-event.ensures.same ∙ c.finish_event-event.ensures)) (c.push_reserved.ensures.items ∙ (ap (λ xs. xs ++ (2 + c.args.place) ∷ []) c.reserve.ensures.items ∙ ap (λ n. old.seats.items ++ n ∷ []) (sym s))))
 
 pub invariant_of-self-2-clause-turns : goal.invariant_of-self-2-clause-turns
 invariant_of-self-2-clause-turns g c =
@@ -204,5 +204,5 @@ invariant_of-self-2-clause-begun g c =
     let m = ap (λ (y : View). y.made) old.knows ∙ ap (λ n. 2 + n) (sym (length-set slots c.args.place None)) in
     let log = k.all ++ act v.seat x ∷ [] in
     let again = knows_again (view c.bring-event.new.keeper) log k.made (2 + length rest) (c.bring-event.ensures.noted.kept ∙ ap (λ (z : Event). knower (k.all ++ act v.seat (Brought z) ∷ []) k.made) c.finish_event-event.ensures) m in
-    λ h. subst (λ (l : List Act). IsBegun g.B.Room.start c.step.new.self c.push_reserved.new.self.items l) (sym again.1)
-    (begun_else g.B.Room.start old.core c.step.new.self old.seats.items c.push_reserved.new.self.items k.all v.seat e (old.begun h) old.running.live (sym old.seated.1) (c.in-Ok.ensures.joined ∙ ap (λ (z : Event). old.core ++ z ∷ []) (c.bring-event.ensures.same ∙ c.finish_event-event.ensures)) (c.push_reserved.ensures.items ∙ (ap (λ xs. xs ++ (2 + c.args.place) ∷ []) c.reserve.ensures.items ∙ ap (λ n. old.seats.items ++ n ∷ []) (sym s))) (λ e. absurd (omega (arith, s, e))) refl)
+    λ h. subst (λ (l : List Act). IsBegun g.B.Room.start c.take_finish.new.core c.push_reserved.new.self.items l) (sym again.1)
+    (begun_else g.B.Room.start old.core c.take_finish.new.core old.seats.items c.push_reserved.new.self.items k.all v.seat e (old.begun h) old.running.live (sym old.seated.1) (c.in-Ok.ensures.joined ∙ ap (λ (z : Event). old.core ++ z ∷ []) (c.bring-event.ensures.same ∙ c.finish_event-event.ensures)) (c.push_reserved.ensures.items ∙ (ap (λ xs. xs ++ (2 + c.args.place) ∷ []) c.reserve.ensures.items ∙ ap (λ n. old.seats.items ++ n ∷ []) (sym s))) (λ e. absurd (omega (arith, s, e))) refl)
