@@ -10,7 +10,7 @@ use Rattle.run_lock.proofs.ToldLemmas.{told_caller, told_by}
 use Rattle.run_lock.proofs.ToldLemmas.{over_ended, all_told}
 use Rattle.run_lock.proofs.CallerLemmas.{of_caller}
 use Rattle.run_lock.proofs.SlotLemmas.{seat_of}
-use Rattle.run_lock.proofs.station.closing.Station.close.Goals as goal
+use Rattle.run_lock.proofs.station.Station.close.Goals as goal
 
 pub returns-clause-done : goal.returns-clause-done
 returns-clause-done g c =
