@@ -20,7 +20,7 @@ use Rattle.life_roll.specs.declared.schedule.InFlight.{InFlight}
 use Rattle.scrape_machine.specs.declared.lives.Life.{Life}
 use Rattle.scrape_machine.specs.declared.lives.Local.{Local}
 use Rattle.scrape_machine.specs.declared.lives.Local.TheVariants.{Nothing, Scan, Answered, Change, Close}
-use Rattle.scrape_machine.specs.Lives.{forces, ends_at, closing_at, outcome_for, scanned_life, life_after, scan_entries, counting_entries, life_gives}
+use Rattle.scrape_machine.specs.Lives.{forces, ends_at, closing_at, outcome_for, scanned_life, with_ending, life_after, scan_entries, counting_entries, life_gives}
 use Rattle.scrape_machine.specs.Machine.{World, local, step, gives, world_of}
 use Rattle.scrape_laws.specs.Undisturbed.{is_entry_of}
 use Rattle.scrape_laws.specs.Apart.{without_ticket, bare, bare_local, renumbered, GoAlike, ApartLaw}
@@ -134,8 +134,8 @@ scan_bare m t over l None = by over (schedule.is_due (number m) l.schedule) (sch
     by q false true e = absurd (true≢false (sym e))
 scan_bare m t over l (Some c) = by (ends_at (number m) c l)
   where
-    by : (b : Bool) → bare (cond b (record l { ended = true }) l) ≡ bare (cond b (record (bare l) { ended = true }) (bare l))
-    by true = bare_twice (record l { ended = true })
+    by : (b : Bool) → bare (cond b (with_ending l) l) ≡ bare (cond b (with_ending (bare l)) (bare l))
+    by true = bare_twice (with_ending l)
     by false = bare_twice l
 
 pub after_bare : (loc : Local) (l : Life) → bare (life_after loc l) ≡ bare (life_after (bare_local loc) (bare l))

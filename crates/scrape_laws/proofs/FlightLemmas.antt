@@ -21,7 +21,7 @@ use Rattle.scrape_machine.specs.declared.lives.Local.{Local}
 use Rattle.scrape_machine.specs.declared.lives.Local.TheVariants.{Nothing, Scan, Answered, Change, Close}
 use Rattle.scrape_machine.specs.declared.lives.Verdict.{Verdict}
 use Rattle.scrape_machine.specs.declared.lives.Verdict.TheVariants.{Apart, Same, Other}
-use Rattle.scrape_machine.specs.Lives.{is_open, born, forces, ends_at, scanned_life, life_after}
+use Rattle.scrape_machine.specs.Lives.{is_open, born, forces, ends_at, scanned_life, with_ending, life_after}
 use Rattle.scrape_machine.specs.Machine.{World, new_jobs, job_name, verdict, verdict_local, job_local, reload_local, is_over, found_flight, found_life, found_start, found, finish_local, live_local, local, finished, started_after, live_step, step, run}
 use Rattle.scrape_laws.specs.Flights.{since, life_since, in_flight_since, is_finish_of, is_same_verdict, leaves_by, leaves, reload_touches, touches, ends_flight, stays, has_finish}
 use Rattle.scrape_laws.proofs.WorldLemmas.{found_flies, same_some, after_local, Stays, follows}
@@ -114,7 +114,7 @@ life_scan m t k over l None lt = by (forces (number m) over l)
     by false = scan_since m t k over l.schedule (schedule.is_due (number m) l.schedule) refl lt
 life_scan m t k over l (Some c) lt = by (ends_at (number m) c l)
   where
-    by : (b : Bool) → since k (cond b (record l { ended = true }) l).schedule.flight ≡ since k l.schedule.flight
+    by : (b : Bool) → since k (cond b (with_ending l) l).schedule.flight ≡ since k l.schedule.flight
     by true = refl
     by false = refl
 

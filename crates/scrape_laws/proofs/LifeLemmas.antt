@@ -17,7 +17,7 @@ use Rattle.life_roll.specs.declared.schedule.Schedule.{Schedule}
 use Rattle.scrape_machine.specs.declared.lives.Life.{Life}
 use Rattle.scrape_machine.specs.declared.lives.Local.{Local}
 use Rattle.scrape_machine.specs.declared.lives.Local.TheVariants.{Nothing, Scan, Answered, Change, Close}
-use Rattle.scrape_machine.specs.Lives.{is_open, forces, ends_at, closing_at, outcome_for, scanned_life, counted, changed, closed, life_after, scan_entries, counting_entries, life_gives}
+use Rattle.scrape_machine.specs.Lives.{is_open, forces, ends_at, closing_at, outcome_for, scanned_life, with_ending, counted, changed, closed, life_after, scan_entries, counting_entries, life_gives}
 use Rattle.scrape_laws.specs.Scrapes.{LifeScrape, tracks}
 use Rattle.scrape_laws.specs.Markers.{told, is_of, ending_of, reports_at, ending_reports, is_report_marker_of}
 use Rattle.scrape_laws.specs.Runs.{is_any}
@@ -49,10 +49,10 @@ other_life p (Answered took r) l e = other_counting p l took (outcome_for l took
 other_life p (Change m s) l e = refl
 other_life p (Close m) l e = refl
 
--- what the scrapes of a life say of it
+-- what the scrapes of a life say of it; what it tracks is told until its ending was taken
 pub record Knows (n : ℕ) (x : List Pair) (ss : List LifeScrape) (l : Life) : Type 0 where
   pub named : l.state.life ≡ n
-  pub tracked : copies x l.state.tracked ≡ one_if x (ends_with (tracks x) false ss)
+  pub tracked : l.ended ≡ false → copies x l.state.tracked ≡ one_if x (ends_with (tracks x) false ss)
   pub scraped : l.state.scraped ≡ is_any ss
   pub quiet : is_open l ≡ false → l.schedule.flight ≡ None
   pub ended : is_open l ≡ true → l.ended ≡ false
@@ -124,7 +124,7 @@ module _ (n : ℕ) (x : List Pair) (ss : List LifeScrape) (l : Life) where
       record {
         knows = record {
           named = ap (λ (z : LifeView). z.life) at ∙ w.named;
-          tracked = ap (λ (z : LifeView). copies x z.tracked) at ∙ w.tracked;
+          tracked = λ h. ap (λ (z : LifeView). copies x z.tracked) at ∙ w.tracked d;
           scraped = ap (λ (z : LifeView). z.scraped) at ∙ w.scraped;
           quiet = q;
           ended = λ h. en ∙ d;
@@ -141,14 +141,14 @@ module _ (n : ℕ) (x : List Pair) (ss : List LifeScrape) (l : Life) where
       record {
         knows = record {
           named = ap (λ (z : LifeView). z.life) at ∙ w.named;
-          tracked = ap (λ (z : LifeView). copies x z.tracked) at ∙ (tracked_copies x s ∙ ap (one_if x) (sym (ends_with_push (tracks x) false ss s)));
+          tracked = λ h. ap (λ (z : LifeView). copies x z.tracked) at ∙ (tracked_copies x s ∙ ap (one_if x) (sym (ends_with_push (tracks x) false ss s)));
           scraped = ap (λ (z : LifeView). z.scraped) at ∙ sym (any_push ss s);
           quiet = λ h. absurd (true≢false (sym p ∙ h));
           ended = λ h. en ∙ d;
         };
         tells = ap (λ z. told n x z false (ss ++ s ∷ [])) (no_ending k (en ∙ d))
             ∙ (told_more n x false ss s
-            ∙ ap₂ ◌++◌ (ap (λ z. told n x z false ss) (sym (no_ending l d))) (sym (own_scrape n x l.state s took (ends_with (tracks x) false ss) w.named w.tracked)));
+            ∙ ap₂ ◌++◌ (ap (λ z. told n x z false ss) (sym (no_ending l d))) (sym (own_scrape n x l.state s took (ends_with (tracks x) false ss) w.named (w.tracked d))));
         reports = ap (λ z. reports_at n k.state.target z (ss ++ s ∷ [])) (no_ending k (en ∙ d))
             ∙ sym (ap₂ ◌++◌ (no_reports_yet ss d) (no_reports n l.state s.outcome s.moment took));
       }
@@ -171,14 +171,14 @@ module _ (n : ℕ) (x : List Pair) (ss : List LifeScrape) (l : Life) where
 
   -- a scan of a closed one
   scan_closed : (m c : ℤ) (b : Bool) → l.schedule.closed ≡ Some c → ends_at (number m) c l ≡ b → Knows n x ss l →
-      Goes n x ss ss l (cond b (record l { ended = true }) l) (cond b (ending_entries (closing_at c l)) [])
+      Goes n x ss ss l (cond b (with_ending l) l) (cond b (ending_entries (closing_at c l)) [])
   scan_closed m c true o e w =
       let d : l.ended ≡ false = not-true l.ended ((and_parts (not l.ended) _ e).0) in
-      let q : ending_of (Some (record l { ended = true })) ≡ Some (marker_moment (closing_at c l)) = ap (option_map (λ z. marker_moment (closing_at z l))) o in
+      let q : ending_of (Some (with_ending l)) ≡ Some (marker_moment (closing_at c l)) = ap (option_map (λ z. marker_moment (closing_at z l))) o in
       record {
         knows = record {
           named = w.named;
-          tracked = w.tracked;
+          tracked = λ h. absurd (true≢false h);
           scraped = w.scraped;
           quiet = w.quiet;
           ended = λ h. absurd (false≢true (sym (ap (λ z. not (is_some z)) o) ∙ h));
@@ -186,7 +186,7 @@ module _ (n : ℕ) (x : List Pair) (ss : List LifeScrape) (l : Life) where
         tells = ap (λ z. told n x z false ss) q
             ∙ (told_ended n x (marker_moment (closing_at c l)) false ss
             ∙ ap₂ ◌++◌ (ap (λ z. told n x z false ss) (sym (no_ending l d)))
-            (sym (own_ending n x (closing_at c l) (ends_with (tracks x) false ss) w.named w.tracked (λ h. w.scraped ∙ any_ends (tracks x) ss h))));
+            (sym (own_ending n x (closing_at c l) (ends_with (tracks x) false ss) w.named (w.tracked d) (λ h. w.scraped ∙ any_ends (tracks x) ss h))));
         reports = ap (λ z. reports_at n l.state.target z ss) q
             ∙ (sym (own_reports n (closing_at c l) ss w.named w.scraped)
             ∙ ap (λ zs. zs ++ filter (is_report_marker_of n) (ending_entries (closing_at c l))) (sym (no_reports_yet ss d)));

@@ -20,7 +20,7 @@ use Rattle.scrape_machine.specs.declared.lives.Local.{Local}
 use Rattle.scrape_machine.specs.declared.lives.Local.TheVariants.{Nothing, Scan, Answered, Close}
 use Rattle.scrape_machine.specs.declared.lives.Verdict.{Verdict}
 use Rattle.scrape_machine.specs.declared.lives.Verdict.TheVariants.{Apart, Same, Other}
-use Rattle.scrape_machine.specs.Lives.{is_open, born, starts, forces, ends_at, scanned_life, life_after}
+use Rattle.scrape_machine.specs.Lives.{is_open, born, starts, forces, ends_at, scanned_life, with_ending, life_after}
 use Rattle.scrape_machine.specs.Machine.{World, beginning, new_jobs, job_name, verdict, verdict_local, job_local, reload_local, is_over, starts_in, ticket_in_sweep, found, finish_local, live_local, step, run, world_of}
 use Rattle.scrape_laws.specs.Flights.{since, start_if, start_by, is_finish_of, touches}
 use Rattle.scrape_laws.specs.Undisturbed.{is_awaited_of, is_own_ticket, TicketLaw}
@@ -84,7 +84,7 @@ scan_starts m t k over l None h = by (forces (number m) over l) h
     by false h = due_starts m t k over l.schedule (schedule.is_due (number m) l.schedule) h
 scan_starts m t k over l (Some c) h = by (ends_at (number m) c l) h
   where
-    by : (b : Bool) → flies k (cond b (record l { ended = true }) l) ≡ true → (flies k l ≡ true) ⊎ ((t ≡ k) × (starts (number m) over l ≡ true))
+    by : (b : Bool) → flies k (cond b (with_ending l) l) ≡ true → (flies k l ≡ true) ⊎ ((t ≡ k) × (starts (number m) over l ≡ true))
     by true h = inl h
     by false h = inl h
 

@@ -22,7 +22,7 @@ use Rattle.scrape_machine.specs.declared.lives.Found.{Found}
 use Rattle.scrape_machine.specs.declared.lives.Found.TheVariants.{NotStarted, Cancelled, Counts}
 use Rattle.scrape_machine.specs.declared.lives.Local.TheVariants.{Nothing, Scan, Answered, Close}
 use Rattle.scrape_machine.specs.declared.lives.Verdict.TheVariants.{Apart, Same, Other}
-use Rattle.scrape_machine.specs.Lives.{is_open, born, forces, ends_at, rules_of, scanned_life, counted, changed, closed, life_after, IsRightLife}
+use Rattle.scrape_machine.specs.Lives.{is_open, born, forces, ends_at, rules_of, scanned_life, with_ending, counted, changed, closed, life_after, IsRightLife}
 use Rattle.scrape_machine.specs.Machine.{World, beginning, new_jobs, job_name, verdict_on, verdict_local, verdict, job_local, reload_local, is_over, ticket_in_sweep, found, finish_local, live_local, local, lives_from, unheld, born_all, births, begun_with, begun, or_else, live_step, step, run, world_of}
 use Rattle.scrape_machine.specs.Plans.{name_of}
 use Rattle.scrape_laws.proofs.ConfLemmas.{AreSettled}
@@ -116,8 +116,8 @@ scan_sound jobs m k over l None s = by (forces (number m) over l)
     by false = stays_sound jobs l (record l { schedule = schedule.scanned m k over l.schedule }) s.right refl (scanned_closed m k over l.schedule) s
 scan_sound jobs m k over l (Some c) s = by (ends_at (number m) c l)
   where
-    by : (b : Bool) → IsSound jobs (cond b (record l { ended = true }) l)
-    by true = stays_sound jobs l (record l { ended = true }) s.right refl refl s
+    by : (b : Bool) → IsSound jobs (cond b (with_ending l) l)
+    by true = stays_sound jobs l (with_ending l) (All-nil (IsRight l.settings.conf.honor_labels l.settings.metric_rules l.state.target)) refl refl s
     by false = s
 
 -- a finish

@@ -41,7 +41,7 @@ unfolding born
 fresh_goes n x w e l f =
     subst (λ (z : Life). GoesAt n x [] [] w e None (Some z)) (sym f.3)
     (record {
-      knows = record { named = refl; tracked = refl; scraped = refl; quiet = λ h. refl; ended = λ h. refl };
+      knows = record { named = refl; tracked = λ h. refl; scraped = refl; quiet = λ h. refl; ended = λ h. refl };
       tells = refl;
       reports = refl;
     })

@@ -13,7 +13,7 @@ use Rattle.life_roll.specs.Schedules as schedule
 use Rattle.scrape_machine.specs.declared.lives.Life.{Life}
 use Rattle.scrape_machine.specs.declared.lives.Local.{Local}
 use Rattle.scrape_machine.specs.declared.lives.Local.TheVariants.{Nothing, Scan}
-use Rattle.scrape_machine.specs.Lives.{is_open, closing_at, closed_ends, ends, scanned_life, scan_entries, life_after, life_gives}
+use Rattle.scrape_machine.specs.Lives.{is_open, closing_at, closed_ends, ends, scanned_life, with_ending, scan_entries, life_after, life_gives}
 use Rattle.scrape_machine.specs.Machine.{World, beginning, is_over, ticket_in_sweep, live_local, local, step, run, world_of}
 use Rattle.scrape_laws.specs.Undisturbed.{NothingLaw, is_entry_of, IsUndisturbed, UndisturbedLaw, is_idle_scan, IdleLaw}
 use Rattle.scrape_laws.proofs.WorldLemmas.{AreNumbered, step_numbered, at_gives, Only, gives_at, after_local, Stays, follows}
@@ -64,7 +64,7 @@ module _ (m : ℤ) (t : ℕ) (over : Bool) (l : Life) where
   idle_by : (o : Option ℤ) → schedule.is_due (number m) l.schedule ≡ false → closed_ends (number m) l o ≡ false →
       (scanned_life m t over l o ≡ l) × (scan_entries m over l o ≡ [])
   idle_by None d e = idle_open (schedule.is_due (number m) l.schedule) refl d
-  idle_by (Some c) d e = (ap (λ b. cond b (record l { ended = true }) l) e, ap (λ b. cond b (ending_entries (closing_at c l)) []) e)
+  idle_by (Some c) d e = (ap (λ b. cond b (with_ending l) l) e, ap (λ b. cond b (ending_entries (closing_at c l)) []) e)
 
   scan_still : schedule.is_due (number m) l.schedule ≡ false → ends (number m) l ≡ false → Still (Scan m t over) l
   scan_still d e = let h = idle_by l.schedule.closed d e in record { same = h.0; none = h.1 }

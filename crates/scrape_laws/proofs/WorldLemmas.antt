@@ -25,7 +25,7 @@ use Rattle.scrape_machine.specs.declared.lives.Local.{Local}
 use Rattle.scrape_machine.specs.declared.lives.Local.TheVariants.{Nothing, Scan, Answered, Change, Close}
 use Rattle.scrape_machine.specs.declared.lives.Verdict.{Verdict}
 use Rattle.scrape_machine.specs.declared.lives.Verdict.TheVariants.{Apart, Same, Other}
-use Rattle.scrape_machine.specs.Lives.{is_open, born, forces, ends_at, outcome_for, scanned_life, life_after, life_gives}
+use Rattle.scrape_machine.specs.Lives.{is_open, born, forces, ends_at, outcome_for, scanned_life, with_ending, life_after, life_gives}
 use Rattle.scrape_machine.specs.Machine.{World, new_jobs, job_name, verdict, verdict_local, job_local, reload_local, is_over, found_flight, found_life, found_start, found, finish_local, live_local, local, lives_from, gives_from, unheld, born_all, births, begun_with, begun, live_step, step, gives}
 use Rattle.scrape_laws.specs.Scrapes.{LifeScrape, counting, forcing, live_scrape, scrape_at}
 use Rattle.scrape_laws.proofs.LifeLemmas.{Fits, flight_scrape, act_scrape, closed_forces, other_life}
@@ -154,7 +154,7 @@ keeps_number (Scan m k over) l = scan_keeps l.schedule.closed
         by false = refl
     scan_keeps (Some c) = by (ends_at (number m) c l)
       where
-        by : (b : Bool) → (cond b (record l { ended = true }) l).state.life ≡ l.state.life
+        by : (b : Bool) → (cond b (with_ending l) l).state.life ≡ l.state.life
         by true = refl
         by false = refl
 keeps_number (Answered took r) l = refl

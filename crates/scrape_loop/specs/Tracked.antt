@@ -80,6 +80,10 @@ life_of life target c scraped =
 abbrev pub fresh : ℕ → List Pair → LifeView
 fresh life target = record { life = life; target = target; tracked = []; known = []; cache = no_texts; scraped = false }
 
+-- the state of a life whose ending was taken: nothing is known of raw texts any more, and so of no sets; whether a scrape of it counted stays
+abbrev pub released : LifeView → LifeView
+released l = record l { tracked = []; known = []; cache = no_texts }
+
 -- the state after a scrape that counts, good or bad: it tracks what that scrape tracks
 abbrev pub after_scrape : LifeView → Scrape → LifeView
 after_scrape l s = record l { tracked = tracked_sets s; known = known_after l.known s; scraped = true }

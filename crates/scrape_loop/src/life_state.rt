@@ -243,4 +243,12 @@ impl LifeState {
         self.past.scraped = true;
         self.cache.turn(false);
     }
+
+    /// Lets go what is known of raw texts, and with it the sets that were tracked, where the life's ending was taken: no scrape of it comes any more.
+    /// It takes no memory, and what they took is given back.
+    pub fn release(&mut self)
+        ensures state { self.new ≡ spec.released self.old }
+    {
+        self.cache.clear();
+    }
 }

@@ -15,7 +15,7 @@ use Rattle.scrape_machine.specs.declared.lives.Life.{Life}
 use Rattle.scrape_machine.specs.declared.lives.Start.{Start}
 use Rattle.scrape_machine.specs.declared.lives.Verdict.{Verdict}
 use Rattle.life_roll.specs.Names.{place_in}
-use Rattle.scrape_machine.specs.Lives.{is_open, closed_ends, ends, scanned_life, scan_entries, closing_at, life_after}
+use Rattle.scrape_machine.specs.Lives.{is_open, closed_ends, ends, scanned_life, scan_entries, closing_at, life_after, with_ending}
 use Rattle.scrape_machine.specs.Machine.{is_over, job_name, starts_in, forces_in, start_of, started_by, starts_from}
 use Rattle.scrape_machine.specs.Plans as plan
 use Rattle.scrape_machine.specs.Plans.{local_of, after_each, fate_at, fate_of, look, sits}
@@ -163,7 +163,7 @@ ended_scanned m t over l h = of l.schedule.closed h
   where
     of : (o : Option ℤ) → (not (not (is_some o)) && l.ended) ≡ true → scanned_life m t over l o ≡ l
     of None k = absurd (false≢true k)
-    of (Some c) k = ap (λ b. cond (not b && not (nat_lt (number m) (due_at l.schedule.planned (number c) l.schedule.interval))) (record l { ended = true }) l) k
+    of (Some c) k = ap (λ b. cond (not b && not (nat_lt (number m) (due_at l.schedule.planned (number c) l.schedule.interval))) (with_ending l) l) k
 
 -- the scrapes that a sweep starts, by the places of the lives
 module _ (jobs : List InForce) (m : ℕ) where

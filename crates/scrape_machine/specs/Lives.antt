@@ -12,7 +12,7 @@ use Rattle.report_samples.specs.declared.closing.Closing.{Closing}
 use Rattle.report_samples.specs.declared.entries.Entry.{Entry}
 use Rattle.end_of_run.specs.Endings.{due_at, ending_entries}
 use Rattle.scrape_loop.specs.Texts.{AreRight}
-use Rattle.scrape_loop.specs.Tracked.{after_forced, after_reply, fresh}
+use Rattle.scrape_loop.specs.Tracked.{after_forced, after_reply, fresh, released}
 use Rattle.scrape_loop.specs.Closings.{closing_of}
 use Rattle.scrape_loop.specs.Entries.{entries_of}
 use Rattle.target_set.specs.declared.targets.Target.{Target}
@@ -70,12 +70,16 @@ rules_of s =
 unfoldable pub outcome_for : Life → ℤ → Reply → Scrape
 outcome_for l took r = outcome (rules_of l.settings) l.settings.metric_rules l.state.target r took
 
+-- the life after its ending was taken: it lets go what it knows of raw texts
+abbrev pub with_ending : Life → Life
+with_ending l = record l { state = released l.state; ended = true }
+
 -- the life after a scan at m, where k is the next ticket, by whether it was closed: an open one is scanned, of a closed one the ending is taken
 abbrev pub scanned_life : ℤ → ℕ → Bool → Life → Option ℤ → Life
 scanned_life m k over l None =
     if forces (number m) over l then record l { state = after_forced l.state; schedule = schedule.scanned m k over l.schedule }
     else record l { schedule = schedule.scanned m k over l.schedule }
-scanned_life m k over l (Some c) = if ends_at (number m) c l then record l { ended = true } else l
+scanned_life m k over l (Some c) = if ends_at (number m) c l then with_ending l else l
 
 -- the life after a scrape that counts, which took so long and got this reply: nothing is in flight, and its state is that after the reply
 abbrev pub counted : Life → ℤ → Reply → Life

@@ -92,6 +92,7 @@ fn scan_closed(life: &mut Life, moment: Moment, _ticket: u64, _over: bool, close
     ensures { life.new ≡ spec.scanned_life moment _ticket _over life.old (Some closed) }
 {
     if ends_at(moment, closed, life) {
+        life.state.release();
         life.ended = true;
     }
 }

@@ -201,4 +201,14 @@ impl SeriesCache {
         self.texts.unshow();
         self.expected = Expected::first();
     }
+
+    /// Forgets all texts, and gives back the memory that they took. Texts that come then are hashed as before. It takes no memory.
+    pub fn clear(&mut self)
+        ensures texts { self.new.texts ≡ [] }
+        ensures kept { self.new.kept ≡ 0 }
+    {
+        self.texts.clear();
+        self.kept = 0;
+        self.expected = Expected::first();
+    }
 }

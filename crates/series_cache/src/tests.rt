@@ -171,6 +171,18 @@ fn tracks_nothing_after_a_failed_scrape(rt: HostRuntime) -> Result<(), NoMemory>
 }
 
 #[test]
+fn knows_nothing_once_it_is_cleared(rt: HostRuntime) -> Result<(), NoMemory> {
+    let mut cache = first(rt.alloc())?;
+    show(rt.alloc(), &mut cache, line("right", true))?;
+    cache.clear();
+    assert!(rt; cache.is_empty() && is_unknown(&cache, "up"));
+    assert!(rt; vanish(rt.alloc(), &cache, &[])?);
+    show(rt.alloc(), &mut cache, line("up", true))?;
+    assert!(rt; is_series(rt.alloc(), &cache, "up")?);
+    Ok(())
+}
+
+#[test]
 fn tells_how_many_series_are_added(rt: HostRuntime) -> Result<(), NoMemory> {
     let mut cache = first(rt.alloc())?;
     show(rt.alloc(), &mut cache, line("up", true))?;

@@ -206,6 +206,14 @@ impl Texts {
         self.entries.truncate(kept);
     }
 
+    /// Forgets all, and gives back the memory that they took. A text that comes then is hashed as before.
+    pub(crate) fn clear(&mut self)
+        ensures { self.new ≡ [] }
+    {
+        let hasher = *self.entries.hasher();
+        self.entries = IndexMap::with_hasher(*self.entries.allocator(), hasher);
+    }
+
     /// Keeps those that were shown, for the next scrape.
     pub(crate) fn renew(&mut self)
         ensures renewed { self.new ≡ map renewed (shown_of self.old) }
