@@ -74,6 +74,14 @@ fn rules_text(alloc: Global, rules: &[RuleConf]) -> Result<String, AllocError> {
     Ok(text)
 }
 
+/// The rules for targets and those for samples, a bar between.
+fn both_rules_text(alloc: Global, job: &JobConf) -> Result<String, AllocError> {
+    let mut text = rules_text(alloc, job.relabel.as_slice())?;
+    text.push('|')?;
+    text.push_str(rules_text(alloc, job.metric_relabel.as_slice())?.as_str())?;
+    Ok(text)
+}
+
 fn params_text(alloc: Global, params: &[Param]) -> Result<String, AllocError> {
     let mut text = String::new(alloc);
     for param in params {
@@ -208,11 +216,8 @@ fn rules_have_what_is_said_or_defaults(rt: HostRuntime) -> Result<(), Fail> {
 fn each_list_of_rules_has_its_own(rt: HostRuntime) -> Result<(), Fail> {
     let text = r#"{"relabel_configs":[{"regex":"r"}],"metric_relabel_configs":[{"regex":"m"},{}]}"#;
     let job = job_under(rt.alloc(), "{}", text)?;
-    let relabel = rules_text(rt.alloc(), job.relabel.as_slice())?;
-    let metric = rules_text(rt.alloc(), job.metric_relabel.as_slice())?;
-    let both = format!(in rt.alloc(); "{relabel}|{metric}")?;
     assert_eq!(rt;
-        both.as_str(),
+        both_rules_text(rt.alloc(), &job)?.as_str(),
         "; r 0  $1 Replace/|; m 0  $1 Replace/; (.*) 0  $1 Replace/"
     );
     Ok(())
