@@ -1,5 +1,5 @@
 use super::*;
-use crate::tests::calls;
+use crate::tests::{calls, put_two, taken};
 use label_set::{Blob, Name, NoMemory};
 use std::alloc::Global;
 use std::fs;
@@ -99,11 +99,8 @@ fn the_system_clock_waits(rt: HostRuntime) -> Result<(), Fail> {
 fn a_file_is_made_at_the_first_put(rt: HostRuntime) -> Result<(), Fail> {
     let mut sink = FileSink::new(rt.clone()?, Name::from_str(rt.alloc(), "trail")?);
     assert!(rt; fs::open(&rt, "trail").is_err());
-    assert_eq!(rt; sink.put(b"one "), Ok(()));
-    assert_eq!(rt; sink.put(b"two\n"), Ok(()));
-    let written = fs::read(&rt, "trail")?;
-    fs::remove_file(&rt, "trail")?;
-    assert_eq!(rt; written.as_slice(), b"one two\n".as_slice());
+    put_two(&rt, &mut sink);
+    assert_eq!(rt; taken(&rt, "trail")?.as_slice(), b"one two\n".as_slice());
     Ok(())
 }
 

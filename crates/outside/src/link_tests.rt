@@ -83,21 +83,30 @@ fn count_given<L: Link>(link: &mut L) -> usize {
     come
 }
 
+/// Sends three bytes to a port of this machine, and is given three.
+fn goes_both_ways<L: Link>(rt: &impl Abort, link: &mut L, port: u16) {
+    assert_eq!(rt; link.dial("127.0.0.1", port, 5000), Ok(()));
+    assert_eq!(rt; link.write(b"GET"), Ok(3));
+    assert_eq!(rt; count_given(link), 3);
+}
+
+/// Hangs up, and finds that no one listens at the port any more.
+fn goes_nowhere<L: Link>(rt: &impl Abort, link: &mut L, port: u16) {
+    link.hang_up();
+    assert_eq!(rt; link.write(b"GET"), Err(LinkFault));
+    assert_eq!(rt; link.dial("127.0.0.1", port, 5000), Err(LinkFault));
+    assert_eq!(rt; link.dial("127.0.0.1", port, -1), Err(LinkFault));
+}
+
 #[test]
 fn a_connection_carries_bytes_both_ways(rt: HostRuntime) -> Result<(), Fail> {
     let mut link = TcpLink::new(rt.clone()?);
     let listener = TcpListener::bind(&rt, "127.0.0.1:0")?;
     let port = listener.local_addr()?.port();
     let server = thread::spawn(&rt, move || serve(listener))?;
-    assert_eq!(rt; link.dial("127.0.0.1", port, 5000), Ok(()));
-    assert_eq!(rt; link.write(b"GET"), Ok(3));
-    assert_eq!(rt; count_given(&mut link), 3);
+    goes_both_ways(&rt, &mut link, port);
     assert!(rt; server.join(&rt).is_ok());
-    link.hang_up();
-    assert_eq!(rt; link.write(b"GET"), Err(LinkFault));
-    // no one listens there any more
-    assert_eq!(rt; link.dial("127.0.0.1", port, 5000), Err(LinkFault));
-    assert_eq!(rt; link.dial("127.0.0.1", port, -1), Err(LinkFault));
+    goes_nowhere(&rt, &mut link, port);
     Ok(())
 }
 

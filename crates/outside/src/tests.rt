@@ -1,9 +1,10 @@
 use super::*;
 use label_set::{Blob, Name, NoMemory};
-use std::alloc::Global;
-use std::fs;
+use std::alloc::{Alloc, Global};
 use std::process::Abort;
+use std::rt::Files;
 use std::test::Fail;
+use std::{fs, io};
 
 /// The numbers of some calls.
 pub(crate) fn calls(alloc: Global, numbers: &[u64]) -> Result<CallList, NoMemory> {
@@ -70,14 +71,24 @@ fn a_folder_is_no_file(rt: HostRuntime) -> Result<(), Fail> {
     Ok(())
 }
 
+/// Puts two words.
+pub(crate) fn put_two<S: Sink>(rt: &impl Abort, sink: &mut S) {
+    assert_eq!(rt; sink.put(b"one "), Ok(()));
+    assert_eq!(rt; sink.put(b"two\n"), Ok(()));
+}
+
+/// The bytes of a file, which is removed.
+pub(crate) fn taken<R: Files + Alloc>(rt: &R, name: &str) -> io::Result<Vec<u8, R::A>> {
+    let bytes = fs::read(rt, name)?;
+    fs::remove_file(rt, name)?;
+    Ok(bytes)
+}
+
 #[test]
 fn a_stream_takes_bytes(rt: HostRuntime) -> Result<(), Fail> {
     let mut sink = StdSink::new(fs::create(&rt, "b")?);
-    assert_eq!(rt; sink.put(b"one "), Ok(()));
-    assert_eq!(rt; sink.put(b"two\n"), Ok(()));
-    let written = fs::read(&rt, "b")?;
-    fs::remove_file(&rt, "b")?;
-    assert_eq!(rt; written.as_slice(), b"one two\n".as_slice());
+    put_two(&rt, &mut sink);
+    assert_eq!(rt; taken(&rt, "b")?.as_slice(), b"one two\n".as_slice());
     Ok(())
 }
 
