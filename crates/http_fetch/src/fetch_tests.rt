@@ -64,11 +64,17 @@ fn over(
 }
 
 /// How long a fetch took, and its reply.
+fn show_timed(alloc: Global, fetched: &Fetched) -> Result<String, NoMemory> {
+    let took = fetched.took;
+    let reply = show(alloc, &fetched.reply)?;
+    Ok(format!(in alloc; "{took} {reply}")?)
+}
+
+/// How long a fetch took for a scheme, and its reply.
 fn answer<F: Fetch>(alloc: Global, fetch: &mut F, scheme: Scheme) -> Result<String, NoMemory> {
     let asked = request(alloc, scheme, 1)?;
     let fetched = fetch.fetch(alloc, &asked)?;
-    let reply = show(alloc, &fetched.reply)?;
-    Ok(format!(in alloc; "{} {reply}", fetched.took)?)
+    show_timed(alloc, &fetched)
 }
 
 /// The reply of a fetch from a port of this machine.
