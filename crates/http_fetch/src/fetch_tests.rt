@@ -8,7 +8,8 @@ use crate::HttpFetch;
 use crate::tests::show;
 use label_set::{Blob, Name, NoMemory};
 use outside::{
-    CallList, Fetch, MemClock, MemLink, MomentList, Request, Scheme, SystemClock, TcpLink,
+    CallList, Fetch, Fetched, MemClock, MemLink, MomentList, Reply, Request, Scheme, SystemClock,
+    TcpLink,
 };
 use std::alloc::Global;
 use std::io::{Read, Write};
@@ -62,49 +63,74 @@ fn over(
     Ok(HttpFetch::new(alloc, link, clock(alloc, 5, 20)?))
 }
 
+/// How long a fetch took, and its reply.
+fn show_timed(alloc: Global, fetched: &Fetched) -> Result<String, NoMemory> {
+    let took = fetched.took;
+    let reply = show(alloc, &fetched.reply)?;
+    Ok(format!(in alloc; "{took} {reply}")?)
+}
+
+/// How long a fetch took for a scheme, and its reply.
+fn answer<F: Fetch>(alloc: Global, fetch: &mut F, scheme: Scheme) -> Result<String, NoMemory> {
+    let asked = request(alloc, scheme, 1)?;
+    let fetched = fetch.fetch(alloc, &asked)?;
+    show_timed(alloc, &fetched)
+}
+
+/// The reply of a fetch from a port of this machine.
+fn reply_of<F: Fetch>(alloc: Global, fetch: &mut F, port: u16) -> Result<String, NoMemory> {
+    let asked = request(alloc, Scheme::Http, port)?;
+    let fetched = fetch.fetch(alloc, &asked)?;
+    show(alloc, &fetched.reply)
+}
+
 #[test]
 fn a_request_is_sent_and_its_reply_taken(rt: HostRuntime) -> Result<(), Fail> {
-    let alloc = rt.alloc();
-    let mut fetch = over(alloc, BODY, TEXT.len(), 99)?;
-    let fetched = fetch.fetch(alloc, &request(alloc, Scheme::Http, 1)?)?;
-    assert_eq!(rt; fetched.took, 15);
-    assert!(rt; show(alloc, &fetched.reply)?.as_str() == "200 [x 1\n]");
+    let mut fetch = over(rt.alloc(), BODY, TEXT.len(), 99)?;
+    let first = answer(rt.alloc(), &mut fetch, Scheme::Http)?;
+    assert_eq!(rt; first.as_str(), "15 200 [x 1\n]");
     assert!(rt; fetch.link.sent() == TEXT.as_bytes());
     // a clock that goes back
-    fetch.clock = clock(alloc, 20, 5)?;
-    let again = fetch.fetch(alloc, &request(alloc, Scheme::Http, 1)?)?;
-    assert!(rt; again.took == 0 && show(alloc, &again.reply)?.as_str() == "lost");
+    fetch.clock = clock(rt.alloc(), 20, 5)?;
+    let again = answer(rt.alloc(), &mut fetch, Scheme::Http)?;
+    assert_eq!(rt; again.as_str(), "0 lost");
     Ok(())
 }
 
 #[test]
 fn https_is_not_sent(rt: HostRuntime) -> Result<(), Fail> {
-    let alloc = rt.alloc();
-    let mut fetch = over(alloc, BODY, TEXT.len(), 99)?;
-    let fetched = fetch.fetch(alloc, &request(alloc, Scheme::Https, 1)?)?;
-    assert!(rt; fetched.took == 0 && show(alloc, &fetched.reply)?.as_str() == "unsent");
+    let mut fetch = over(rt.alloc(), BODY, TEXT.len(), 99)?;
+    let answer = answer(rt.alloc(), &mut fetch, Scheme::Https)?;
+    assert_eq!(rt; answer.as_str(), "0 unsent");
     assert!(rt; fetch.link.sent().is_empty());
     Ok(())
 }
 
+/// The reply over a link that gives a text, has so much room, and fails at a call.
+fn reply_over(alloc: Global, text: &str, room: usize, fails: u64) -> Result<String, NoMemory> {
+    let mut fetch = over(alloc, text, room, fails)?;
+    reply_of(alloc, &mut fetch, 1)
+}
+
 #[test]
 fn a_call_that_fails_loses_the_reply(rt: HostRuntime) -> Result<(), Fail> {
-    let alloc = rt.alloc();
     let ends = "HTTP/1.1 200 OK\r\n\r\nx 1\n";
-    // the dial, the write, the read, and the read that meets the end
-    for fails in 0..4u64 {
-        let mut fetch = over(alloc, ends, TEXT.len(), fails)?;
-        let fetched = fetch.fetch(alloc, &request(alloc, Scheme::Http, 1)?)?;
-        assert!(rt; show(alloc, &fetched.reply)?.as_str() == "lost", "{fails}");
+    for (text, room, fails, reply) in [
+        // the dial, the write, the read, and the read that meets the end
+        (ends, TEXT.len(), 0, "lost"),
+        (ends, TEXT.len(), 1, "lost"),
+        (ends, TEXT.len(), 2, "lost"),
+        (ends, TEXT.len(), 3, "lost"),
+        // a reply that ends by itself asks for no further read
+        (BODY, TEXT.len(), 3, "200 [x 1\n]"),
+        // a link that takes not all of the request
+        (BODY, TEXT.len() - 1, 99, "lost"),
+    ] {
+        assert!(rt;
+            reply_over(rt.alloc(), text, room, fails)?.as_str() == reply,
+            "{fails}"
+        );
     }
-    // a reply that ends by itself asks for no further read
-    let mut fetch = over(alloc, BODY, TEXT.len(), 3)?;
-    let fetched = fetch.fetch(alloc, &request(alloc, Scheme::Http, 1)?)?;
-    assert!(rt; show(alloc, &fetched.reply)?.as_str() == "200 [x 1\n]");
-    // a link that takes not all of the request
-    let mut fetch = over(alloc, BODY, TEXT.len() - 1, 99)?;
-    let fetched = fetch.fetch(alloc, &request(alloc, Scheme::Http, 1)?)?;
-    assert!(rt; show(alloc, &fetched.reply)?.as_str() == "lost");
     Ok(())
 }
 
@@ -129,30 +155,33 @@ fn serve(alloc: Global, listener: TcpListener) -> io::Result<bool> {
 #[test]
 fn both_ends_of_a_connection(rt: HostRuntime) -> Result<(), Fail> {
     let alloc = rt.alloc();
+    let link = TcpLink::new(rt.clone()?);
+    let mut fetch = HttpFetch::new(alloc, link, SystemClock::new(rt.clone()?));
     let listener = TcpListener::bind(&rt, "127.0.0.1:0")?;
     let port = listener.local_addr()?.port();
     let server = thread::spawn(&rt, move || serve(alloc, listener))?;
-    let link = TcpLink::new(rt.clone()?);
-    let mut fetch = HttpFetch::new(alloc, link, SystemClock::new(rt.clone()?));
-    let fetched = fetch.fetch(alloc, &request(alloc, Scheme::Http, port)?)?;
-    assert!(rt; show(alloc, &fetched.reply)?.as_str() == "200 [x 1\n]");
+    assert!(rt; reply_of(alloc, &mut fetch, port)?.as_str() == "200 [x 1\n]");
     assert!(rt; matches!(server.join(&rt), Ok(true)));
     // no one listens there any more
-    let fetched = fetch.fetch(alloc, &request(alloc, Scheme::Http, port)?)?;
-    assert!(rt; show(alloc, &fetched.reply)?.as_str() == "lost");
+    assert!(rt; reply_of(alloc, &mut fetch, port)?.as_str() == "lost");
     Ok(())
+}
+
+/// What is fetched from a port of this machine within 50 milliseconds.
+fn fetched_soon<F: Fetch>(alloc: Global, fetch: &mut F, port: u16) -> Result<Fetched, NoMemory> {
+    let mut asked = request(alloc, Scheme::Http, port)?;
+    asked.timeout = 50;
+    fetch.fetch(alloc, &asked)
 }
 
 #[test]
 fn a_server_that_says_nothing_is_given_up(rt: HostRuntime) -> Result<(), Fail> {
-    let alloc = rt.alloc();
-    let listener = TcpListener::bind(&rt, "127.0.0.1:0")?;
     let link = TcpLink::new(rt.clone()?);
-    let mut fetch = HttpFetch::new(alloc, link, SystemClock::new(rt.clone()?));
-    let mut asked = request(alloc, Scheme::Http, listener.local_addr()?.port())?;
-    asked.timeout = 50;
-    let fetched = fetch.fetch(alloc, &asked)?;
-    assert!(rt; show(alloc, &fetched.reply)?.as_str() == "lost");
+    let mut fetch = HttpFetch::new(rt.alloc(), link, SystemClock::new(rt.clone()?));
+    let listener = TcpListener::bind(&rt, "127.0.0.1:0")?;
+    let port = listener.local_addr()?.port();
+    let fetched = fetched_soon(rt.alloc(), &mut fetch, port)?;
+    assert!(rt; matches!(fetched.reply, Reply::Lost));
     assert!(rt;
         50 <= fetched.took && fetched.took < 5000,
         "{}",

@@ -164,13 +164,9 @@ const SENT: [(&str, &str, usize, &str, u64, &str); 24] = [
     ),
 ];
 
-fn bytes_of(
-    alloc: Global,
-    before: &str,
-    piece: &str,
-    count: usize,
-    behind: &str,
-) -> Result<Vec<u8>, NoMemory> {
+/// A text, a piece so many times, and a text behind them.
+fn bytes_of(alloc: Global, sent: (&str, &str, usize, &str)) -> Result<Vec<u8>, NoMemory> {
+    let (before, piece, count, behind) = sent;
     let mut bytes = Vec::new(alloc);
     bytes.extend_from_slice(before.as_bytes())?;
     for _ in 0..count {
@@ -216,14 +212,36 @@ impl Link for OneByte {
     }
 }
 
+/// What is told of the reply of a link that gives as much as is asked for.
+fn received(
+    alloc: Global,
+    sent: (&str, &str, usize, &str),
+    limit: u64,
+) -> Result<String, NoMemory> {
+    let mut link = SureLink::new(Blob {
+        bytes: bytes_of(alloc, sent)?,
+    })?;
+    show(alloc, &receive(alloc, &mut link, limit.min(9))?)
+}
+
+/// What is told of the reply of a link that gives one byte a read.
+fn received_slowly(
+    alloc: Global,
+    sent: (&str, &str, usize, &str),
+    limit: u64,
+) -> Result<String, NoMemory> {
+    let mut link = OneByte {
+        bytes: bytes_of(alloc, sent)?,
+        given: 0,
+        dialled: true,
+    };
+    show(alloc, &receive(alloc, &mut link, limit.min(9))?)
+}
+
 #[test]
 fn hostile_replies_have_their_answers(rt: HostRuntime) -> Result<(), Fail> {
-    let alloc = rt.alloc();
     for (before, piece, count, behind, limit, answer) in SENT {
-        let mut link = SureLink::new(Blob {
-            bytes: bytes_of(alloc, before, piece, count, behind)?,
-        })?;
-        let reply = show(alloc, &receive(alloc, &mut link, limit.min(9))?)?;
+        let reply = received(rt.alloc(), (before, piece, count, behind), limit)?;
         assert!(rt; reply.as_str() == answer, "{before} {count} {reply}");
     }
     Ok(())
@@ -231,15 +249,10 @@ fn hostile_replies_have_their_answers(rt: HostRuntime) -> Result<(), Fail> {
 
 #[test]
 fn a_link_may_give_one_byte_a_read(rt: HostRuntime) -> Result<(), Fail> {
-    let alloc = rt.alloc();
     for (before, piece, count, behind, limit, answer) in SENT {
         // what waits for its end is looked at again with each byte: leave out what has many
-        let mut link = OneByte {
-            bytes: bytes_of(alloc, before, piece, count.min(300), behind)?,
-            given: 0,
-            dialled: true,
-        };
-        let reply = show(alloc, &receive(alloc, &mut link, limit.min(9))?)?;
+        let sent = (before, piece, count.min(300), behind);
+        let reply = received_slowly(rt.alloc(), sent, limit)?;
         assert!(rt;
             count > 300 || reply.as_str() == answer,
             "{before} {count} {reply}"

@@ -30,6 +30,32 @@ fn cut(alloc: Global, text: &str, at: usize, limit: u64) -> Result<String, NoMem
     show(alloc, &decoder.end())
 }
 
+/// What is told of a whole reply.
+fn whole(alloc: Global, text: &str, limit: u64) -> Result<String, NoMemory> {
+    show(alloc, &decode(alloc, text.as_bytes(), limit)?)
+}
+
+/// The first place at which a reply is told otherwise where it comes in two pieces.
+fn told_otherwise(
+    alloc: Global,
+    text: &str,
+    limit: u64,
+    answer: &str,
+) -> Result<Option<usize>, NoMemory> {
+    for at in 0..text.len() {
+        if cut(alloc, text, at, limit)?.as_str() != answer {
+            return Ok(Some(at));
+        }
+    }
+    Ok(None)
+}
+
+/// What is told of a reply that is read from a link.
+fn received(alloc: Global, text: &str, limit: u64) -> Result<String, NoMemory> {
+    let mut link = SureLink::new(Blob::from_slice(alloc, text.as_bytes())?)?;
+    show(alloc, &receive(alloc, &mut link, limit.min(9))?)
+}
+
 const CHUNKED: &str =
     "HTTP/1.1 200 OK\r\nTransfer-Encoding: chunked\r\n\r\n4\r\nx 1\n\r\n0\r\n\r\n";
 
@@ -138,14 +164,13 @@ const REPLIES: [(&str, u64, &str); 24] = [
 
 #[test]
 fn replies_whole_and_cut_at_each_place(rt: HostRuntime) -> Result<(), Fail> {
-    let alloc = rt.alloc();
     for (text, limit, answer) in REPLIES {
-        let whole = show(alloc, &decode(alloc, text.as_bytes(), limit)?)?;
-        assert!(rt; whole.as_str() == answer, "{text} {whole}");
-        for at in 0..text.len() {
-            let whole = cut(alloc, text, at, limit)?;
-            assert!(rt; whole.as_str() == answer, "{text} {at} {whole}");
-        }
+        assert_eq!(rt; whole(rt.alloc(), text, limit)?.as_str(), answer, "{text}");
+        assert_eq!(rt;
+            told_otherwise(rt.alloc(), text, limit, answer)?,
+            None,
+            "{text}"
+        );
     }
     Ok(())
 }
@@ -175,11 +200,12 @@ fn a_whole_reply_is_known_at_its_last_byte(rt: HostRuntime) -> Result<(), Fail> 
 
 #[test]
 fn a_link_is_read_to_its_reply(rt: HostRuntime) -> Result<(), Fail> {
-    let alloc = rt.alloc();
     for (text, limit, answer) in REPLIES {
-        let mut link = SureLink::new(Blob::from_slice(alloc, text.as_bytes())?)?;
-        let reply = show(alloc, &receive(alloc, &mut link, limit.min(9))?)?;
-        assert!(rt; reply.as_str() == answer, "{text} {reply}");
+        assert_eq!(rt;
+            received(rt.alloc(), text, limit)?.as_str(),
+            answer,
+            "{text}"
+        );
     }
     Ok(())
 }

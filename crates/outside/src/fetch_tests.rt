@@ -4,6 +4,7 @@ ghost use Rattle.outside.specs.Replies.{IsReplyToGive};
 ghost use Rattle.outside.specs.Sizes.{most_body_bytes};
 
 use super::*;
+use crate::tests::calls;
 use label_set::{Blob, Name, NoMemory};
 use std::alloc::Global;
 use std::process::Abort;
@@ -47,73 +48,118 @@ fn replies(alloc: Global) -> Result<FetchedList, NoMemory>
     })
 }
 
-/// What is answered for https, and then for http: the body, and the other reply.
-fn two_replies<F: Fetch>(rt: &impl Abort, alloc: Global, fetch: &mut F) -> Result<(), NoMemory> {
-    let unsent = fetch.fetch(alloc, &request(alloc, Scheme::Https)?)?;
-    assert!(rt; matches!(unsent.reply, Reply::Unsent) && unsent.took == 0);
-    let http = request(alloc, Scheme::Http)?;
-    let body = fetch.fetch(alloc, &http)?;
-    assert!(rt;
-        matches!(&body.reply, Reply::Body { status: 200, bytes } if bytes.as_slice() == b"x 1\n".as_slice())
-    );
-    assert_eq!(rt; body.took, 15);
-    let other = fetch.fetch(alloc, &http)?;
-    assert!(rt; matches!(other.reply, Reply::Garbled) && other.took == 7);
+fn sure_fetch(alloc: Global) -> Result<SureFetch, NoMemory> {
+    SureFetch::new(alloc, replies(alloc)?)
+}
+
+/// What fails at these calls.
+fn failing_fetch(alloc: Global, fails: &[u64]) -> Result<MemFetch, NoMemory> {
+    let fails = calls(alloc, fails)?;
+    MemFetch::new(alloc, replies(alloc)?, fails)
+}
+
+/// How long a reply took, and what it is.
+fn show(alloc: Global, fetched: &Fetched) -> Result<String, NoMemory> {
+    let took = fetched.took;
+    match &fetched.reply {
+        Reply::Body { status, bytes } => {
+            let text = String::from_utf8_lossy(alloc, bytes.as_slice())?;
+            Ok(format!(in alloc; "{took} {status} [{text}]")?)
+        }
+        Reply::Lost => Ok(format!(in alloc; "{took} lost")?),
+        Reply::Garbled => Ok(format!(in alloc; "{took} garbled")?),
+        Reply::Unsent => Ok(format!(in alloc; "{took} unsent")?),
+        Reply::Oversize => Ok(format!(in alloc; "{took} oversize")?),
+    }
+}
+
+/// What is answered for a scheme.
+fn answer<F: Fetch>(alloc: Global, fetch: &mut F, scheme: Scheme) -> Result<String, NoMemory> {
+    let asked = request(alloc, scheme)?;
+    let fetched = fetch.fetch(alloc, &asked)?;
+    show(alloc, &fetched)
+}
+
+/// What is answered for one scheme after another.
+fn answers_are<F: Fetch>(
+    rt: &impl Abort,
+    alloc: Global,
+    fetch: &mut F,
+    answers: &[(Scheme, &str)],
+) -> Result<(), NoMemory> {
+    for (scheme, want) in answers {
+        assert_eq!(rt; answer(alloc, fetch, *scheme)?.as_str(), *want);
+    }
     Ok(())
 }
 
 #[test]
 fn fetches_give_their_replies(rt: HostRuntime) -> Result<(), Fail> {
-    let alloc = rt.alloc();
-    let http = request(alloc, Scheme::Http)?;
-    let mut sure = SureFetch::new(alloc, replies(alloc)?)?;
-    two_replies(&rt, alloc, &mut sure)?;
-    let past = sure.fetch(alloc, &http)?;
-    assert!(rt; matches!(past.reply, Reply::Garbled) && past.took == 0);
-    let none = CallList {
-        items: Vec::new(alloc),
-    };
-    let mut fetch = MemFetch::new(alloc, replies(alloc)?, none)?;
-    two_replies(&rt, alloc, &mut fetch)?;
-    let past = fetch.fetch(alloc, &http)?;
-    assert!(rt; matches!(past.reply, Reply::Lost) && past.took == 0);
+    let mut sure = sure_fetch(rt.alloc())?;
+    let answers = [
+        (Scheme::Https, "0 unsent"),
+        (Scheme::Http, "15 200 [x 1\n]"),
+        (Scheme::Http, "7 garbled"),
+        (Scheme::Http, "0 garbled"),
+    ];
+    answers_are(&rt, rt.alloc(), &mut sure, &answers)?;
+    Ok(())
+}
+
+#[test]
+fn fetches_whose_calls_may_fail_give_their_replies(rt: HostRuntime) -> Result<(), Fail> {
+    let mut fetch = failing_fetch(rt.alloc(), &[])?;
+    let answers = [
+        (Scheme::Https, "0 unsent"),
+        (Scheme::Http, "15 200 [x 1\n]"),
+        (Scheme::Http, "7 garbled"),
+        (Scheme::Http, "0 lost"),
+    ];
+    answers_are(&rt, rt.alloc(), &mut fetch, &answers)?;
     Ok(())
 }
 
 #[test]
 fn a_fetch_fails_at_the_calls_of_its_list(rt: HostRuntime) -> Result<(), Fail> {
-    let alloc = rt.alloc();
-    let fails = CallList {
-        items: vec![in alloc; 0, 1]?,
-    };
-    let mut fetch = MemFetch::new(alloc, replies(alloc)?, fails)?;
-    let unsent = fetch.fetch(alloc, &request(alloc, Scheme::Https)?)?;
-    assert!(rt; matches!(unsent.reply, Reply::Unsent));
-    let http = request(alloc, Scheme::Http)?;
-    assert!(rt; matches!(fetch.fetch(alloc, &http)?.reply, Reply::Lost));
-    assert!(rt; matches!(fetch.fetch(alloc, &http)?.reply, Reply::Body { .. }));
+    let mut fetch = failing_fetch(rt.alloc(), &[0, 1])?;
+    let answers = [
+        (Scheme::Https, "0 unsent"),
+        (Scheme::Http, "0 lost"),
+        (Scheme::Http, "15 200 [x 1\n]"),
+    ];
+    answers_are(&rt, rt.alloc(), &mut fetch, &answers)?;
     Ok(())
 }
 
 #[test]
-fn fetches_clocks_and_links_go_to_threads(rt: HostRuntime) -> Result<(), Fail> {
-    let alloc = rt.alloc();
-    let none = CallList {
-        items: Vec::new(alloc),
-    };
-    let fetch = MemFetch::new(alloc, replies(alloc)?, none)?;
-    let sure = SureFetch::new(alloc, replies(alloc)?)?;
+fn fetches_go_to_threads(rt: HostRuntime) -> Result<(), Fail> {
+    let fetch = failing_fetch(rt.alloc(), &[])?;
+    let child = thread::spawn(&rt, move || drop(fetch))?;
+    child.join(&rt);
+    let sure = sure_fetch(rt.alloc())?;
+    let child = thread::spawn(&rt, move || drop(sure))?;
+    child.join(&rt);
+    Ok(())
+}
+
+#[test]
+fn clocks_go_to_threads(rt: HostRuntime) -> Result<(), Fail> {
     let mut clock = MemClock::new(MomentList {
-        items: vec![in alloc; 3]?,
+        items: vec![in rt.alloc(); 3]?,
     })?;
-    let system = SystemClock::new(rt.clone()?);
-    let link = TcpLink::new(rt.clone()?);
-    let child = thread::spawn(&rt, move || {
-        drop((fetch, sure));
-        drop((system, link));
-        clock.now()
-    })?;
+    let child = thread::spawn(&rt, move || clock.now())?;
     assert_eq!(rt; child.join(&rt), 3);
+    Ok(())
+}
+
+#[test]
+fn links_and_the_system_clock_go_to_threads(rt: HostRuntime) -> Result<(), Fail> {
+    let system = SystemClock::new(rt.clone()?);
+    let child = thread::spawn(&rt, move || drop(system))?;
+    child.join(&rt);
+    let link = TcpLink::new(rt.clone()?);
+    let child = thread::spawn(&rt, move || drop(link))?;
+    child.join(&rt);
     Ok(())
 }
 

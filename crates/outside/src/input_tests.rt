@@ -1,8 +1,15 @@
 use super::*;
-use label_set::{Blob, Name};
+use crate::tests::{calls, put_two, taken};
+use label_set::{Blob, Name, NoMemory};
+use std::alloc::Global;
 use std::fs;
 use std::process::Abort;
 use std::test::Fail;
+
+/// A source of three bytes whose reads fail at these calls.
+fn source(alloc: Global, fails: &[u64]) -> Result<MemSource, NoMemory> {
+    MemSource::new(Blob::from_slice(alloc, b"abc")?, calls(alloc, fails)?)
+}
 
 /// What a source of three bytes gives in reads of two.
 fn three_bytes<S: Source>(rt: &impl Abort, source: &mut S) {
@@ -16,34 +23,41 @@ fn three_bytes<S: Source>(rt: &impl Abort, source: &mut S) {
 
 #[test]
 fn sources_give_their_bytes(rt: HostRuntime) -> Result<(), Fail> {
-    let alloc = rt.alloc();
-    three_bytes(&rt, &mut SureSource::new(Blob::from_slice(alloc, b"abc")?)?);
-    let none = CallList {
-        items: Vec::new(alloc),
-    };
-    three_bytes(
-        &rt,
-        &mut MemSource::new(Blob::from_slice(alloc, b"abc")?, none)?,
-    );
+    let mut sure = SureSource::new(Blob::from_slice(rt.alloc(), b"abc")?)?;
+    three_bytes(&rt, &mut sure);
+    Ok(())
+}
+
+#[test]
+fn sources_whose_calls_may_fail_give_their_bytes(rt: HostRuntime) -> Result<(), Fail> {
+    let mut source = source(rt.alloc(), &[])?;
+    three_bytes(&rt, &mut source);
+    Ok(())
+}
+
+#[test]
+fn files_give_their_bytes(rt: HostRuntime) -> Result<(), Fail> {
     fs::write(&rt, "three", "abc")?;
-    three_bytes(&rt, &mut StdSource::new(fs::open(&rt, "three")?));
+    let mut source = StdSource::new(fs::open(&rt, "three")?);
+    three_bytes(&rt, &mut source);
     fs::remove_file(&rt, "three")?;
     Ok(())
 }
 
 #[test]
 fn a_source_fails_at_the_calls_of_its_list(rt: HostRuntime) -> Result<(), Fail> {
-    let alloc = rt.alloc();
-    let second = CallList {
-        items: vec![in alloc; 1]?,
-    };
-    let mut source = MemSource::new(Blob::from_slice(alloc, b"abc")?, second)?;
+    let mut source = source(rt.alloc(), &[1])?;
     let mut room = [0u8; 2];
     assert_eq!(rt; source.read(&mut room), Ok(2));
     assert_eq!(rt; source.read(&mut room), Err(SourceFault));
     assert_eq!(rt; source.read(&mut room), Ok(1));
-    // a file that is only written gives nothing
+    Ok(())
+}
+
+#[test]
+fn a_file_that_is_only_written_gives_nothing(rt: HostRuntime) -> Result<(), Fail> {
     let mut closed = StdSource::new(fs::create(&rt, "closed")?);
+    let mut room = [0u8; 2];
     assert_eq!(rt; closed.read(&mut room), Err(SourceFault));
     fs::remove_file(&rt, "closed")?;
     Ok(())
@@ -51,16 +65,20 @@ fn a_source_fails_at_the_calls_of_its_list(rt: HostRuntime) -> Result<(), Fail> 
 
 #[test]
 fn a_clock_reads_its_list(rt: HostRuntime) -> Result<(), Fail> {
-    let alloc = rt.alloc();
     let mut clock = MemClock::new(MomentList {
-        items: vec![in alloc; 3, 5]?,
+        items: vec![in rt.alloc(); 3, 5]?,
     })?;
     assert_eq!(rt; clock.now(), 3);
     clock.wait_until(9);
     assert_eq!(rt; clock.now(), 5);
     assert_eq!(rt; clock.now(), 5);
+    Ok(())
+}
+
+#[test]
+fn a_clock_with_no_list_reads_nothing(rt: HostRuntime) -> Result<(), Fail> {
     let mut empty = MemClock::new(MomentList {
-        items: Vec::new(alloc),
+        items: Vec::new(rt.alloc()),
     })?;
     assert_eq!(rt; empty.now(), 0);
     Ok(())
@@ -79,16 +97,16 @@ fn the_system_clock_waits(rt: HostRuntime) -> Result<(), Fail> {
 
 #[test]
 fn a_file_is_made_at_the_first_put(rt: HostRuntime) -> Result<(), Fail> {
-    let alloc = rt.alloc();
-    let mut sink = FileSink::new(rt.clone()?, Name::from_str(alloc, "trail")?);
+    let mut sink = FileSink::new(rt.clone()?, Name::from_str(rt.alloc(), "trail")?);
     assert!(rt; fs::open(&rt, "trail").is_err());
-    assert_eq!(rt; sink.put(b"one "), Ok(()));
-    assert_eq!(rt; sink.put(b"two\n"), Ok(()));
-    let written = fs::read(&rt, "trail")?;
-    fs::remove_file(&rt, "trail")?;
-    assert_eq!(rt; written.as_slice(), b"one two\n".as_slice());
-    // no file can be made in a folder that isn't there
-    let mut lost = FileSink::new(rt.clone()?, Name::from_str(alloc, "none/trail")?);
+    put_two(&rt, &mut sink);
+    assert_eq!(rt; taken(&rt, "trail")?.as_slice(), b"one two\n".as_slice());
+    Ok(())
+}
+
+#[test]
+fn no_file_is_made_in_a_folder_that_is_not_there(rt: HostRuntime) -> Result<(), Fail> {
+    let mut lost = FileSink::new(rt.clone()?, Name::from_str(rt.alloc(), "none/trail")?);
     assert_eq!(rt; lost.put(b"one"), Err(SinkFault));
     Ok(())
 }

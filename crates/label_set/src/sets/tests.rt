@@ -1,17 +1,60 @@
+ghost use Rattle.std.specs.Prelude.{◌<◌, length, IfOk};
+
 use super::*;
 use crate::labels::lent;
 use crate::names::is_metric_name;
 use crate::set_list::SetList;
 use crate::texts::{Blob, Name, NameList, Pair, PairList};
+use std::alloc::AllocError;
 use std::hash::DefaultHasher;
 use std::test::Fail;
 
+/// The set that labels make, put in one after another.
 fn set_of(alloc: Global, labels: &[(&str, &str)]) -> Result<LabelSet, LabelError> {
     let mut set = LabelSet::empty();
     for label in labels {
         set = set.with(alloc, label.0, label.1)?;
     }
     Ok(set)
+}
+
+/// The set with `a` and `job`, after a value that went and a name that came and went.
+fn two_labels(alloc: Global) -> Result<LabelSet, LabelError> {
+    set_of(
+        alloc,
+        &[
+            ("job", "x"),
+            ("a", "1"),
+            ("job", "y"),
+            ("b", "2"),
+            ("b", ""),
+        ],
+    )
+}
+
+/// Labels of copies of their texts.
+fn pairs_of(alloc: Global, labels: &[(&str, &str)]) -> Result<Vec<Pair>, NoMemory> {
+    let mut pairs = Vec::new(alloc);
+    for label in labels {
+        pairs.push(Pair::from_strs(alloc, label.0, label.1)?)?;
+    }
+    Ok(pairs)
+}
+
+/// The set that labels make, lent of those that are owned.
+fn set_of_lent(alloc: Global, labels: &[(&str, &str)]) -> Result<LabelSet, NoMemory> {
+    let pairs = pairs_of(alloc, labels)?;
+    LabelSet::of(alloc, lent(alloc, pairs.as_slice())?.as_slice())
+}
+
+/// The names and values of a set, one behind the other.
+fn texts_of(alloc: Global, set: &LabelSet) -> Result<String, AllocError> {
+    let mut text = String::new(alloc);
+    for label in set.labels() {
+        text.push_str(label.name)?;
+        text.push_str(label.value)?;
+    }
+    Ok(text)
 }
 
 fn is_shared_by_threads<T: Send + Sync>(_value: &T) -> bool {
@@ -26,18 +69,27 @@ fn hash_of(set: &LabelSet) -> u64 {
 
 #[test]
 fn texts_are_copied(rt: HostRuntime) -> Result<(), Fail> {
-    let alloc = rt.alloc();
-    let name = Name::from_str(alloc, "job")?.copy(alloc)?;
+    let name = Name::from_str(rt.alloc(), "job")?.copy(rt.alloc())?;
     assert_eq!(rt; name.as_str(), "job");
-    let blob = Blob::from_slice(alloc, b"\x00a")?.copy(alloc)?;
-    assert_eq!(rt; blob.as_slice(), b"\x00a".as_slice());
-    let pair = Pair::from_strs(alloc, "a", "b")?.copy(alloc)?;
     let names = NameList {
-        items: vec![in alloc; name]?,
+        items: vec![in rt.alloc(); name]?,
     };
     assert_eq!(rt; names.as_slice().len(), 1);
+    Ok(())
+}
+
+#[test]
+fn bytes_are_copied(rt: HostRuntime) -> Result<(), Fail> {
+    let blob = Blob::from_slice(rt.alloc(), b"\x00a")?.copy(rt.alloc())?;
+    assert_eq!(rt; blob.as_slice(), b"\x00a".as_slice());
+    Ok(())
+}
+
+#[test]
+fn labels_are_copied(rt: HostRuntime) -> Result<(), Fail> {
+    let pair = Pair::from_strs(rt.alloc(), "a", "b")?.copy(rt.alloc())?;
     let pairs = PairList {
-        items: vec![in alloc; pair]?,
+        items: vec![in rt.alloc(); pair]?,
     };
     assert_eq!(rt; pairs.as_slice()[0].value.as_str(), "b");
     Ok(())
@@ -63,94 +115,138 @@ fn names_are_told_apart(rt: HostRuntime) {
 
 #[test]
 fn labels_come_and_go(rt: HostRuntime) -> Result<(), Fail> {
-    let alloc = rt.alloc();
-    let set = set_of(
-        alloc,
-        &[
-            ("job", "x"),
-            ("a", "1"),
-            ("job", "y"),
-            ("b", "2"),
-            ("b", ""),
-        ],
-    )?;
+    let set = two_labels(rt.alloc())?;
     assert_eq!(rt; set.len(), 2);
     assert_eq!(rt; set.get("job"), Some("y"));
     assert_eq!(rt; set.get("b"), None);
     assert_eq!(rt; set.at(0), Some(("a", "1")));
     assert_eq!(rt; set.at(2), None);
-    assert!(rt; matches!(set.with(alloc, "a-b", "1"), Err(LabelError::BadName)));
+    Ok(())
+}
+
+#[test]
+fn a_name_is_looked_at(rt: HostRuntime) -> Result<(), Fail> {
+    let set = two_labels(rt.alloc())?;
+    let refused = set.with(rt.alloc(), "a-b", "1");
+    assert!(rt; matches!(refused, Err(LabelError::BadName)));
+    Ok(())
+}
+
+#[test]
+fn a_copy_is_the_same_set(rt: HostRuntime) -> Result<(), Fail> {
+    let set = two_labels(rt.alloc())?;
     let copy = set.copy()?;
     assert!(rt; copy == set && is_shared_by_threads(&copy));
-    let less = set.without(alloc, "a")?;
+    Ok(())
+}
+
+#[test]
+fn a_name_is_taken_out(rt: HostRuntime) -> Result<(), Fail> {
+    let set = two_labels(rt.alloc())?;
+    let less = set.without(rt.alloc(), "a")?;
     assert_eq!(rt; less.len(), 1);
     assert!(rt; less.cmp(&set).is_gt() && LabelSet::empty().is_empty());
-    let made = LabelSet::from_labels(alloc, &[])?;
+    Ok(())
+}
+
+#[test]
+fn sets_are_listed(rt: HostRuntime) -> Result<(), Fail> {
+    let less = set_of(rt.alloc(), &[("job", "y")])?;
+    let made = LabelSet::from_labels(rt.alloc(), &[])?;
     let sets = SetList {
-        items: vec![in alloc; made, less]?,
+        items: vec![in rt.alloc(); made, less]?,
     };
     assert_eq!(rt; sets.as_slice().len(), 2);
     Ok(())
 }
 
+/// Labels in no order, some of them with one name.
+const ANY_ORDER: [(&str, &str); 6] = [
+    ("job", "x"),
+    ("é", "ü"),
+    ("a", "1"),
+    ("job", "y"),
+    ("b", "2"),
+    ("b", ""),
+];
+
 #[test]
 fn labels_come_in_any_order(rt: HostRuntime) -> Result<(), Fail> {
-    let alloc = rt.alloc();
-    let pairs = vec![in alloc;
-        Pair::from_strs(alloc, "job", "x")?,
-        Pair::from_strs(alloc, "é", "ü")?,
-        Pair::from_strs(alloc, "a", "1")?,
-        Pair::from_strs(alloc, "job", "y")?,
-        Pair::from_strs(alloc, "b", "2")?,
-        Pair::from_strs(alloc, "b", "")?,
-    ]?;
-    let set = LabelSet::of(alloc, lent(alloc, pairs.as_slice())?.as_slice())?;
-    let mut text = String::new(alloc);
-    for label in set.labels() {
-        text.push_str(label.name)?;
-        text.push_str(label.value)?;
-    }
-    assert_eq!(rt; text.as_str(), "a1jobyéü");
-    let rising = set_of(alloc, &[("a", "1"), ("job", "y")])?;
-    assert!(rt; !(rising == set) && rising.cmp(&set).is_lt());
-    assert_eq!(rt;
-        hash_of(&rising),
-        hash_of(&set_of(alloc, &[("job", "y"), ("a", "1")])?)
-    );
-    let none = [pairs[4].label(), pairs[5].label()];
-    assert!(rt; LabelSet::of(alloc, &none)? == LabelSet::empty());
+    let set = set_of_lent(rt.alloc(), &ANY_ORDER)?;
+    assert_eq!(rt; texts_of(rt.alloc(), &set)?.as_str(), "a1jobyéü");
+    let none = set_of_lent(rt.alloc(), &[("b", "2"), ("b", "")])?;
+    assert!(rt; none == LabelSet::empty());
     Ok(())
 }
 
 #[test]
+fn sets_are_compared(rt: HostRuntime) -> Result<(), Fail> {
+    let set = set_of_lent(rt.alloc(), &ANY_ORDER)?;
+    let rising = set_of(rt.alloc(), &[("a", "1"), ("job", "y")])?;
+    assert!(rt; !(rising == set) && rising.cmp(&set).is_lt());
+    Ok(())
+}
+
+#[test]
+fn the_order_of_labels_changes_no_hash(rt: HostRuntime) -> Result<(), Fail> {
+    let rising = set_of(rt.alloc(), &[("a", "1"), ("job", "y")])?;
+    let falling = set_of(rt.alloc(), &[("job", "y"), ("a", "1")])?;
+    assert_eq!(rt; hash_of(&rising), hash_of(&falling));
+    Ok(())
+}
+
+/// Labels, and the text of their set.
+const PRINTED: [(&[(&str, &str)], &str); 7] = [
+    (&[], "{}"),
+    (&[("__name__", "up")], "up"),
+    (&[("b", "2"), ("a", "1")], "{a=\"1\",b=\"2\"}"),
+    (
+        &[("__name__", "up"), ("job", "x"), ("Z", "z")],
+        "up{Z=\"z\",job=\"x\"}",
+    ),
+    (
+        &[("__name__", "a:b"), ("path", "C:\\ \"q\"\n")],
+        "a:b{path=\"C:\\\\ \\\"q\\\"\\n\"}",
+    ),
+    (&[("__name__", "a\"b")], "{\"a\\\"b\"}"),
+    (
+        &[("__name__", "no metric"), ("a", "1")],
+        "{\"no metric\",a=\"1\"}",
+    ),
+];
+
+/// The text of a set, appended to one byte.
+fn appended(alloc: Global, set: &LabelSet) -> Result<Vec<u8>, NoMemory>
+    ensures { IfOk result (λ t. 0 < length t.items) }
+{
+    let mut text = vec![in alloc; b'>']?;
+    set.append_text(&mut text)?;
+    Ok(text)
+}
+
+/// The text of a set, written behind one byte.
+fn written(alloc: Global, set: &LabelSet) -> Result<Vec<u8>, NoMemory> {
+    let mut text = vec![in alloc; b'>']?;
+    set.write_text(alloc, &mut text)?;
+    Ok(text)
+}
+
+#[test]
 fn sets_are_printed(rt: HostRuntime) -> Result<(), Fail> {
-    let alloc = rt.alloc();
-    let cases: [(&[(&str, &str)], &str); 7] = [
-        (&[], "{}"),
-        (&[("__name__", "up")], "up"),
-        (&[("b", "2"), ("a", "1")], "{a=\"1\",b=\"2\"}"),
-        (
-            &[("__name__", "up"), ("job", "x"), ("Z", "z")],
-            "up{Z=\"z\",job=\"x\"}",
-        ),
-        (
-            &[("__name__", "a:b"), ("path", "C:\\ \"q\"\n")],
-            "a:b{path=\"C:\\\\ \\\"q\\\"\\n\"}",
-        ),
-        (&[("__name__", "a\"b")], "{\"a\\\"b\"}"),
-        (
-            &[("__name__", "no metric"), ("a", "1")],
-            "{\"no metric\",a=\"1\"}",
-        ),
-    ];
-    for (labels, text) in cases {
-        let set = set_of(alloc, labels)?;
-        let mut out = vec![in alloc; b'>']?;
-        set.append_text(&mut out)?;
+    for (labels, text) in PRINTED {
+        let set = set_of(rt.alloc(), labels)?;
+        let out = appended(rt.alloc(), &set)?;
         assert_eq!(rt; &out[1..], text.as_bytes(), "{text}");
-        let mut written = vec![in alloc; b'>']?;
-        set.write_text(alloc, &mut written)?;
-        assert_eq!(rt; written, out);
+    }
+    Ok(())
+}
+
+#[test]
+fn a_text_is_written_as_it_is_appended(rt: HostRuntime) -> Result<(), Fail> {
+    for (labels, _) in PRINTED {
+        let set = set_of(rt.alloc(), labels)?;
+        let out = appended(rt.alloc(), &set)?;
+        assert_eq!(rt; written(rt.alloc(), &set)?, out);
     }
     Ok(())
 }

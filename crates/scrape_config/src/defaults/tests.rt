@@ -22,6 +22,14 @@ fn push_targets(text: &mut String, count: usize) -> Result<(), Fail> {
     Ok(())
 }
 
+/// Whether two groups with so many targets have too many of them.
+fn are_crowded(alloc: Global, first: usize, second: usize) -> Result<bool, Fail> {
+    match groups(alloc, first, second)?.as_array() {
+        Some(items) => Ok(has_too_many_targets(items.as_slice())),
+        None => Err(Fail::from("no list")),
+    }
+}
+
 #[test]
 fn ten_thousand_targets_are_not_too_many(rt: HostRuntime) -> Result<(), Fail> {
     for (first, second, want) in [
@@ -30,15 +38,8 @@ fn ten_thousand_targets_are_not_too_many(rt: HostRuntime) -> Result<(), Fail> {
         (10_001, 0, true),
         (0, 10_000, false),
     ] {
-        let value = groups(rt.alloc(), first, second)?;
-        let Some(items) = value.as_array() else {
-            return Err(Fail::from("no list"));
-        };
-        assert_eq!(rt;
-            has_too_many_targets(items.as_slice()),
-            want,
-            "{first} {second}"
-        );
+        let crowded = are_crowded(rt.alloc(), first, second)?;
+        assert_eq!(rt; crowded, want, "{first} {second}");
     }
     Ok(())
 }

@@ -1,4 +1,6 @@
 use super::*;
+use crate::conf::Group;
+use label_set::Pair;
 use std::alloc::AllocError;
 use std::test::Fail;
 
@@ -42,53 +44,68 @@ fn list(alloc: Global, count: usize, before: &str, behind: &str) -> Result<Strin
     Ok(text)
 }
 
-/// What stands before and behind a list, and before and behind the number of each of its items; how many items, and what is said.
-const LISTS: [(&str, &str, &str, &str, usize, &str); 6] = [
+/// What is said of a configuration with a list of so many items. Of the four texts two stand before and behind the list, and two
+/// before and behind the number of each item.
+fn said_of_list(
+    alloc: Global,
+    texts: (&str, &str, &str, &str),
+    count: usize,
+) -> Result<String, Fail> {
+    let (before, behind, open, close) = texts;
+    let items = list(alloc, count, open, close)?;
+    let text = format!(in alloc; "{before}{items}{behind}")?;
+    answer(alloc, text.as_bytes())
+}
+
+/// The texts of lists, how many items they have, and what is said.
+const LISTS: [((&str, &str, &str, &str), usize, &str); 6] = [
     (
-        r#"{"scrape_configs":"#,
-        "}",
-        r#"{"job_name":""#,
-        r#""}"#,
+        (r#"{"scrape_configs":"#, "}", r#"{"job_name":""#, r#""}"#),
         1000,
         "ok 1000",
     ),
     (
-        r#"{"scrape_configs":"#,
-        "}",
-        r#"{"job_name":""#,
-        r#""}"#,
+        (r#"{"scrape_configs":"#, "}", r#"{"job_name":""#, r#""}"#),
         1001,
         "TooMany /scrape_configs 1000",
     ),
     (
-        r#"{"scrape_configs":[{"job_name":"j","file_sd_configs":[{"files":"#,
-        r#"},{"files":["f0"]}]}]}"#,
-        r#""f"#,
-        r#"""#,
+        (
+            r#"{"scrape_configs":[{"job_name":"j","file_sd_configs":[{"files":"#,
+            r#"},{"files":["f0"]}]}]}"#,
+            r#""f"#,
+            r#"""#,
+        ),
         100,
         "ok 1",
     ),
     (
-        r#"{"scrape_configs":[{"job_name":"j","file_sd_configs":[{"files":"#,
-        r#"},{"files":["f0"]}]}]}"#,
-        r#""f"#,
-        r#"""#,
+        (
+            r#"{"scrape_configs":[{"job_name":"j","file_sd_configs":[{"files":"#,
+            r#"},{"files":["f0"]}]}]}"#,
+            r#""f"#,
+            r#"""#,
+        ),
         101,
         "TooMany /scrape_configs/0/file_sd_configs 100",
     ),
     (
-        r#"{"scrape_configs":[{"job_name":"j","static_configs":[{"targets":"#,
-        r#"},{"targets":["t"]}]}]}"#,
-        r#""t"#,
-        r#"""#,
+        (
+            r#"{"scrape_configs":[{"job_name":"j","static_configs":[{"targets":"#,
+            r#"},{"targets":["t"]}]}]}"#,
+            r#""t"#,
+            r#"""#,
+        ),
         9999,
         "ok 1",
     ),
     (
-        r#"{"scrape_configs":[{"job_name":"j","static_configs":[{"targets":"#,
-        r#"},{"targets":["t"]}]}]}"#,
-        r#""t"#,
-        r#"""#,
+        (
+            r#"{"scrape_configs":[{"job_name":"j","static_configs":[{"targets":"#,
+            r#"},{"targets":["t"]}]}]}"#,
+            r#""t"#,
+            r#"""#,
+        ),
         10000,
         "TooMany /scrape_configs/0/static_configs 10000",
     ),
@@ -96,11 +113,8 @@ const LISTS: [(&str, &str, &str, &str, usize, &str); 6] = [
 
 #[test]
 fn lists_have_limits(rt: HostRuntime) -> Result<(), Fail> {
-    let alloc = rt.alloc();
-    for (before, behind, open, close, count, said) in LISTS {
-        let items = list(alloc, count, open, close)?;
-        let text = format!(in alloc; "{before}{items}{behind}")?;
-        assert_eq!(rt; answer(alloc, text.as_bytes())?.as_str(), said);
+    for (texts, count, said) in LISTS {
+        assert_eq!(rt; said_of_list(rt.alloc(), texts, count)?.as_str(), said);
     }
     Ok(())
 }
@@ -114,34 +128,67 @@ fn name(alloc: Global, count: usize) -> Result<String, AllocError> {
     Ok(text)
 }
 
+/// What is said of a configuration with a job whose name has so many bytes.
+fn said_of_name(alloc: Global, count: usize) -> Result<String, Fail> {
+    let name = name(alloc, count)?;
+    let text = format!(in alloc; "{{\"scrape_configs\":[{{\"job_name\":\"{name}\"}}]}}")?;
+    answer(alloc, text.as_bytes())
+}
+
 #[test]
 fn names_have_limits(rt: HostRuntime) -> Result<(), Fail> {
-    let alloc = rt.alloc();
     for (count, said) in [(4096, "ok 1"), (4097, "Value /scrape_configs/0/job_name")] {
-        let name = name(alloc, count)?;
-        let text = format!(in alloc; "{{\"scrape_configs\":[{{\"job_name\":\"{name}\"}}]}}")?;
-        assert_eq!(rt; answer(alloc, text.as_bytes())?.as_str(), said);
+        assert_eq!(rt; said_of_name(rt.alloc(), count)?.as_str(), said);
     }
     Ok(())
 }
 
+/// Adds texts with a space behind each.
+fn push_names(text: &mut String, names: &[Name]) -> Result<(), AllocError> {
+    for name in names {
+        text.push_str(name.as_str())?;
+        text.push(' ')?;
+    }
+    Ok(())
+}
+
+/// Adds the names of labels with a space behind each.
+fn push_label_names(text: &mut String, labels: &[Pair]) -> Result<(), AllocError> {
+    for label in labels {
+        text.push_str(label.name.as_str())?;
+        text.push(' ')?;
+    }
+    Ok(())
+}
+
+/// The targets of groups, and the names of their labels behind a bar.
+fn groups_text(alloc: Global, groups: &[Group]) -> Result<String, AllocError> {
+    let mut text = String::new(alloc);
+    for group in groups {
+        push_names(&mut text, group.targets.as_slice())?;
+        text.push('|')?;
+        push_label_names(&mut text, group.labels.as_slice())?;
+        text.push('/')?;
+    }
+    Ok(text)
+}
+
+/// The groups of the list of a file, or its fault.
+fn said_of_groups(alloc: Global, text: &str) -> Result<String, Fail> {
+    match read_groups(alloc, text.as_bytes(), "f.json") {
+        Ok(groups) => Ok(groups_text(alloc, groups.as_slice())?),
+        Err(ConfError::Bad(fault)) => Ok(fault_text(alloc, &fault)?),
+        Err(ConfError::NoMemory) => Err(Fail::from(AllocError)),
+    }
+}
+
 #[test]
 fn lists_of_files_are_read(rt: HostRuntime) -> Result<(), Fail> {
-    let alloc = rt.alloc();
-    let groups = read_groups(
-        alloc,
-        br#"[{"targets":["a:1"],"labels":{"env":"p"}},{}]"#,
-        "f.json",
-    )?;
-    assert_eq!(rt; groups.as_slice().len(), 2);
-    let group = &groups.as_slice()[0];
-    let targets = group.targets.as_slice();
-    assert_eq!(rt; targets.len(), 1);
-    assert_eq!(rt; targets[0].as_str(), "a:1");
-    let labels = group.labels.as_slice();
-    assert_eq!(rt; labels.len(), 1);
-    assert_eq!(rt; labels[0].name.as_str(), "env");
     for (text, said) in [
+        (
+            r#"[{"targets":["a:1"],"labels":{"env":"p"}},{}]"#,
+            "a:1 |env /|/",
+        ),
         ("{}", "Shape "),
         ("[1]", "Shape /0"),
         (r#"[{},{"targets":["a",1]}]"#, "Shape /1/targets/1"),
@@ -149,10 +196,7 @@ fn lists_of_files_are_read(rt: HostRuntime) -> Result<(), Fail> {
         (r#"[{"labels":{"":"x"}}]"#, "Value /0/labels"),
         ("x", "NotJson"),
     ] {
-        let Err(ConfError::Bad(fault)) = read_groups(alloc, text.as_bytes(), "f.json") else {
-            return Err(Fail::from(AllocError));
-        };
-        assert!(rt; fault_text(alloc, &fault)?.as_str() == said, "{text}");
+        assert_eq!(rt; said_of_groups(rt.alloc(), text)?.as_str(), said, "{text}");
     }
     Ok(())
 }

@@ -15,6 +15,13 @@ fn job(alloc: Global, text: &str) -> Result<JobConf, Fail> {
 const OLD: &str =
     r#"{"job_name":"web","params":{"a":["1"]},"relabel_configs":[{"target_label":"t"}]}"#;
 
+/// Whether a job is compatible with it, and whether all their settings are the same.
+fn compared(alloc: Global, text: &str) -> Result<(bool, bool), Fail> {
+    let old = job(alloc, OLD)?;
+    let new = job(alloc, text)?;
+    Ok((old.compatible(&new), old.same(&new)))
+}
+
 /// Jobs that are compatible with it, and whether all their settings are the same.
 const COMPATIBLE: [(&str, bool); 5] = [
     (
@@ -55,22 +62,16 @@ const INCOMPATIBLE: [&str; 10] = [
 
 #[test]
 fn settings_are_compared_after_defaults(rt: HostRuntime) -> Result<(), Fail> {
-    let old = job(rt.alloc(), OLD)?;
     for (text, same) in COMPATIBLE {
-        let new = job(rt.alloc(), text)?;
-        assert!(rt; old.compatible(&new), "{text}");
-        assert_eq!(rt; old.same(&new), same, "{text}");
+        assert!(rt; compared(rt.alloc(), text)? == (true, same), "{text}");
     }
     Ok(())
 }
 
 #[test]
 fn names_flags_and_lists_are_to_be_the_same(rt: HostRuntime) -> Result<(), Fail> {
-    let old = job(rt.alloc(), OLD)?;
     for text in INCOMPATIBLE {
-        let new = job(rt.alloc(), text)?;
-        assert!(rt; !old.compatible(&new), "{text}");
-        assert!(rt; !old.same(&new), "{text}");
+        assert!(rt; compared(rt.alloc(), text)? == (false, false), "{text}");
     }
     Ok(())
 }

@@ -10,6 +10,10 @@ fn job_under(alloc: Global, conf: &str, job: &str) -> Result<JobConf, Fail> {
     Ok(job_of(alloc, base, &Value::from_str(alloc, job)?)?)
 }
 
+fn durations_text(alloc: Global, job: &JobConf) -> Result<String, AllocError> {
+    format!(in alloc; "{} {}", job.scrape_interval, job.scrape_timeout)
+}
+
 /// The name, interval, timeout, path, scheme and flags of a job.
 fn plain_text(alloc: Global, job: &JobConf) -> Result<String, AllocError> {
     let name = job.job_name.as_str();
@@ -74,6 +78,25 @@ fn rules_text(alloc: Global, rules: &[RuleConf]) -> Result<String, AllocError> {
     Ok(text)
 }
 
+/// The rules of a list.
+fn told_rules(alloc: Global, list: &str) -> Result<String, Fail> {
+    match Value::from_str(alloc, list)?.as_array() {
+        Some(values) => {
+            let rules = rules_of(alloc, values.as_slice())?;
+            Ok(rules_text(alloc, rules.as_slice())?)
+        }
+        None => Err(Fail::from("no list")),
+    }
+}
+
+/// The rules for targets and those for samples, a bar between.
+fn both_rules_text(alloc: Global, job: &JobConf) -> Result<String, AllocError> {
+    let mut text = rules_text(alloc, job.relabel.as_slice())?;
+    text.push('|')?;
+    text.push_str(rules_text(alloc, job.metric_relabel.as_slice())?.as_str())?;
+    Ok(text)
+}
+
 fn params_text(alloc: Global, params: &[Param]) -> Result<String, AllocError> {
     let mut text = String::new(alloc);
     for param in params {
@@ -98,6 +121,43 @@ fn groups_text(alloc: Global, groups: &[Group]) -> Result<String, AllocError> {
     Ok(text)
 }
 
+/// What is looked at of a job.
+#[derive(Clone, Copy)]
+enum Part {
+    Plain,
+    Durations,
+    Limits,
+    Rules,
+    Params,
+    Groups,
+    Files,
+}
+
+fn part_text(alloc: Global, job: &JobConf, part: Part) -> Result<String, AllocError> {
+    match part {
+        Part::Plain => plain_text(alloc, job),
+        Part::Durations => durations_text(alloc, job),
+        Part::Limits => limits_text(alloc, job.limits),
+        Part::Rules => both_rules_text(alloc, job),
+        Part::Params => params_text(alloc, job.params.as_slice()),
+        Part::Groups => groups_text(alloc, job.groups.as_slice()),
+        Part::Files => names_text(alloc, job.files.as_slice()),
+    }
+}
+
+/// A part of the job of two texts, a configuration with `global` and a job.
+fn told(alloc: Global, conf: &str, job: &str, part: Part) -> Result<String, Fail> {
+    let job = job_under(alloc, conf, job)?;
+    Ok(part_text(alloc, &job, part)?)
+}
+
+/// The groups of the list of a file.
+fn told_groups_of_file(alloc: Global, file: &str, list: &str) -> Result<String, Fail> {
+    let value = Value::from_str(alloc, list)?;
+    let groups = file_groups_of(alloc, file, &value)?;
+    Ok(groups_text(alloc, groups.as_slice())?)
+}
+
 #[test]
 fn plain_fields_have_what_is_said_or_defaults(rt: HostRuntime) -> Result<(), Fail> {
     let rows = [
@@ -111,64 +171,52 @@ fn plain_fields_have_what_is_said_or_defaults(rt: HostRuntime) -> Result<(), Fai
         ),
     ];
     for (text, want) in rows {
-        let job = job_under(rt.alloc(), "{}", text)?;
-        assert_eq!(rt; plain_text(rt.alloc(), &job)?.as_str(), want);
+        assert_eq!(rt; told(rt.alloc(), "{}", text, Part::Plain)?.as_str(), want);
     }
     Ok(())
 }
 
 /// Configurations and jobs, and the interval and the timeout that they give.
-const DURATIONS: [(&str, &str, (i64, i64)); 8] = [
+const DURATIONS: [(&str, &str, &str); 8] = [
     (
         r#"{"global":{"scrape_interval":"15s"}}"#,
         "{}",
-        (15_000, 10_000),
+        "15000 10000",
     ),
-    (
-        r#"{"global":{"scrape_interval":"5s"}}"#,
-        "{}",
-        (5_000, 5_000),
-    ),
+    (r#"{"global":{"scrape_interval":"5s"}}"#, "{}", "5000 5000"),
     (
         r#"{"global":{"scrape_timeout":"20s"}}"#,
         "{}",
-        (60_000, 20_000),
+        "60000 20000",
     ),
     (
         r#"{"global":{"scrape_interval":"15s","scrape_timeout":"15s"}}"#,
         r#"{"scrape_interval":"7s"}"#,
-        (7_000, 7_000),
+        "7000 7000",
     ),
     (
         r#"{"global":{"scrape_interval":"5s"}}"#,
         r#"{"scrape_interval":"1m"}"#,
-        (60_000, 5_000),
+        "60000 5000",
     ),
     (
         "{}",
         r#"{"scrape_interval":"0s","scrape_timeout":"0"}"#,
-        (60_000, 10_000),
+        "60000 10000",
     ),
     (
         "{}",
         r#"{"scrape_interval":"3s","scrape_timeout":"2s"}"#,
-        (3_000, 2_000),
+        "3000 2000",
     ),
-    (
-        r#"{"global":{"scrape_interval":"0"}}"#,
-        "{}",
-        (60_000, 10_000),
-    ),
+    (r#"{"global":{"scrape_interval":"0"}}"#, "{}", "60000 10000"),
 ];
 
 #[test]
 fn durations_stand_in_the_order_job_global_default(rt: HostRuntime) -> Result<(), Fail> {
     for (conf, text, want) in DURATIONS {
-        let job = job_under(rt.alloc(), conf, text)?;
-        assert!(rt;
-            (job.scrape_interval, job.scrape_timeout) == want,
-            "{conf} {text}"
-        );
+        let said = told(rt.alloc(), conf, text, Part::Durations)?;
+        assert!(rt; said.as_str() == want, "{conf} {text}");
     }
     Ok(())
 }
@@ -184,8 +232,7 @@ fn limits_come_from_global_where_a_job_says_none_or_0(rt: HostRuntime) -> Result
         ("{}", "{}", "0 0 0 0 0 0"),
     ];
     for (conf, text, want) in rows {
-        let limits = job_under(rt.alloc(), conf, text)?.limits;
-        assert_eq!(rt; limits_text(rt.alloc(), limits)?.as_str(), want);
+        assert_eq!(rt; told(rt.alloc(), conf, text, Part::Limits)?.as_str(), want);
     }
     Ok(())
 }
@@ -194,41 +241,24 @@ fn limits_come_from_global_where_a_job_says_none_or_0(rt: HostRuntime) -> Result
 fn rules_have_what_is_said_or_defaults(rt: HostRuntime) -> Result<(), Fail> {
     let text =
         r#"[{},{"source_labels":["a","b"],"separator":"-","regex":"x.*","modulus":8,"target_label":"t","replacement":"y","action":"HashMod"}]"#;
-    let value = Value::from_str(rt.alloc(), text)?;
-    let rules = match value.as_array() {
-        Some(values) => rules_of(rt.alloc(), values.as_slice())?,
-        None => return Err(Fail::from("no list")),
-    };
     let want = "; (.*) 0  $1 Replace/a b - x.* 8 t y HashMod/";
-    assert_eq!(rt; rules_text(rt.alloc(), rules.as_slice())?.as_str(), want);
+    assert_eq!(rt; told_rules(rt.alloc(), text)?.as_str(), want);
     Ok(())
 }
 
 #[test]
 fn each_list_of_rules_has_its_own(rt: HostRuntime) -> Result<(), Fail> {
     let text = r#"{"relabel_configs":[{"regex":"r"}],"metric_relabel_configs":[{"regex":"m"},{}]}"#;
-    let job = job_under(rt.alloc(), "{}", text)?;
-    let relabel = rules_text(rt.alloc(), job.relabel.as_slice())?;
-    let metric = rules_text(rt.alloc(), job.metric_relabel.as_slice())?;
-    let both = format!(in rt.alloc(); "{relabel}|{metric}")?;
-    assert_eq!(rt;
-        both.as_str(),
-        "; r 0  $1 Replace/|; m 0  $1 Replace/; (.*) 0  $1 Replace/"
-    );
+    let want = "; r 0  $1 Replace/|; m 0  $1 Replace/; (.*) 0  $1 Replace/";
+    assert_eq!(rt; told(rt.alloc(), "{}", text, Part::Rules)?.as_str(), want);
     Ok(())
 }
 
 #[test]
 fn params_rise_by_name_and_keep_the_order_of_values(rt: HostRuntime) -> Result<(), Fail> {
-    let job = job_under(
-        rt.alloc(),
-        "{}",
-        r#"{"params":{"module":["http_2xx"],"a":["2","1"]}}"#,
-    )?;
-    assert_eq!(rt;
-        params_text(rt.alloc(), job.params.as_slice())?.as_str(),
-        "a 2 1 /module http_2xx /"
-    );
+    let text = r#"{"params":{"module":["http_2xx"],"a":["2","1"]}}"#;
+    let want = "a 2 1 /module http_2xx /";
+    assert_eq!(rt; told(rt.alloc(), "{}", text, Part::Params)?.as_str(), want);
     Ok(())
 }
 
@@ -236,21 +266,18 @@ fn params_rise_by_name_and_keep_the_order_of_values(rt: HostRuntime) -> Result<(
 fn groups_have_targets_and_labels(rt: HostRuntime) -> Result<(), Fail> {
     let text =
         r#"{"static_configs":[{"targets":["b:1","a:2"],"labels":{"env":"p","dc":""}},{"targets":[]}]}"#;
-    let job = job_under(rt.alloc(), "{}", text)?;
-    assert_eq!(rt;
-        groups_text(rt.alloc(), job.groups.as_slice())?.as_str(),
-        "b:1 a:2 dc= env=p //"
-    );
+    let want = "b:1 a:2 dc= env=p //";
+    assert_eq!(rt; told(rt.alloc(), "{}", text, Part::Groups)?.as_str(), want);
     Ok(())
 }
 
 #[test]
 fn groups_of_a_file_name_it(rt: HostRuntime) -> Result<(), Fail> {
-    let value = Value::from_str(rt.alloc(), r#"[{"targets":["a:1"]},{"targets":["b:1"]}]"#)?;
-    let groups = file_groups_of(rt.alloc(), "x.json", &value)?;
+    let text = r#"[{"targets":["a:1"]},{"targets":["b:1"]}]"#;
+    let want = "a:1 x.json/b:1 x.json/";
     assert_eq!(rt;
-        groups_text(rt.alloc(), groups.as_slice())?.as_str(),
-        "a:1 x.json/b:1 x.json/"
+        told_groups_of_file(rt.alloc(), "x.json", text)?.as_str(),
+        want
     );
     Ok(())
 }
@@ -259,10 +286,7 @@ fn groups_of_a_file_name_it(rt: HostRuntime) -> Result<(), Fail> {
 fn files_stand_once_at_their_first_places(rt: HostRuntime) -> Result<(), Fail> {
     let text =
         r#"{"file_sd_configs":[{"files":["y.json","x.json","y.json"]},{"files":["x.json","z.json"]}]}"#;
-    let job = job_under(rt.alloc(), "{}", text)?;
-    assert_eq!(rt;
-        names_text(rt.alloc(), job.files.as_slice())?.as_str(),
-        "y.json x.json z.json "
-    );
+    let want = "y.json x.json z.json ";
+    assert_eq!(rt; told(rt.alloc(), "{}", text, Part::Files)?.as_str(), want);
     Ok(())
 }
