@@ -159,7 +159,7 @@ pub fn labels_in<'b>(
     text: &'b [u8],
     labels: &mut Vec<LentLabel<'b>>,
 ) -> Result<&'b [u8], Fault>
-    ensures labels { MatchResult result (λ rest. (more : List Pair) × (spec.labels_in (length text.now + 1) text.now ≡ Some (more, rest.now)) × (labels.new.items ≡ labels.old.items ++ more)) (λ f. FaultIs f (spec.labels_in (length text.now + 1) text.now)) }
+    ensures labels { MatchResult result (λ rest. (more : List Pair) × (spec.all_labels_in text.now ≡ Some (more, rest.now)) × (labels.new.items ≡ labels.old.items ++ more)) (λ f. FaultIs f (spec.all_labels_in text.now)) }
     ensures shorter { IfOk result (λ rest. length rest.now < length text.now) }
 {
     let mut left = text;

@@ -31,7 +31,7 @@ impl Model for ReportSets {
 
     ghost view = { λ s. s.target };
 
-    ghost invariant = { λ s. (s.up ≡ report_set s.target Up) × (s.duration ≡ report_set s.target Duration) × (s.scraped ≡ report_set s.target Scraped) × (s.left ≡ report_set s.target Left) × (s.added ≡ report_set s.target Added) };
+    ghost invariant = { λ s. let set = report_set s.target in (s.up ≡ set Up) × (s.duration ≡ set Duration) × (s.scraped ≡ set Scraped) × (s.left ≡ set Left) × (s.added ≡ set Added) };
 }
 
 impl ReportSets {

@@ -1,14 +1,17 @@
 -- What the rows of a body show of raw texts: each text that isn't known is put with its series, and each is stamped as shown.
 -- The rules for samples are run once for a text that isn't known ("Configuration" of the Prometheus documentation, scrape_config:
 -- metric_relabel_configs).
-use Rattle.std.specs.Prelude.{◌≡◌, ℕ, Bool, All, List, [], ◌∷◌, ◌++◌, map, Option, is_none, is_some, Result, Ok, Err, if◌then◌else◌}
+use Rattle.std.specs.Prelude.{◌≡◌, ℕ, ℤ, Bool, All, List, [], ◌∷◌, ◌++◌, map, Option, is_none, is_some, Result, Ok, Err, if◌then◌else◌}
 use Rattle.label_set.specs.declared.texts.Pair.{Pair}
 use Rattle.relabel.specs.declared.conf.RuleConf.{RuleConf}
 use Rattle.expo_reader.specs.Bodies.{reading}
 use Rattle.expo_reader.specs.declared.rows.BodyRow.{BodyRow}
+use Rattle.outside.specs.declared.replies.Reply.{Reply}
+use Rattle.sample_rows.specs.Outcomes.{rows_or_fault}
 use Rattle.sample_rows.specs.Rows.{row_series, own_stamp}
 use Rattle.sample_rows.specs.declared.fault.ScrapeFault.{ScrapeFault}
 use Rattle.sample_rows.specs.declared.scrape.RowRules.{RowRules}
+use Rattle.scrape_loop.specs.declared.known_rows.Terms.{Terms}
 use Rattle.series_cache.specs.Caches.{CacheView, find, stamped, undone}
 use Rattle.series_cache.specs.Remembered.{fresh}
 use Rattle.series_cache.specs.declared.known.Known.{Known}
@@ -53,6 +56,10 @@ shown_all rules metric target c (r ∷ rs) = shown_all rules metric target (show
 abbrev pub texts_by : RowRules → List RuleConf → List Pair → CacheView → Result (List BodyRow) ScrapeFault → CacheView
 texts_by rules metric target c (Ok rows) = shown_all rules metric target c rows
 texts_by rules metric target c (Err f) = c
+
+-- so for a reply by the terms of its target, and the milliseconds that the fetch took
+abbrev pub texts_shown : Terms → Reply → ℤ → CacheView → CacheView
+texts_shown t reply took c = texts_by t.rules.now t.metric.now t.target.now c (rows_or_fault t.rules.now reply took)
 
 -- what is known of a text is the series of each row that has the text
 abbrev pub IsRightFor : Bool → List RuleConf → List Pair → Text → BodyRow → Type 0

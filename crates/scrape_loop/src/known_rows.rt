@@ -3,7 +3,7 @@ ghost use Rattle.std.specs.Prelude.{◌≡◌, ◌≤◌, ◌+◌, ◌-◌, fals
 ghost use Rattle.expo_reader.specs.Bodies.{IsFit, reading};
 ghost use Rattle.label_conflict.specs.Merging.{bears};
 ghost use Rattle.label_set.specs.SetText.{metric_label};
-ghost use Rattle.sample_rows.specs.Outcomes.{body_of, of_early, or_line, outcome, rows_or_fault};
+ghost use Rattle.sample_rows.specs.Outcomes.{body_of, of_early, or_line, outcome};
 ghost use Rattle.scrape_loop.specs.Replies.{reading_of};
 ghost use Rattle.sample_rows.specs.Rows.{row_series, left_from, samples_of, first_fault};
 ghost use Rattle.series_cache.specs.Caches.{find, look_up, told, turned, undone, was_sets};
@@ -239,7 +239,7 @@ fn known_rows<L: Ledger>(
     requires nameless { bears terms.now.target.now metric_label ≡ false }
     requires right { spec.AreRight terms.now.rules.now.honor_labels terms.now.metric.now terms.now.target.now cache.old.texts }
     ensures outcome { IfOk result (λ s. s ≡ outcome terms.now.rules.now terms.now.metric.now terms.now.target.now reply.now took) }
-    ensures cache { OnOk result (cache.new ≡ spec.texts_by terms.now.rules.now terms.now.metric.now terms.now.target.now cache.old (rows_or_fault terms.now.rules.now reply.now took)) }
+    ensures cache { OnOk result (cache.new ≡ spec.texts_shown terms.now reply.now took cache.old) }
     ensures undone { undone cache.new ≡ undone cache.old }
     ensures steps { OnOk result (steps.new + length cache.old.texts ≡ steps.old + length cache.new.texts) }
     ensures at_least { steps.old ≤ steps.new }
@@ -269,12 +269,12 @@ pub fn shown_rows<L: Ledger>(
     requires kept { cache.old.kept ≤ length cache.old.texts }
     ensures outcome { IfOk result (λ s. s.scrape ≡ outcome terms.now.rules.now terms.now.metric.now terms.now.target.now reply.now took) }
     ensures shows { IfOk result (λ s. Shows cache.new s.scrape) }
-    ensures cache { IfOk result (λ s. turned (is_good s.scrape) cache.new ≡ turned (is_good s.scrape) (spec.texts_by terms.now.rules.now terms.now.metric.now terms.now.target.now cache.old (rows_or_fault terms.now.rules.now reply.now took))) }
+    ensures cache { IfOk result (λ s. turned (is_good s.scrape) cache.new ≡ turned (is_good s.scrape) (spec.texts_shown terms.now reply.now took cache.old)) }
     ensures was { OnOk result (was_sets cache.new.texts ≡ was_sets cache.old.texts) }
     ensures undone { undone cache.new ≡ cache.old }
     ensures err { OnErr result (cache.new ≡ cache.old) }
-    ensures steps { OnOk result (steps.new + length cache.old.texts ≡ steps.old + length (spec.texts_by terms.now.rules.now terms.now.metric.now terms.now.target.now cache.old (rows_or_fault terms.now.rules.now reply.now took)).texts) }
-    ensures runs { IfOk result (λ s. s.runs ≡ length (spec.texts_by terms.now.rules.now terms.now.metric.now terms.now.target.now cache.old (rows_or_fault terms.now.rules.now reply.now took)).texts - length cache.old.texts) }
+    ensures steps { OnOk result (steps.new + length cache.old.texts ≡ steps.old + length (spec.texts_shown terms.now reply.now took cache.old).texts) }
+    ensures runs { IfOk result (λ s. s.runs ≡ length (spec.texts_shown terms.now reply.now took cache.old).texts - length cache.old.texts) }
     ensures at_least { steps.old ≤ steps.new }
 {
     match known_rows(alloc, terms, reply, took, cache, steps) {

@@ -1,5 +1,5 @@
 -- What is worked out of a new configuration before anything changes.
-use Rattle.std.specs.Prelude.{◌≡◌, ℕ, ◌+◌, ℤ, Bool, true, false, not, ◌&&◌, List, [], ◌∷◌, ◌++◌, length, filter, slice_get, Option, Some, None, nat_eq, if◌then◌else◌}
+use Rattle.std.specs.Prelude.{◌≡◌, ℕ, ◌+◌, ℤ, Bool, true, false, not, ◌&&◌, ◌||◌, List, [], ◌∷◌, ◌++◌, length, filter, slice_get, Option, Some, None, nat_eq, if◌then◌else◌}
 use Rattle.std.specs.List.{list_any}
 use Rattle.std.specs.Ordering.{is_eq}
 use Rattle.label_set.specs.Sets.{set_cmp}
@@ -66,6 +66,10 @@ sits names place identity l = is_open l && (is_place place (place_in (job_name l
 
 abbrev pub IsHeld : Seats → List (List ℕ) → List Life → Type 0
 IsHeld seats names ls = (place : ℕ) (identity : List Pair) → has_seat seats place identity ≡ list_any (sits names place identity) ls
+
+-- held targets with that of a life, if it is open
+abbrev pub IsHeldWith : Seats → Seats → List (List ℕ) → Life → Type 0
+IsHeldWith new old names l = (place : ℕ) (identity : List Pair) → has_seat new place identity ≡ (sits names place identity l || has_seat old place identity)
 
 -- a life is closed
 abbrev pub closes : Fate → Bool

@@ -1,12 +1,10 @@
 //! What becomes of the lives when the configuration in force changes.
-ghost use Rattle.std.specs.Prelude.{◌≡◌, ◌≤◌, ◌<◌, ◌+◌, ◌++◌, ◌||◌, ◌^◌, [], map, length, filter, not, option_copied, IfOk, OnOk, OnErr, List, ℕ, ℤ, pos, false};
+ghost use Rattle.std.specs.Prelude.{◌≡◌, ◌≤◌, ◌<◌, ◌+◌, ◌++◌, ◌^◌, [], map, length, filter, not, option_copied, IfOk, OnOk, OnErr, ℤ, pos, false};
 ghost use Rattle.std.specs.List.{list_any};
 ghost use Rattle.journal_text.specs.Lines.{number};
-ghost use Rattle.label_set.specs.declared.texts.Pair.{Pair};
 ghost use Rattle.label_conflict.specs.Merging.{bears};
 ghost use Rattle.label_set.specs.SetText.{metric_label};
 ghost use Rattle.life_roll.specs.Names.{place_in};
-ghost use Rattle.life_roll.specs.Seats.{has_seat};
 ghost use Rattle.jobs_in_force.specs.Jobs as jobs_of;
 ghost use Rattle.jobs_in_force.specs.TargetWords.{HasNoName};
 ghost use Rattle.scrape_machine.specs.Lives as lives_of;
@@ -209,7 +207,7 @@ fn name_after<'a>(fate: &'a Fate, life: &'a Life) -> &'a Name
 
 /// Puts the target of a life into the held ones, if the life stays open.
 fn hold(held: &mut Seats, names: &JobNames, fate: &Fate, life: &Life) -> Result<(), NoMemory>
-    ensures { OnOk result ((moment : ℤ) (place : ℕ) (identity : List Pair) → has_seat held.new place identity ≡ (plan.sits names.now place identity (lives_of.life_after (plan.local_of moment fate.now) life.now) || has_seat held.old place identity)) }
+    ensures { OnOk result ((moment : ℤ) → plan.IsHeldWith held.new held.old names.now (lives_of.life_after (plan.local_of moment fate.now) life.now)) }
 {
     if closes(fate) || !is_open(life) {
         return Ok(());

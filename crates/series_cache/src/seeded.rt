@@ -6,8 +6,8 @@ use std::hash::{BuildHasher, DefaultHasher, Hasher};
 /// The prime by which what is left counts.
 const PRIME: u64 = 4_294_967_291;
 
-/// Takes bytes for the digits of a number, and keeps what a prime leaves of its value at a base. Two texts of so many bytes share that at no
-/// more than so many bases, so who doesn't know the base can't name many texts that share a hash.
+/// Takes bytes for the digits of a number, and keeps what a prime leaves of its value at a base. A text is hashed behind the eight bytes of its
+/// length, so two texts of at most n bytes share what is left at no more than n + 8 bases, and who doesn't know the base can't name many that do.
 #[derive(Clone, Copy)]
 pub struct TextHasher {
     base: u64,
