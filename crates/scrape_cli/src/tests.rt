@@ -1,4 +1,4 @@
-//! What text can't show: outside objects that fail at a call, and texts at their limits. All else is a case in `tests/cases/`.
+//! What text can't show: outside objects that fail at a call, and texts at their limits. All else is a case in `crates/scrape_cases`.
 mod cases;
 mod live;
 

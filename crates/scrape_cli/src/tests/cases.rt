@@ -1,5 +1,5 @@
-//! Cases as text: each block of the files in `cases/` is one call of the program over objects in memory. `checks/cases` runs the same
-//! blocks on the built program.
+//! Cases as text: each block of the files in `crates/scrape_cases/src/` is one call of the program over objects in memory. `checks/cases` runs
+//! the same blocks on the built program.
 //!
 //!     == NAME           a case, up to the next such line
 //!     $ WORD WORD       its words, with one blank between them; '' is the empty word
@@ -9,28 +9,14 @@
 //!
 //! In a part a line `\ 0d ff` stands for the bytes that it names, with no line feed behind them; a line `\` alone takes the line feed
 //! before it away.
-mod bodies;
-mod broken;
-mod checked;
-mod conflicts;
-mod endings;
-mod fields;
-mod flags;
-mod limits;
-mod relabelling;
-mod reloads;
-mod scripts;
-mod synths;
-mod targets;
-mod texts;
-mod updates;
-mod verdicts;
-mod words;
-
 use super::{ROOM, Ran, means_of, run_over};
 use label_set::{Blob, Name, NoMemory};
 use live_run::Means;
 use outside::{FileList, StoredFile, SureShelf};
+use scrape_cases::{
+    bodies, broken, checked, conflicts, endings, fields, flags, limits, relabelling, reloads,
+    scripts, synths, targets, texts, updates, verdicts, words,
+};
 use std::alloc::{AllocError, Global};
 use std::process::Abort;
 use std::str;
