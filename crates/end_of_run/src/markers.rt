@@ -45,8 +45,15 @@ pub fn ending_entries(alloc: Global, closing: &Closing) -> Result<EntryList, NoM
     }
     let moment = marker_moment(closing);
     let mut items = set_markers(alloc, closing.life, moment, closing.tracked.as_slice())?;
-    let reports = ReportSets::of(alloc, closing.target.copy()?)?;
-    let mut last = reports.markers(alloc, closing.life, moment)?;
+    let mut last = report_markers_of(alloc, closing, moment)?;
     items.append(&mut last.items)?;
     Ok(EntryList { items })
+}
+
+/// The markers of the five reports.
+fn report_markers_of(alloc: Global, closing: &Closing, moment: i64) -> Result<EntryList, NoMemory>
+    ensures { IfOk result (λ l. l ≡ markers.report_markers closing.now.life closing.now.target moment) }
+{
+    let reports = ReportSets::of(alloc, closing.target.copy()?)?;
+    reports.markers(alloc, closing.life, moment)
 }

@@ -65,43 +65,51 @@ fn line_of(event: &Event) -> Line
     }
 }
 
+/// The text of a line of a word and numbers.
+fn worded(alloc: Global, word: &str, numbers: &[u64]) -> Result<String, NoMemory>
+    ensures { IfOk result (λ t. string_bytes t ≡ lines.worded word.now numbers.now) }
+{
+    let mut text = String::from_str(alloc, word)?;
+    for number in numbers {
+        write!(text, " {number}")?;
+    }
+    text.push('\n')?;
+    Ok(text)
+}
+
 /// The text of a line.
 fn line_text(alloc: Global, line: Line) -> Result<String, NoMemory>
     ensures { IfOk result (λ t. string_bytes t ≡ lines.line_text line) }
 {
     match line {
-        Line::Load { moment, len } => Ok(format!(in alloc; "load {} {len}\n", to_number(moment))?),
+        Line::Load { moment, len } => worded(alloc, "load", &[to_number(moment), len as u64]),
         Line::Targets {
             moment,
             job,
             file,
             len,
-        } => Ok(format!(in alloc; "targets {} {job} {file} {len}\n", to_number(moment))?),
-        Line::Tick { moment, life } => Ok(format!(in alloc;
-            "tick {} {life}\n",
-            to_number(moment)
-        )?),
-        Line::Sweep { moment } => Ok(format!(in alloc; "sweep {}\n", to_number(moment))?),
+        } => worded(
+            alloc,
+            "targets",
+            &[to_number(moment), job as u64, file as u64, len as u64],
+        ),
+        Line::Tick { moment, life } => worded(alloc, "tick", &[to_number(moment), life]),
+        Line::Sweep { moment } => worded(alloc, "sweep", &[to_number(moment)]),
         Line::Body {
             took,
             ticket,
             status,
             len,
-        } => Ok(format!(in alloc; "body {} {ticket} {status} {len}\n", to_number(took))?),
-        Line::Lost { took, ticket } => Ok(format!(in alloc;
-            "lost {} {ticket}\n",
-            to_number(took)
-        )?),
-        Line::Garbled { took, ticket } => {
-            Ok(format!(in alloc; "garbled {} {ticket}\n", to_number(took))?)
-        }
-        Line::Unsent { took, ticket } => {
-            Ok(format!(in alloc; "unsent {} {ticket}\n", to_number(took))?)
-        }
-        Line::Oversize { took, ticket } => {
-            Ok(format!(in alloc; "oversize {} {ticket}\n", to_number(took))?)
-        }
-        Line::Halt { moment } => Ok(format!(in alloc; "halt {}\n", to_number(moment))?),
+        } => worded(
+            alloc,
+            "body",
+            &[to_number(took), ticket, u64::from(status), len as u64],
+        ),
+        Line::Lost { took, ticket } => worded(alloc, "lost", &[to_number(took), ticket]),
+        Line::Garbled { took, ticket } => worded(alloc, "garbled", &[to_number(took), ticket]),
+        Line::Unsent { took, ticket } => worded(alloc, "unsent", &[to_number(took), ticket]),
+        Line::Oversize { took, ticket } => worded(alloc, "oversize", &[to_number(took), ticket]),
+        Line::Halt { moment } => worded(alloc, "halt", &[to_number(moment)]),
     }
 }
 

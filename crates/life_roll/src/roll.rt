@@ -2,7 +2,7 @@
 ghost use Rattle.std.specs.Prelude.{◌≡◌, ◌≢◌, ℕ, ◌<◌, ◌≤◌, ◌+◌, ◌==◌, ◌++◌, [], length, map, filter, slice_get, None, option_map, if◌then◌else◌, IfOk, OnOk, OnErr, IsErrOf, IsSome};
 ghost use Rattle.journal_text.specs.Lines.{IsMoment, number};
 ghost use Rattle.life_roll.specs.Schedules.{scanned, landed as freed_schedule};
-ghost use Rattle.life_roll.specs.Wants.{HaveIntervals, terms_at, found};
+ghost use Rattle.life_roll.specs.Wants.{HaveIntervals, AreWishes, terms_at, found};
 ghost use Rattle.life_roll.specs.Counts.{AreDifferent, HaveOneEach, AreOpen};
 ghost use Rattle.life_roll.specs.Rolls.{Tells, room_of};
 ghost use Rattle.life_roll.specs.Rolls as spec;
@@ -51,6 +51,33 @@ fn commit(
     Ok(())
 }
 
+/// The lives that begin: those of the wanted targets without an open life.
+fn news(
+    alloc: Global,
+    moment: Moment,
+    wanted: &[Wanted],
+    wishes: &Wishes,
+    lives: &[Life],
+) -> Result<Vec<Life>, NoMemory>
+    requires intervals { HaveIntervals wanted.now }
+    requires wishes { AreWishes wishes.now wanted.now }
+    ensures { IfOk result (λ v. v.items ≡ spec.news_after moment wanted.now lives.now) }
+{
+    let taken = open_seats(alloc, moment, wishes, lives)?;
+    begun(alloc, moment, wanted, &taken)
+}
+
+/// How many lives closed and began, where both are below 2^32.
+fn counted(closed: usize, begun: usize) -> Result<Synced, NoMemory>
+    ensures closed { IfOk result (λ s. s.closed ≡ closed) }
+    ensures begun { IfOk result (λ s. s.begun ≡ begun) }
+{
+    match (u32::try_from(closed), u32::try_from(begun)) {
+        (Ok(closed), Ok(begun)) => Ok(Synced { closed, begun }),
+        _ => Err(NoMemory),
+    }
+}
+
 /// Compares lives with the wanted targets, and says how many lives closed and began.
 fn sync(
     lives: &mut Vec<Life>,
@@ -65,16 +92,10 @@ fn sync(
     ensures err { OnErr result (lives.new.items ≡ lives.old.items) }
 {
     let wishes = Wishes::of(alloc, wanted)?;
-    let taken = open_seats(alloc, moment, &wishes, lives)?;
-    let news = begun(alloc, moment, wanted, &taken)?;
-    let Ok(closed) = u32::try_from(count_closed(&wishes, lives)) else {
-        return Err(NoMemory);
-    };
-    let Ok(begun) = u32::try_from(news.len()) else {
-        return Err(NoMemory);
-    };
+    let news = news(alloc, moment, wanted, &wishes, lives)?;
+    let synced = counted(count_closed(&wishes, lives), news.len())?;
     commit(lives, moment, &wishes, news)?;
-    Ok(Synced { closed, begun })
+    Ok(synced)
 }
 
 /// Makes the scrape of a tick that is not refused.

@@ -4,9 +4,13 @@ use Rattle.label_set.specs.Bytes.{is_label_name}
 use Rattle.label_set.specs.declared.texts.Pair.{Pair}
 use Rattle.pattern_rule.specs.Patterns.{TemplateOf, matches}
 
+-- what is found is wanted, or its contrary is
+abbrev pub is_wanted : Bool → Bool → Bool
+is_wanted keep found = if keep then found else not found
+
 -- a label stays: its name matches, or doesn't
 abbrev pub stays : Bool → List ℕ → Pair → Bool
-stays keep pattern p = if keep then matches pattern p.name else not (matches pattern p.name)
+stays keep pattern p = is_wanted keep (matches pattern p.name)
 
 -- the label that a name and a value make, where there is a name and it is a label name
 abbrev pub label_of : Option (List ℕ) → List ℕ → List Pair

@@ -168,40 +168,8 @@ pub fn map_labels(
     set.with_all(alloc, labels.as_slice())
 }
 
-/// The joined text in lower case.
-pub fn lowered(alloc: Global, conf: &RuleConf, set: &LabelSet) -> Result<Name, NoMemory>
-    ensures { IfOk result (λ n. n ≡ map chars.to_ascii_lowercase (joined_text conf.now set.now)) }
-{
-    let mut room = String::new(alloc);
-    let text = joined(alloc, conf, set, &mut room)?;
-    Ok(Name {
-        text: text.to_ascii_lowercase(alloc)?,
-    })
-}
-
-/// The joined text in upper case.
-pub fn raised(alloc: Global, conf: &RuleConf, set: &LabelSet) -> Result<Name, NoMemory>
-    ensures { IfOk result (λ n. n ≡ map chars.to_ascii_uppercase (joined_text conf.now set.now)) }
-{
-    let mut room = String::new(alloc);
-    let text = joined(alloc, conf, set, &mut room)?;
-    Ok(Name {
-        text: text.to_ascii_uppercase(alloc)?,
-    })
-}
-
-/// The number of the joined text below the modulus.
-pub fn hashed(alloc: Global, conf: &RuleConf, set: &LabelSet) -> Result<Name, NoMemory>
-    requires { 0 < conf.now.modulus }
-    ensures { IfOk result (λ n. n ≡ shard_of (joined_text conf.now set.now) conf.now.modulus) }
-{
-    let mut room = String::new(alloc);
-    let text = joined(alloc, conf, set, &mut room)?;
-    shard(alloc, text, conf.modulus)
-}
-
 /// The set with the rule's target set to a value.
-pub fn with_target(
+fn with_target(
     alloc: Global,
     conf: &RuleConf,
     set: &LabelSet,
@@ -216,4 +184,42 @@ pub fn with_target(
             value: value.as_str(),
         },
     )
+}
+
+/// `lowercase`: the target gets the joined text in lower case.
+pub fn lower(alloc: Global, conf: &RuleConf, set: &LabelSet) -> Result<LabelSet, NoMemory>
+    ensures { IfOk result (λ s. s
+        ≡ with_label set.now conf.now.target (map chars.to_ascii_lowercase (joined_text conf.now set.now))) }
+{
+    let mut room = String::new(alloc);
+    let text = joined(alloc, conf, set, &mut room)?;
+    let value = Name {
+        text: text.to_ascii_lowercase(alloc)?,
+    };
+    with_target(alloc, conf, set, &value)
+}
+
+/// `uppercase`: the target gets the joined text in upper case.
+pub fn raise(alloc: Global, conf: &RuleConf, set: &LabelSet) -> Result<LabelSet, NoMemory>
+    ensures { IfOk result (λ s. s
+        ≡ with_label set.now conf.now.target (map chars.to_ascii_uppercase (joined_text conf.now set.now))) }
+{
+    let mut room = String::new(alloc);
+    let text = joined(alloc, conf, set, &mut room)?;
+    let value = Name {
+        text: text.to_ascii_uppercase(alloc)?,
+    };
+    with_target(alloc, conf, set, &value)
+}
+
+/// `hashmod`: the target gets the number of the joined text below the modulus.
+pub fn hash(alloc: Global, conf: &RuleConf, set: &LabelSet) -> Result<LabelSet, NoMemory>
+    requires { 0 < conf.now.modulus }
+    ensures { IfOk result (λ s. s
+        ≡ with_label set.now conf.now.target (shard_of (joined_text conf.now set.now) conf.now.modulus)) }
+{
+    let mut room = String::new(alloc);
+    let text = joined(alloc, conf, set, &mut room)?;
+    let value = shard(alloc, text, conf.modulus)?;
+    with_target(alloc, conf, set, &value)
 }

@@ -1,10 +1,10 @@
 //! The sets of a target's reports.
-ghost use Rattle.std.specs.Prelude.{◌≡◌, pos, ◌≤ℤ◌, IfOk};
+ghost use Rattle.std.specs.Prelude.{◌≡◌, pos, ◌≤ℤ◌, IfOk, [], ◌∷◌, ◌++◌};
 ghost use Rattle.report_samples.specs.Markers as markers;
 ghost use Rattle.report_samples.specs.Reports as spec;
 
 use crate::entries::{Entry, EntryList, Kind};
-use crate::scrape_reports::{Report, ReportCounts, five, report_set, up_value};
+use crate::scrape_reports::{Report, ReportCounts, report_set, up_value};
 use label_set::{LabelSet, NoMemory};
 use std::alloc::Global;
 use std::marker::Model;
@@ -108,19 +108,33 @@ impl ReportSets {
         requires { pos 0 ≤ℤ counts.now.took }
         ensures { IfOk result (λ l. l ≡ spec.report_entries life self.now moment counts.now) }
     {
+        let mut items = Vec::with_capacity(alloc, 5)?;
         let up = up_value(alloc, counts.up)?;
+        self.add(&mut items, life, moment, Report::Up, up)?;
         let took = ValueText::of_millis(alloc, counts.took)?;
+        self.add(&mut items, life, moment, Report::Duration, took)?;
         let scraped = ValueText::of_count(alloc, counts.scraped)?;
+        self.add(&mut items, life, moment, Report::Scraped, scraped)?;
         let left = ValueText::of_count(alloc, counts.left)?;
+        self.add(&mut items, life, moment, Report::Left, left)?;
         let added = ValueText::of_count(alloc, counts.added)?;
-        let up = self.entry(life, moment, Report::Up, up)?;
-        let took = self.entry(life, moment, Report::Duration, took)?;
-        let scraped = self.entry(life, moment, Report::Scraped, scraped)?;
-        let left = self.entry(life, moment, Report::Left, left)?;
-        let added = self.entry(life, moment, Report::Added, added)?;
-        Ok(EntryList {
-            items: five(alloc, up, took, scraped, left, added)?,
-        })
+        self.add(&mut items, life, moment, Report::Added, added)?;
+        Ok(EntryList { items })
+    }
+
+    /// Adds one report with its value to the entries.
+    fn add(
+        &self,
+        to: &mut Vec<Entry>,
+        life: u64,
+        moment: i64,
+        report: Report,
+        value: ValueText,
+    ) -> Result<(), NoMemory>
+        ensures { IfOk result (λ _. to.new.items ≡ to.old.items ++ (spec.report_entry life self.now moment report value ∷ [])) }
+    {
+        to.push(self.entry(life, moment, report, value)?)?;
+        Ok(())
     }
 
     /// The stale marker of a report's series.
@@ -144,13 +158,12 @@ impl ReportSets {
     pub fn markers(&self, alloc: Global, life: u64, moment: i64) -> Result<EntryList, NoMemory>
         ensures { IfOk result (λ l. l ≡ markers.report_markers life self.now moment) }
     {
-        let up = self.marker(life, moment, Report::Up)?;
-        let duration = self.marker(life, moment, Report::Duration)?;
-        let scraped = self.marker(life, moment, Report::Scraped)?;
-        let left = self.marker(life, moment, Report::Left)?;
-        let added = self.marker(life, moment, Report::Added)?;
-        Ok(EntryList {
-            items: five(alloc, up, duration, scraped, left, added)?,
-        })
+        let mut items = Vec::with_capacity(alloc, 5)?;
+        items.push(self.marker(life, moment, Report::Up)?)?;
+        items.push(self.marker(life, moment, Report::Duration)?)?;
+        items.push(self.marker(life, moment, Report::Scraped)?)?;
+        items.push(self.marker(life, moment, Report::Left)?)?;
+        items.push(self.marker(life, moment, Report::Added)?)?;
+        Ok(EntryList { items })
     }
 }

@@ -121,6 +121,3 @@ pub(crate) fn five(
     items.push_reserved(fifth);
     Ok(items)
 }
-
-#[cfg(test)]
-mod tests;

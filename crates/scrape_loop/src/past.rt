@@ -4,8 +4,7 @@ ghost use Rattle.scrape_loop.specs.Entries as spec;
 ghost use Rattle.scrape_loop.specs.Shown.{Shows};
 ghost use Rattle.scrape_loop.specs.Tracked.{life_of};
 
-use crate::scrape_entries::{counts_of, ended, push_samples, push_stale};
-use crate::scrape_parts::into_samples;
+use crate::scrape_entries::{counts_of, samples_and_markers};
 use crate::target_labels::TargetLabels;
 use label_set::NoMemory;
 use report_samples::EntryList;
@@ -37,12 +36,9 @@ impl Past {
         ensures { IfOk result (λ l. l ≡ spec.entries_of (life_of self.now.life self.now.target cache.now self.now.scraped) scrape moment took) }
     {
         let counts = counts_of(alloc, cache, &scrape, took)?;
+        let mut items = samples_and_markers(alloc, self.life, moment, cache, scrape)?;
         let sets_of_reports = self.target.report_sets();
         let mut last = sets_of_reports.reports(alloc, self.life, moment, &counts)?;
-        let stale = ended(alloc, cache, &scrape)?;
-        let mut items = Vec::new(alloc);
-        push_samples(&mut items, self.life, moment, into_samples(alloc, scrape))?;
-        push_stale(&mut items, self.life, moment, stale.as_slice())?;
         items.append(&mut last.items)?;
         Ok(EntryList { items })
     }

@@ -3,10 +3,11 @@ ghost use Rattle.std.specs.Prelude.{◌≡◌, ◌++◌, map, IfOk, OnOk};
 ghost use Rattle.report_samples.specs.Markers.{stale_entry};
 ghost use Rattle.scrape_loop.specs.Entries as spec;
 ghost use Rattle.scrape_loop.specs.Shown.{Shows};
-ghost use Rattle.scrape_loop.specs.Tracked.{tracked_sets};
+ghost use Rattle.scrape_loop.specs.Tracked.{samples_of, tracked_sets};
 ghost use Rattle.series_cache.specs.Caches.{kept_sets, was_sets};
 ghost use Rattle.series_cache.specs.Sets.{gone, rising};
 
+use crate::scrape_parts::into_samples;
 use label_set::{LabelSet, NoMemory, SetList};
 use report_samples::{Entry, Kind, ReportCounts, stale_entry};
 use sample_rows::{Sample, Scrape};
@@ -66,6 +67,25 @@ pub fn ended(alloc: Global, cache: &SeriesCache, scrape: &Scrape) -> Result<SetL
     ensures { IfOk result (λ l. l ≡ gone (rising (was_sets cache.now.texts)) (tracked_sets scrape.now)) }
 {
     cache.vanished(alloc)
+}
+
+/// The samples of a scrape that started at a moment, and behind them the stale markers of the series that end with it, where the cache shows its sets.
+pub fn samples_and_markers(
+    alloc: Global,
+    life: u64,
+    moment: i64,
+    cache: &SeriesCache,
+    scrape: Scrape,
+) -> Result<Vec<Entry>, NoMemory>
+    requires shows { Shows cache.now scrape }
+    ensures { IfOk result (λ v. v.items ≡ map (spec.sample_entry life moment) (samples_of scrape)
+        ++ map (stale_entry life moment) (gone (rising (was_sets cache.now.texts)) (tracked_sets scrape))) }
+{
+    let stale = ended(alloc, cache, &scrape)?;
+    let mut items = Vec::new(alloc);
+    push_samples(&mut items, life, moment, into_samples(alloc, scrape))?;
+    push_stale(&mut items, life, moment, stale.as_slice())?;
+    Ok(items)
 }
 
 /// How many series a scrape adds, where the cache shows its sets.

@@ -1,10 +1,8 @@
 use Rattle.std.proofs.Common.{rules, ◌≡◌, ◌++◌, ◌∙◌, ℤ, List, map, ap, ap₂, append_assoc, to_z, of_z, w64}
 use Rattle.std.proofs.lemmas.Int.{to_z-of_z}
-use Rattle.label_set.specs.declared.texts.Pair.{Pair}
 use Rattle.report_samples.specs.declared.entries.Entry.{Entry}
 use Rattle.report_samples.specs.Markers.{stale_entry}
 use Rattle.report_samples.specs.Reports.{report_entries}
-use Rattle.sample_rows.specs.declared.scrape.Sample.{Sample}
 use Rattle.series_cache.specs.Caches.{kept_sets, was_sets}
 use Rattle.series_cache.specs.Sets.{gone, rising}
 use Rattle.scrape_loop.specs.Entries.{counts_of, sample_entry}
@@ -18,14 +16,9 @@ returns c =
     let cache = c.args.cache.now in
     let ended = gone (rising (was_sets cache.texts)) (tracked_sets s) in
     let moment : to_z w64 (of_z w64 c.args.moment) ≡ c.args.moment = to_z-of_z w64 c.args.moment c.ranges.moment in
-    let stale : c.as_slice.result.now ≡ ended = search rules in
     let last : c.last.inside.items.items ≡ report_entries life c.args.self.now.target c.args.moment (counts_of (rising (kept_sets cache)) s c.args.took) = search rules in
-    let first : c.push_samples.new.entries.items ≡ map (sample_entry life c.args.moment) (samples_of s) =
-    c.in_ok-push_samples.ensures ∙ ap (λ (l : List Entry). l ++ map (sample_entry life (to_z w64 (of_z w64 c.args.moment))) c.into_samples.result.items) c.new-items.ensures.items
-    ∙ ap₂ (λ (m : ℤ) (rs : List Sample). map (sample_entry life m) rs) moment c.into_samples.ensures in
-    let both : c.push_stale.new.entries.items ≡ map (sample_entry life c.args.moment) (samples_of s) ++ map (stale_entry life c.args.moment) ended =
-    c.in_ok-push_stale.ensures ∙ ap (λ (l : List Entry). l ++ map (stale_entry life (to_z w64 (of_z w64 c.args.moment))) c.as_slice.result.now) first
-    ∙ ap₂ (λ (m : ℤ) (xs : List (List Pair)). map (sample_entry life c.args.moment) (samples_of s) ++ map (stale_entry life m) xs) moment stale in
+    let both : c.in_ok-items.items.items ≡ map (sample_entry life c.args.moment) (samples_of s) ++ map (stale_entry life c.args.moment) ended =
+    c.in_ok-items.ensures ∙ ap (λ (m : ℤ). map (sample_entry life m) (samples_of s) ++ map (stale_entry life m) ended) moment in
     c.in_ok-append.ensures.items ∙ ap₂ (λ (front back : List Entry). front ++ back) both last
     ∙ append_assoc (map (sample_entry life c.args.moment) (samples_of s)) (map (stale_entry life c.args.moment) ended)
     (report_entries life c.args.self.now.target c.args.moment (counts_of (rising (kept_sets cache)) s c.args.took))
