@@ -2,6 +2,7 @@
 //! The verdict of an entry is worked out when it is appended, by the last kept entry of its series, and kept beside it.
 //! Contracts see a book as the list of its entries and the spare room; `specs/Verdicts.antt` says what the verdicts are,
 //! and `specs/Index.antt` how the last kept entry of a series is found.
+//! Tests: `tests_deciding::books`; cases: `scrape_cases::verdicts`.
 #![tactic(auto)]
 
 pub mod book;
@@ -10,6 +11,3 @@ pub mod verdicts;
 
 pub use book::Book;
 pub use verdicts::{Verdict, laws_of_verdicts};
-
-#[cfg(test)]
-mod tests;

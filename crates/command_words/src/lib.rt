@@ -1,5 +1,6 @@
 //! The words of the command line: the first is the command, and what `clap` takes behind it is its grammar.
 //! `specs/Words.antt` says what words ask for, `specs/Arguments.antt` which arguments each command has.
+//! Cases: `scrape_cases::{words, flags, synths}`.
 #![tactic(auto)]
 
 pub mod arguments;

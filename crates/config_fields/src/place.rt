@@ -52,6 +52,3 @@ pub fn at_item(alloc: Global, place: &str, index: usize) -> Result<Name, NoMemor
     text.push_str(index.to_string(alloc)?.as_str())?;
     Ok(Name { text })
 }
-
-#[cfg(test)]
-mod tests;

@@ -4,6 +4,7 @@
 //! A life of which no scrape counted leaves no series behind, so its ending appends nothing.
 //! Contracts see a closed life as the record of its `Closing`, and `Endings` as their list with the spare room; `specs/Endings.antt` says what an ending is.
 //! `Endings` is a plain list, in which an ending is looked for from the front: each call takes time in proportion to how many were added.
+//! Tests: `tests_deciding::endings`; cases: `scrape_cases::endings`.
 #![tactic(auto)]
 
 mod ending;
@@ -14,6 +15,3 @@ pub mod moments;
 pub use endings::Endings;
 pub use markers::ending_entries;
 pub use moments::{due_at, marker_at};
-
-#[cfg(test)]
-mod tests;

@@ -48,29 +48,3 @@ impl<'a> Lexer<'a> {
         token
     }
 }
-
-#[cfg(test)]
-mod tests {
-    use super::*;
-    use crate::tokens::TokenKind;
-
-    #[test]
-    fn gives_kinds_and_spans(rt: HostRuntime) {
-        let mut lexer = Lexer::over(b"x{a=\"\\\"}\" ,}\t1 \"b");
-        let wanted = [
-            (TokenKind::Word, 0, 1),
-            (TokenKind::LeftBrace, 1, 2),
-            (TokenKind::Word, 2, 3),
-            (TokenKind::Equals, 3, 4),
-            (TokenKind::Quoted, 4, 9),
-            (TokenKind::Comma, 10, 11),
-            (TokenKind::RightBrace, 11, 12),
-            (TokenKind::Word, 13, 14),
-            (TokenKind::Torn, 15, 17),
-        ];
-        for (kind, start, end) in wanted {
-            assert_eq!(rt; lexer.next(), Some(Token { kind, start, end }));
-        }
-        assert!(rt; lexer.next().is_none());
-    }
-}

@@ -1,6 +1,7 @@
 //! The events of a run, the journal that keeps them in order, and the one text of a journal, which is read and written here.
 //! A journal is seen by contracts as the list of its events and a number of events for which it has room; bytes and names are lists of numbers.
 //! The definitions stand in `specs/`: lines, events and their spelling, and how a text is read.
+//! Tests: `tests_reading::journals`; cases: `scrape_cases::{broken, scripts}`.
 #![tactic(auto)]
 
 pub mod events;
@@ -9,8 +10,6 @@ pub mod journal;
 pub mod lines;
 mod numbers;
 mod reading;
-#[cfg(test)]
-mod tests;
 mod writing;
 
 pub use events::Event;

@@ -133,6 +133,3 @@ pub fn merge_lent<'a>(
     }
     settled_set(alloc, labels.as_slice(), found.as_slice())
 }
-
-#[cfg(test)]
-mod tests;

@@ -5,6 +5,7 @@
 //! A roll keeps all lives by number and all started scrapes by ticket; contracts see both lists. `specs/Rolls.antt` says which lives the wanted
 //! targets close, change and begin, and what a tick answers; `specs/Flights.antt` says which scrapes are in flight after each call, and
 //! `specs/Counts.antt` that each wanted target has one open life.
+//! Tests: `tests_deciding::rolls`; cases: `scrape_cases::reloads`.
 #![tactic(auto)]
 
 pub mod answers;
@@ -24,6 +25,3 @@ pub use roll::Roll;
 pub use schedule::{InFlight, Scanned, Schedule};
 pub use seats::{Seat, Seats};
 pub use wanted::{Terms, Wanted, Wishes};
-
-#[cfg(test)]
-mod tests;

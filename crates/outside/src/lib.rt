@@ -4,6 +4,7 @@
 //! that tell all that they hold, and thin adapters over the real things, which tell nothing.
 //! Contracts see a reply as its variant, with the body as the list of its bytes; of an object they see what it holds, where it tells that,
 //! and its counts of faults, which never fall.
+//! Tests: `tests_ground::{files, inputs, links, fetches}`.
 #![tactic(auto)]
 
 pub mod adapters;
@@ -35,12 +36,3 @@ pub use sizes::{MOST_BODY_BYTES, MOST_NAME_BYTES, MOST_TEXT_BYTES};
 pub use sockets::TcpLink;
 pub use sources::{MemSource, Source, SourceFault, SureSource};
 pub use streams::{FileSink, StdSource, SystemClock};
-
-#[cfg(test)]
-mod fetch_tests;
-#[cfg(test)]
-mod input_tests;
-#[cfg(test)]
-mod link_tests;
-#[cfg(test)]
-mod tests;

@@ -3,6 +3,7 @@
 //! A series that has ended gets a stale marker, the series of a report too; a `Closing` is what the ending of a life needs to know.
 //! Contracts see an entry as the record of its life, kind, set, moment and value, and label sets and values as their lists;
 //! `specs/Reports.antt` says what the reports are, and `specs/Markers.antt` what the markers are.
+//! Tests: `tests_deciding::reports`; cases: `scrape_cases::scripts`.
 #![tactic(auto)]
 
 pub mod closing;

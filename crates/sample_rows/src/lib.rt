@@ -2,6 +2,7 @@
 //! The labels of a sample line are joined with those of its target and run through the job's rules for samples; what is left is held against the job's limits.
 //! Contracts see label sets as lists of pairs, rules as the list of their settings and an outcome as the enum `Scrape`;
 //! `specs/Rows.antt` says what becomes of a row, and `specs/Outcomes.antt` what becomes of a reply.
+//! Tests: `tests_deciding::replies`; cases: `scrape_cases::{limits, scripts}`.
 #![tactic(auto)]
 
 pub mod fault;

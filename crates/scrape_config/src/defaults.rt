@@ -241,6 +241,3 @@ pub fn interval_in(base: Base, job: &Value) -> i64
 {
     interval_or(base.interval, job)
 }
-
-#[cfg(test)]
-mod tests;

@@ -2,6 +2,7 @@
 //! `read_conf` reads a configuration and `read_groups` the list of a file of groups; `JobConf::same` and `JobConf::compatible` compare settings.
 //! Contracts see a configuration as itself, with its lists as lists and its texts as lists of bytes; what each field may hold
 //! is defined in the tables of `config_fields`, and a fault is the first of the least number in the walk through the text.
+//! Tests: `tests_reading::configurations`; cases: `scrape_cases::{fields, checked}`.
 #![tactic(auto)]
 
 mod conf;

@@ -174,6 +174,3 @@ pub fn read_groups(alloc: Global, bytes: &[u8], file: &str) -> Result<GroupList,
         None => Ok(file_groups_of(alloc, file, &value)?),
     }
 }
-
-#[cfg(test)]
-mod tests;

@@ -136,6 +136,3 @@ pub fn comparing_decides()
     ensures same { spec.SameIsDecided }
     ensures within { spec.SameIsCompatible }
 {}
-
-#[cfg(test)]
-mod tests;

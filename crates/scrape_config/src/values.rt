@@ -227,6 +227,3 @@ pub fn file_groups_of(alloc: Global, file: &str, value: &Value) -> Result<GroupL
         }),
     }
 }
-
-#[cfg(test)]
-mod tests;

@@ -20,7 +20,7 @@ use Rattle.jobs_in_force.specs.declared.jobs.Filed.{Filed}
 use Rattle.jobs_in_force.specs.declared.jobs.InForce.{InForce}
 use Rattle.jobs_in_force.specs.Jobs.{in_force, is_named, job_named, updated_job, load_crowd, filed_by_load, loaded_by, loaded, renewed, jobs_updated, updated, Unlisted}
 use Rattle.scrape_machine.specs.Machine.{after_load, after_update, new_jobs, or_else}
-use Rattle.scrape_machine.specs.Plans.{name_of}
+use Rattle.scrape_machine.specs.Machine.{name_of}
 use Rattle.scrape_laws.proofs.ConfLemmas.{names_in, IsBuilt, AreSettled, no_fault, settled}
 
 -- the jobs without their targets

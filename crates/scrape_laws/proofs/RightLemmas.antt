@@ -24,7 +24,7 @@ use Rattle.scrape_machine.specs.declared.lives.Local.TheVariants.{Nothing, Scan,
 use Rattle.scrape_machine.specs.declared.lives.Verdict.TheVariants.{Apart, Same, Other}
 use Rattle.scrape_machine.specs.Lives.{is_open, born, forces, ends_at, rules_of, scanned_life, with_ending, counted, changed, closed, life_after, IsRightLife}
 use Rattle.scrape_machine.specs.Machine.{World, beginning, new_jobs, job_name, verdict_on, verdict_local, verdict, job_local, reload_local, is_over, ticket_in_sweep, found, finish_local, live_local, local, lives_from, unheld, born_all, births, begun_with, begun, or_else, live_step, step, run, world_of}
-use Rattle.scrape_machine.specs.Plans.{name_of}
+use Rattle.scrape_machine.specs.Machine.{name_of}
 use Rattle.scrape_laws.proofs.ConfLemmas.{AreSettled}
 use Rattle.scrape_laws.proofs.JobLemmas.{jobs_in, jobs_settled, none_settled, found_job, IsOfName, each_of_name, JudgeAlike, compatible_alike, alike_then}
 use Rattle.scrape_laws.proofs.LifeLemmas.{scanned_closed}

@@ -6,6 +6,7 @@
 //! good one, what is known of its raw texts, and whether a scrape of it counted; `specs/Tracked.antt` says what a scrape makes of it,
 //! `specs/Texts.antt` what its rows show of raw texts, `specs/Shown.antt` what those tell of its sets, `specs/Entries.antt` which entries it appends, and `specs/Closings.antt` what a life
 //! leaves behind when it is closed.
+//! Tests: `tests_deciding::scrapes`; cases: `scrape_cases::{scripts, texts}`.
 #![tactic(auto)]
 
 mod known_rows;

@@ -2,6 +2,7 @@
 //! that a scrape of a kept target sends.
 //! Contracts see label sets as lists of pairs and texts as lists of bytes; `specs/Outcomes.antt` says what becomes of a listed target,
 //! `specs/Listed.antt` what becomes of a job's list, and `specs/Requests.antt` what the request of a target is.
+//! Tests: `tests_deciding::targets`; cases: `scrape_cases::targets`.
 #![tactic(auto)]
 
 mod address;

@@ -315,6 +315,3 @@ pub fn request_of(
         }
     }
 }
-
-#[cfg(test)]
-mod tests;

@@ -167,6 +167,3 @@ pub fn targets_with_files<L: Ledger>(
     let outcomes = outcomes_with_files(alloc, conf, rules, files, steps)?;
     sorted_out(alloc, conf.limits.target, outcomes.as_slice())
 }
-
-#[cfg(test)]
-mod tests;

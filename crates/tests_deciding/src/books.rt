@@ -1,0 +1,144 @@
+//! Books: entries that are appended, each with its verdict.
+
+use crate::shared::labelled;
+use appender_book::{Book, Verdict};
+use label_set::NoMemory;
+use report_samples::{Entry, EntryList, Kind};
+use std::alloc::Global;
+use std::hash::RandomState;
+use std::test::Fail;
+use value_text::ValueText;
+
+/// A sample of a count.
+fn sample(alloc: Global, name: &str, moment: i64, count: u64) -> Result<Entry, NoMemory> {
+    Ok(Entry {
+        life: 0,
+        kind: Kind::Scraped,
+        series: labelled(alloc, "__name__", name)?,
+        moment,
+        value: Some(ValueText::of_count(alloc, count)?),
+    })
+}
+
+/// A stale marker.
+fn marker(alloc: Global, name: &str, moment: i64) -> Result<Entry, NoMemory> {
+    Ok(Entry {
+        life: 0,
+        kind: Kind::Stale,
+        series: labelled(alloc, "__name__", name)?,
+        moment,
+        value: None,
+    })
+}
+
+fn entry(alloc: Global, name: &str, moment: i64, count: Option<u64>) -> Result<Entry, NoMemory> {
+    match count {
+        Some(count) => sample(alloc, name, moment, count),
+        None => marker(alloc, name, moment),
+    }
+}
+
+/// Moments and counts of entries of one series, one after another, and their verdicts.
+const JUDGED: [(i64, Option<u64>, Verdict); 10] = [
+    (1000, Some(1), Verdict::Kept),
+    (1000, Some(1), Verdict::Same),
+    (1000, Some(2), Verdict::Duplicate),
+    (1000, None, Verdict::Duplicate),
+    (999, Some(1), Verdict::OutOfOrder),
+    (2000, None, Verdict::Kept),
+    (2000, None, Verdict::Same),
+    (2000, Some(3), Verdict::Duplicate),
+    (1500, None, Verdict::OutOfOrder),
+    (2001, Some(3), Verdict::Kept),
+];
+
+/// These entries behind the first.
+fn more_entries(alloc: Global) -> Result<EntryList, NoMemory> {
+    let mut items = Vec::new(alloc);
+    for (moment, count, _) in &JUDGED[1..] {
+        items.push(entry(alloc, "up", *moment, *count)?)?;
+    }
+    Ok(EntryList { items })
+}
+
+/// Appends these entries.
+fn append_judged(alloc: Global, book: &mut Book) -> Result<(), NoMemory> {
+    book.reserve(1)?;
+    book.append(sample(alloc, "up", 1000, 1)?);
+    book.append_all(more_entries(alloc)?)
+}
+
+/// Whether their verdicts are the wanted ones.
+fn is_judged(book: &Book) -> bool {
+    for (place, row) in JUDGED.iter().enumerate() {
+        if book.verdict(place) != Some(row.2) {
+            return false;
+        }
+    }
+    true
+}
+
+#[test]
+fn entries_are_judged_as_they_are_appended(rt: HostRuntime) -> Result<(), Fail> {
+    let mut book = Book::new(rt.alloc())?;
+    append_judged(rt.alloc(), &mut book)?;
+    assert!(rt; is_judged(&book));
+    assert_eq!(rt; book.len(), 10);
+    assert_eq!(rt; book.entry(4).map(|e| e.moment), Some(999));
+    assert!(rt; book.entry(10).is_none() && book.verdict(10).is_none());
+    Ok(())
+}
+
+#[test]
+fn a_book_with_a_seed_judges_alike(rt: HostRuntime) -> Result<(), Fail> {
+    let Ok(seed) = RandomState::new(&rt) else {
+        panic!(rt; "no seed");
+    };
+    let mut book = Book::seeded(rt.alloc(), seed)?;
+    append_judged(rt.alloc(), &mut book)?;
+    assert!(rt; is_judged(&book));
+    Ok(())
+}
+
+/// Series that come back in their order, with one left out, one more, and in another order; and whether each is new.
+const SERIES: [(&str, bool); 20] = [
+    ("a", true),
+    ("b", true),
+    ("c", true),
+    ("d", true),
+    ("a", false),
+    ("b", false),
+    ("c", false),
+    ("d", false),
+    ("a", false),
+    ("c", false),
+    ("d", false),
+    ("a", false),
+    ("b", false),
+    ("x", true),
+    ("c", false),
+    ("d", false),
+    ("d", false),
+    ("b", false),
+    ("a", false),
+    ("x", false),
+];
+
+fn append_series(alloc: Global, book: &mut Book) -> Result<(), NoMemory> {
+    for &(name, _) in &SERIES {
+        book.reserve(1)?;
+        book.append(sample(alloc, name, 1, 1)?);
+    }
+    Ok(())
+}
+
+#[test]
+fn a_series_is_found_in_any_order(rt: HostRuntime) -> Result<(), Fail> {
+    let mut book = Book::new(rt.alloc())?;
+    append_series(rt.alloc(), &mut book)?;
+    for (place, row) in SERIES.iter().enumerate() {
+        let verdict = if row.1 { Verdict::Kept } else { Verdict::Same };
+        assert_eq!(rt; book.verdict(place), Some(verdict), "{place}");
+    }
+    Ok(())
+}

@@ -1,0 +1,136 @@
+//! What a core says between events, and bodies that are read before they are counted.
+ghost use Rattle.std.specs.Prelude.{◌≡◌, ◌<◌};
+
+use super::{BODY, CONF, expect, has_kept, is_said, loads, loses, starts, sweeps};
+use journal_text::Event;
+use label_set::{Blob, NoMemory, Steps};
+use outside::Reply;
+use scrape_core::Core;
+use scrape_loop::ReadReply;
+use std::alloc::Global;
+use std::marker::Brand;
+use std::process::Abort;
+use std::sync::ledger::{Blank, Ledger};
+use std::test::Fail;
+
+/// A target that is due from the load on.
+fn is_due(rt: &impl Abort, core: &Core) {
+    expect(rt, core.jobs().len() == 1);
+    expect(rt, core.wake() == Some(7) && core.due(7) && !core.due(6));
+}
+
+/// Its scrape is in flight.
+fn is_in_flight(rt: &impl Abort, core: &Core) {
+    expect(rt, core.started() == 1);
+    expect(rt, core.wake() == None && !core.due(60_007));
+}
+
+/// The authority of the request of the scrape with a ticket; none is empty.
+fn asks(
+    rt: &impl Abort,
+    alloc: Global,
+    core: &Core,
+    ticket: u64,
+    want: &str,
+) -> Result<(), NoMemory> {
+    let found = match core.request(alloc, ticket)? {
+        Some(request) => request.authority.as_str() == want,
+        None => want.is_empty(),
+    };
+    expect(rt, found);
+    Ok(())
+}
+
+/// What the core says between events.
+fn readers<L: Ledger>(
+    rt: &impl Abort,
+    alloc: Global,
+    core: &mut Core,
+    blank: Blank,
+) -> Result<(), NoMemory>
+    requires name { blank.name ≡ L.name }
+    requires parts { blank.parts ≡ L.parts }
+    requires some { 0 < blank.parts }
+{
+    let mut steps = Steps::<L>::open(blank);
+    loads(
+        rt,
+        alloc,
+        core,
+        &mut steps,
+        7,
+        CONF,
+        "Loaded { closed: 0, begun: 1 }",
+    )?;
+    is_due(rt, core);
+    let want = "Swept { first: 0, started: 1, forced: 0, ended: 0 }";
+    sweeps(rt, alloc, core, &mut steps, 7, want)?;
+    is_in_flight(rt, core);
+    asks(rt, alloc, core, 0, "a:1")?;
+    asks(rt, alloc, core, 1, "")?;
+    loses(rt, alloc, core, &mut steps, 0, "Counted(Some(Lost))")?;
+    asks(rt, alloc, core, 0, "")
+}
+
+#[test]
+fn a_core_says_what_is_due_and_what_is_asked(rt: HostRuntime) -> Result<(), Fail> {
+    let mut core = Core::new(rt.alloc())?;
+    expect(&rt, core.wake() == None);
+    readers::<Brand>(&rt, rt.alloc(), &mut core, Blank::new(1))?;
+    expect(&rt, core.wake() == Some(60_007));
+    Ok(())
+}
+
+#[test]
+#[tactic(auto, using(crate::proofs::FreshLemmas::fresh_live))]
+fn room_is_kept_for_a_halt(rt: HostRuntime) -> Result<(), Fail> {
+    let mut core = Core::new(rt.alloc())?;
+    core.halt();
+    expect(&rt, core.events() == 1 && !core.due(0));
+    Ok(())
+}
+
+/// The finish of the first scrape by a body that is read before.
+fn counts_read<L: Ledger>(
+    rt: &impl Abort,
+    alloc: Global,
+    core: &mut Core,
+    steps: &mut Steps<L>,
+) -> Result<(), NoMemory> {
+    let bytes = Blob::from_slice(alloc, BODY)?;
+    if bytes.as_slice().len() > 100 {
+        return Err(NoMemory);
+    }
+    let read = ReadReply::read(alloc, 200, BODY)?;
+    let event = Event::Finish {
+        ticket: 0,
+        took: 15,
+        reply: Reply::Body { status: 200, bytes },
+    };
+    let answer = core.finish_read(alloc, event, &read, steps)?;
+    is_said(rt, alloc, &answer, "Counted(None)")
+}
+
+/// A scrape whose body is read before it is counted.
+fn read_first<L: Ledger>(
+    rt: &impl Abort,
+    alloc: Global,
+    core: &mut Core,
+    blank: Blank,
+) -> Result<(), NoMemory>
+    requires name { blank.name ≡ L.name }
+    requires parts { blank.parts ≡ L.parts }
+    requires some { 0 < blank.parts }
+{
+    let mut steps = Steps::<L>::open(blank);
+    starts(rt, alloc, core, &mut steps)?;
+    counts_read(rt, alloc, core, &mut steps)
+}
+
+#[test]
+fn a_body_that_is_read_is_counted(rt: HostRuntime) -> Result<(), Fail> {
+    let mut core = Core::new(rt.alloc())?;
+    read_first::<Brand>(&rt, rt.alloc(), &mut core, Blank::new(1))?;
+    has_kept(&rt, &core, 7, 3);
+    Ok(())
+}

@@ -1,0 +1,94 @@
+//! Reports of scrapes, and stale markers.
+use crate::shared::{push_entries, push_entry, set_of};
+use label_set::sets::LabelError;
+use label_set::{LabelSet, NoMemory};
+use report_samples::{Report, ReportCounts, ReportSets, report_set, reports, stale_entry};
+use std::alloc::Global;
+use std::test::Fail;
+
+/// The reports of a good scrape, and of one that wasn't made.
+const REPORTS: &str = r#"9 3 Report up{instance="a:1",job="j"} 1
+9 3 Report scrape_duration_seconds{instance="a:1",job="j"} 61.500
+9 3 Report scrape_samples_scraped{instance="a:1",job="j"} 3
+9 3 Report scrape_samples_post_metric_relabeling{instance="a:1",job="j"} 2
+9 3 Report scrape_series_added{instance="a:1",job="j"} 1
+-5 4 Report up{instance="a:1",job="j"} 0
+-5 4 Report scrape_duration_seconds{instance="a:1",job="j"} 0.000
+-5 4 Report scrape_samples_scraped{instance="a:1",job="j"} 0
+-5 4 Report scrape_samples_post_metric_relabeling{instance="a:1",job="j"} 0
+-5 4 Report scrape_series_added{instance="a:1",job="j"} 0
+"#;
+
+/// The stale markers of the series of the labels alone, and of the reports.
+const MARKERS: &str = r#"12 7 Stale {instance="a:1",job="j"}
+12 7 ReportStale up{instance="a:1",job="j"}
+12 7 ReportStale scrape_duration_seconds{instance="a:1",job="j"}
+12 7 ReportStale scrape_samples_scraped{instance="a:1",job="j"}
+12 7 ReportStale scrape_samples_post_metric_relabeling{instance="a:1",job="j"}
+12 7 ReportStale scrape_series_added{instance="a:1",job="j"}
+"#;
+
+/// The labels of the target `a:1` of a job `j`.
+fn target(alloc: Global) -> Result<LabelSet, LabelError> {
+    set_of(alloc, &[("instance", "a:1"), ("job", "j")])
+}
+
+const GOOD: ReportCounts = ReportCounts {
+    up: true,
+    took: 61_500,
+    scraped: 3,
+    left: 2,
+    added: 1,
+};
+
+const FORCED: ReportCounts = ReportCounts {
+    up: false,
+    took: 0,
+    scraped: 0,
+    left: 0,
+    added: 0,
+};
+
+/// The reports of both.
+fn both_reports(alloc: Global, target: &LabelSet) -> Result<Vec<u8>, NoMemory> {
+    let mut text = Vec::new(alloc);
+    push_entries(alloc, &mut text, &reports(alloc, 3, target, 9, &GOOD)?)?;
+    push_entries(alloc, &mut text, &reports(alloc, 4, target, -5, &FORCED)?)?;
+    Ok(text)
+}
+
+#[test]
+fn each_scrape_has_five_reports(rt: HostRuntime) -> Result<(), Fail> {
+    let target = target(rt.alloc())?;
+    let text = both_reports(rt.alloc(), &target)?;
+    assert!(rt; text.as_slice() == REPORTS.as_bytes());
+    Ok(())
+}
+
+#[test]
+fn a_report_has_the_labels_of_its_target(rt: HostRuntime) -> Result<(), Fail> {
+    let target = target(rt.alloc())?;
+    for (report, name) in [(Report::Up, "up"), (Report::Added, "scrape_series_added")] {
+        let set = report_set(rt.alloc(), &target, report)?;
+        assert_eq!(rt; set.get("__name__"), Some(name));
+        assert_eq!(rt; set.get("instance"), Some("a:1"));
+        assert_eq!(rt; set.len(), 3);
+    }
+    Ok(())
+}
+
+/// The marker of a set, and then those of the reports.
+fn markers(alloc: Global, sets: &ReportSets) -> Result<Vec<u8>, NoMemory> {
+    let mut text = Vec::new(alloc);
+    push_entry(alloc, &mut text, &stale_entry(7, 12, sets.target())?)?;
+    push_entries(alloc, &mut text, &sets.markers(alloc, 7, 12)?)?;
+    Ok(text)
+}
+
+#[test]
+fn series_and_reports_end_with_stale_markers(rt: HostRuntime) -> Result<(), Fail> {
+    let sets = ReportSets::of(rt.alloc(), target(rt.alloc())?)?;
+    let text = markers(rt.alloc(), &sets)?;
+    assert!(rt; text.as_slice() == MARKERS.as_bytes());
+    Ok(())
+}

@@ -1,0 +1,190 @@
+//! The scrapes of one life: what each appends, and what the life leaves behind.
+ghost use Rattle.std.specs.Prelude.{◌≡◌, ◌<◌};
+
+use crate::shared::{conf_of, job_in, labelled, push_entries, push_entry};
+use appender_book::Book;
+use label_set::{LabelSet, NoMemory, Steps};
+use outside::Reply;
+use sample_rows::left::is_named;
+use sample_rows::{RowRules, ScrapeFault};
+use scrape_config::Job;
+use scrape_limits::Limits;
+use scrape_loop::{LentReply, LifeState, ReadReply};
+use std::alloc::Global;
+use std::marker::Brand;
+use std::process::Abort;
+use std::sync::ledger::{Blank, Ledger};
+use std::test::Fail;
+
+const RULES: RowRules = RowRules {
+    honor_labels: false,
+    honor_timestamps: true,
+    timeout: 10_000,
+    limits: Limits {
+        sample: 0,
+        label: 0,
+        name_length: 0,
+        value_length: 0,
+        body_size: 0,
+        target: 0,
+    },
+};
+
+/// Life 3 of the target `{job="j"}` after its first scrape, which started at 1000 and took 15 milliseconds.
+fn counted<L: Ledger>(
+    alloc: Global,
+    blank: Blank,
+    job: &Job,
+    target: LabelSet,
+    reply: &LentReply<'_>,
+    book: &mut Book,
+) -> Result<LifeState, NoMemory>
+    requires name { blank.name ≡ L.name }
+    requires parts { blank.parts ≡ L.parts }
+    requires some { 0 < blank.parts }
+{
+    if is_named(&target) {
+        return Err(NoMemory);
+    }
+    let mut steps = Steps::<L>::open(blank);
+    let mut life = LifeState::new(alloc, 3, target)?;
+    let rules = &job.metric_rules;
+    let said = life.count(alloc, &RULES, rules, 1000, reply, 15, book, &mut steps)?;
+    if said.fault.is_some() || said.runs != 2 {
+        return Err(NoMemory);
+    }
+    Ok(life)
+}
+
+/// That life under a job without rules for samples.
+fn after_first(
+    rt: &impl Abort,
+    alloc: Global,
+    reply: &LentReply<'_>,
+    book: &mut Book,
+) -> Result<LifeState, NoMemory> {
+    let conf = conf_of(rt, alloc, "")?;
+    let target = labelled(alloc, "job", "j")?;
+    counted::<Brand>(alloc, Blank::new(1), job_in(rt, &conf), target, reply, book)
+}
+
+/// Two series, one of them with a timestamp of its own.
+const BODY: &[u8] = b"x 1\ny 2 5\n";
+
+/// That life after a reply that was read before.
+fn after_reading(
+    rt: &impl Abort,
+    alloc: Global,
+    read: &ReadReply<'_>,
+    book: &mut Book,
+) -> Result<LifeState, NoMemory> {
+    let reply = LentReply::read(read);
+    after_first(rt, alloc, &reply, book)
+}
+
+/// That life where the body is read before.
+fn after_read(rt: &impl Abort, alloc: Global, book: &mut Book) -> Result<LifeState, NoMemory> {
+    let read = ReadReply::read(alloc, 200, BODY)?;
+    after_reading(rt, alloc, &read, book)
+}
+
+/// The entries of its scrape.
+const ENTRIES: &str = r#"1000 3 Scraped x{job="j"} 1
+5 3 Scraped y{job="j"} 2
+1000 3 Report up{job="j"} 1
+1000 3 Report scrape_duration_seconds{job="j"} 0.015
+1000 3 Report scrape_samples_scraped{job="j"} 2
+1000 3 Report scrape_samples_post_metric_relabeling{job="j"} 2
+1000 3 Report scrape_series_added{job="j"} 2
+"#;
+
+/// The entries of a scrape of it at 2000 that isn't made.
+const FORCED: &str = r#"2000 3 Stale x{job="j"}
+2000 3 Report up{job="j"} 0
+2000 3 Report scrape_duration_seconds{job="j"} 0.000
+2000 3 Report scrape_samples_scraped{job="j"} 0
+2000 3 Report scrape_samples_post_metric_relabeling{job="j"} 0
+2000 3 Report scrape_series_added{job="j"} 0
+"#;
+
+fn shown_book(alloc: Global, book: &Book) -> Result<Vec<u8>, NoMemory> {
+    let mut text = Vec::new(alloc);
+    for place in 0..book.len() {
+        if let Some(entry) = book.entry(place) {
+            push_entry(alloc, &mut text, entry)?;
+        }
+    }
+    Ok(text)
+}
+
+fn shown_forced(alloc: Global, life: &LifeState) -> Result<Vec<u8>, NoMemory> {
+    let mut text = Vec::new(alloc);
+    push_entries(alloc, &mut text, &life.force_entries(alloc, 2000)?)?;
+    Ok(text)
+}
+
+/// How many sets the life leaves behind where it is closed.
+fn left_behind(alloc: Global, life: &LifeState) -> Result<usize, NoMemory> {
+    let closing = life.closing(alloc, 3000, 2500, 1000)?;
+    Ok(closing.tracked.as_slice().len())
+}
+
+#[test]
+fn a_scrape_is_counted(rt: HostRuntime) -> Result<(), Fail> {
+    let mut book = Book::new(rt.alloc())?;
+    let life = after_read(&rt, rt.alloc(), &mut book)?;
+    assert!(rt; life.scraped() && life.target().len() == 1);
+    let text = shown_book(rt.alloc(), &book)?;
+    assert!(rt; text.as_slice() == ENTRIES.as_bytes());
+    Ok(())
+}
+
+#[test]
+fn a_forced_scrape_ends_each_series(rt: HostRuntime) -> Result<(), Fail> {
+    let mut book = Book::new(rt.alloc())?;
+    let mut life = after_read(&rt, rt.alloc(), &mut book)?;
+    assert!(rt; shown_forced(rt.alloc(), &life)?.as_slice() == FORCED.as_bytes());
+    assert_eq!(rt; left_behind(rt.alloc(), &life)?, 1);
+    life.force();
+    assert_eq!(rt; left_behind(rt.alloc(), &life)?, 0);
+    Ok(())
+}
+
+#[test]
+fn a_life_lets_go_what_it_knows(rt: HostRuntime) -> Result<(), Fail> {
+    let mut book = Book::new(rt.alloc())?;
+    let mut life = after_read(&rt, rt.alloc(), &mut book)?;
+    life.release();
+    assert_eq!(rt; left_behind(rt.alloc(), &life)?, 0);
+    assert!(rt; life.scraped());
+    Ok(())
+}
+
+/// The fault of the first scrape of a life whose reply was lost.
+fn lost<L: Ledger>(
+    alloc: Global,
+    blank: Blank,
+    job: &Job,
+    book: &mut Book,
+) -> Result<Option<ScrapeFault>, NoMemory>
+    requires name { blank.name ≡ L.name }
+    requires parts { blank.parts ≡ L.parts }
+    requires some { 0 < blank.parts }
+{
+    let mut steps = Steps::<L>::open(blank);
+    let mut life = LifeState::new(alloc, 4, LabelSet::empty())?;
+    let rules = &job.metric_rules;
+    let reply = LentReply::whole(&Reply::Lost);
+    let said = life.count(alloc, &RULES, rules, 1000, &reply, 15, book, &mut steps)?;
+    Ok(said.fault)
+}
+
+#[test]
+fn a_scrape_without_a_reply_is_counted(rt: HostRuntime) -> Result<(), Fail> {
+    let mut book = Book::new(rt.alloc())?;
+    let conf = conf_of(&rt, rt.alloc(), "")?;
+    let fault = lost::<Brand>(rt.alloc(), Blank::new(1), job_in(&rt, &conf), &mut book)?;
+    assert_eq!(rt; fault, Some(ScrapeFault::Lost));
+    assert_eq!(rt; book.len(), 5);
+    Ok(())
+}

@@ -1,0 +1,167 @@
+//! Journals, and the one text of a journal.
+
+use journal_text::{Event, Journal, ScriptCause, ScriptError, read_journal, write_journal};
+use outside::Reply;
+use std::alloc::{AllocError, Global};
+use std::process::Abort;
+use std::test::Fail;
+
+/// A configuration of one job with one target, a sweep, and the answer to its request.
+const ONE_LOAD: &[u8] = b"scrape-journal 1\nload 0 76\n{\"scrape_configs\":[{\"job_name\":\"j\",\
+\"static_configs\":[{\"targets\":[\"a:1\"]}]}]}\nsweep 0\nbody 15 0 200 8\nx 1\ny 2\n\n";
+
+/// Each kind of event, with numbers at their limits, and an event after a halt.
+const EACH_KIND: &[u8] =
+    b"scrape-journal 1\nload 0 0\n\ntargets 7 1 2 3\njf1[]\n\ntick 7 18446744073709551615\n\
+sweep 4503599627370495\nbody 0 0 100 0\n\nbody 4503599627370495 18446744073709551615 999 1\n\n\nlost 1 2\n\
+garbled 3 4\nunsent 5 6\noversize 7 8\nhalt 4503599627370495\nsweep 4503599627370495\n";
+
+/// Where a text has its fault, and why; nothing for a journal's text.
+fn fault_of(rt: &impl Abort, alloc: Global, text: &[u8]) -> Option<(u64, ScriptCause)> {
+    match read_journal(alloc, text) {
+        Ok(_) => None,
+        Err(ScriptError::Bad(fault)) => Some((fault.offset, fault.cause)),
+        Err(ScriptError::NoMemory) => panic!(rt; "no memory"),
+    }
+}
+
+#[test]
+fn events_are_read(rt: HostRuntime) {
+    let Ok(journal) = read_journal(rt.alloc(), ONE_LOAD) else {
+        panic!(rt; "not read");
+    };
+    let read = match journal.events() {
+        [
+            Event::Load { moment: 0, text },
+            Event::Sweep { moment: 0 },
+            Event::Finish {
+                ticket: 0,
+                took: 15,
+                reply: Reply::Body { status: 200, bytes },
+            },
+        ] => text.as_slice().len() == 76 && bytes.as_slice() == b"x 1\ny 2\n".as_slice(),
+        _ => false,
+    };
+    assert!(rt; read);
+}
+
+/// Ends the test where a journal is not written as its text was read.
+fn is_written_as_read(rt: &impl Abort, alloc: Global, script: &[u8]) {
+    let Ok(journal) = read_journal(alloc, script) else {
+        panic!(rt; "not read");
+    };
+    let Ok(text) = write_journal(alloc, &journal) else {
+        panic!(rt; "not written");
+    };
+    assert!(rt; text.as_slice() == script);
+}
+
+#[test]
+fn each_kind_of_event_is_written_as_it_is_read(rt: HostRuntime) {
+    for script in [ONE_LOAD, EACH_KIND, b"scrape-journal 1\n"] {
+        is_written_as_read(&rt, rt.alloc(), script);
+    }
+}
+
+/// The fault of `ONE_LOAD` cut to its first bytes.
+fn cut_fault(len: usize) -> Option<(u64, ScriptCause)> {
+    match len {
+        0..=16 => Some((0, ScriptCause::Header)),
+        17 | 104 | 112 => None,
+        18..=26 => Some((17, ScriptCause::Line)),
+        27..=103 => Some((17, ScriptCause::Rest)),
+        105..=111 => Some((104, ScriptCause::Line)),
+        113..=127 => Some((112, ScriptCause::Line)),
+        128..=136 => Some((112, ScriptCause::Rest)),
+        _ => None,
+    }
+}
+
+#[test]
+fn a_text_may_be_cut_anywhere(rt: HostRuntime) {
+    assert_eq!(rt; ONE_LOAD.len(), 137);
+    for len in 0..=ONE_LOAD.len() {
+        let fault = fault_of(&rt, rt.alloc(), &ONE_LOAD[..len]);
+        assert!(rt; fault == cut_fault(len), "at {len}");
+    }
+}
+
+/// Lines that begin no event.
+const NO_EVENTS: &[&str] = &[
+    "\n",
+    "load 0 00\n\n",
+    "sweep 00\n",
+    "sweep +1\n",
+    "sweep  1\n",
+    "sweep 1 \n",
+    "sweep 1\r\n",
+    "quoted 1 2 200 0\n\n",
+    "sweep 4503599627370496\n",
+    "tick 0 18446744073709551616\n",
+    "load 0 4194305\n",
+    "body 0 0 99 0\n\n",
+    "body 0 0 1000 0\n\n",
+    "body 0 0 200 67108865\n",
+    "targets 0 0 1 0\nf\n",
+    "targets 0 4097 1 0\n",
+];
+
+fn script_of(alloc: Global, line: &str) -> Result<Vec<u8>, AllocError> {
+    let mut script = Vec::from_slice(alloc, b"scrape-journal 1\n")?;
+    script.extend_from_slice(line.as_bytes())?;
+    Ok(script)
+}
+
+#[test]
+fn lines_that_begin_no_event_are_faults(rt: HostRuntime) -> Result<(), Fail> {
+    for &line in NO_EVENTS {
+        let script = script_of(rt.alloc(), line)?;
+        let fault = fault_of(&rt, rt.alloc(), script.as_slice());
+        assert!(rt; fault == Some((17, ScriptCause::Line)), "{line}");
+    }
+    Ok(())
+}
+
+/// Texts that are no journal's, where they have their faults, and why.
+const NO_JOURNALS: &[(&[u8], u64, ScriptCause)] = &[
+    (b"scrape-journal 2\n", 0, ScriptCause::Header),
+    (
+        b"scrape-journal 1\ntargets 0 1 1 0\n\xfff\n",
+        17,
+        ScriptCause::Rest,
+    ),
+    (b"scrape-journal 1\nload 0 1\nabc\n", 17, ScriptCause::Rest),
+    (
+        b"scrape-journal 1\nhalt 5\nlost 0 0\nsweep 4\n",
+        33,
+        ScriptCause::Order,
+    ),
+    (
+        b"scrape-journal 1\nhalt 5\nload 4 1\nabc\n",
+        24,
+        ScriptCause::Rest,
+    ),
+];
+
+#[test]
+fn what_follows_a_line_is_looked_at_before_the_order(rt: HostRuntime) {
+    for &(script, offset, cause) in NO_JOURNALS {
+        assert!(rt; fault_of(&rt, rt.alloc(), script) == Some((offset, cause)));
+    }
+}
+
+#[test]
+fn a_journal_takes_events(rt: HostRuntime) -> Result<(), Fail> {
+    let mut journal = Journal::new(rt.alloc());
+    assert!(rt; journal.is_empty() && journal.now() == 0);
+    journal.reserve(2)?;
+    journal.push(Event::Sweep { moment: 3 });
+    journal.push(Event::Finish {
+        ticket: 0,
+        took: 9,
+        reply: Reply::Lost,
+    });
+    assert!(rt; journal.len() == 2 && journal.now() == 3);
+    assert!(rt; journal.into_events().len() == 2);
+    Ok(())
+}

@@ -1,0 +1,25 @@
+//! The tokens of a line.
+
+use expo_lexer::{Lexer, Token, TokenKind};
+
+/// The tokens of the line `x{a="\"}" ,}`, a tab, `1 "b`.
+const TOKENS: &[(TokenKind, usize, usize)] = &[
+    (TokenKind::Word, 0, 1),
+    (TokenKind::LeftBrace, 1, 2),
+    (TokenKind::Word, 2, 3),
+    (TokenKind::Equals, 3, 4),
+    (TokenKind::Quoted, 4, 9),
+    (TokenKind::Comma, 10, 11),
+    (TokenKind::RightBrace, 11, 12),
+    (TokenKind::Word, 13, 14),
+    (TokenKind::Torn, 15, 17),
+];
+
+#[test]
+fn tokens_have_kinds_and_spans(rt: HostRuntime) {
+    let mut lexer = Lexer::over(b"x{a=\"\\\"}\" ,}\t1 \"b");
+    for &(kind, start, end) in TOKENS {
+        assert_eq!(rt; lexer.next(), Some(Token { kind, start, end }));
+    }
+    assert!(rt; lexer.next().is_none());
+}
