@@ -5,3 +5,4 @@ pub mod SeriesLemmas
 pub mod IndexLemmas
 pub mod MoreLemmas
 pub mod LawLemmas
+pub mod SharingLemmas

@@ -3,3 +3,4 @@ pub mod LineLemmas
 pub mod EventLemmas
 pub mod JournalLemmas
 pub mod ReadingLemmas
+pub mod SharingLemmas

@@ -4,3 +4,4 @@ pub mod WantLemmas
 pub mod RollLemmas
 pub mod FlightLemmas
 pub mod CountLemmas
+pub mod SharingLemmas

@@ -1,14 +1,5 @@
 //! What is asked of a run, how it ended, and what it hands back.
 use config_fields::ConfFault;
-use std::alloc::Global;
-use std::hash::RandomState;
-
-/// Where memory comes from, and a seed for the hashes of series, which a target names.
-#[derive(Clone, Copy)]
-pub struct Means {
-    pub alloc: Global,
-    pub seed: RandomState,
-}
 
 /// A run that is asked for.
 #[derive(Clone, Copy)]

@@ -7,12 +7,12 @@ ghost use Rattle.outside.specs.Sizes.{most_text_bytes};
 ghost use Rattle.scrape_core.specs.Records.{IsFresh};
 ghost use Rattle.live_run.specs.Runs as spec;
 
-use crate::asked::{LiveEnd, Means};
+use crate::asked::LiveEnd;
 use journal_text::Event;
 use label_set::{Blob, NoMemory, Steps};
 use outside::{MOST_TEXT_BYTES, Shelf, ShelfError};
 use run_lock::tasks::fault_of;
-use scrape_core::Core;
+use scrape_core::{Core, Means};
 use std::alloc::Global;
 use std::marker::Brand;
 use std::sync::ledger::{Blank, Ledger};
@@ -50,11 +50,15 @@ fn step_load<L: Ledger>(
         Ok(core) => core,
         Err(NoMemory) => return Err(LiveEnd::NoMemory),
     };
-    let Ok(answer) = core.step(means.alloc, Event::Load { moment, text }, steps) else {
+    let Ok(answer) = core.take(means.alloc, Event::Load { moment, text }, steps) else {
+        core.let_go();
         return Err(LiveEnd::NoMemory);
     };
     match fault_of(answer) {
-        Some(fault) => Err(LiveEnd::Config(fault)),
+        Some(fault) => {
+            core.let_go();
+            Err(LiveEnd::Config(fault))
+        }
         None => Ok(core),
     }
 }

@@ -6,13 +6,13 @@ ghost use Rattle.station.specs.Ends.{SourceWent};
 ghost use Rattle.live_run.specs.Runs as spec;
 ghost use Rattle.live_run.specs.Runs.{touched, wanted, Ended, Stopped};
 
-use crate::asked::{Asked, LiveEnd, Lived, Means};
+use crate::asked::{Asked, LiveEnd, Lived};
 use crate::first_load::first_load;
 use crate::written::write_run;
 use book_text::PrintError;
 use outside::{Clock, Fetch, Shelf, Sink, Source};
-use scrape_core::Core;
-use station::{RunEnd, run_station};
+use scrape_core::{Core, Means};
+use station::{Ran, RunEnd, run_station};
 use std::alloc::Global;
 use std::marker::{Send, Sync};
 use std::sync::Wait;
@@ -124,10 +124,19 @@ pub fn run_live<
         fetchers,
     );
     let end = finish_run(means.alloc, asked.kept, ran.end, &ran.core, trail, out);
+    let Ran {
+        end: _,
+        core,
+        seats: _,
+        control,
+        clock,
+        fetchers,
+    } = ran;
+    core.let_go();
     Lived {
         end,
-        control: ran.control,
-        clock: ran.clock,
-        fetchers: ran.fetchers,
+        control,
+        clock,
+        fetchers,
     }
 }

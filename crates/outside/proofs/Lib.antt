@@ -1,2 +1,3 @@
 mod ClockLemmas
 mod ReplyLemmas
+pub mod SharingLemmas

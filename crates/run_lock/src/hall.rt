@@ -21,8 +21,7 @@ use std::alloc::Global;
 use std::sync::ledger::Ledger;
 use std::sync::{Condvar, Mutex, Wait};
 
-/// The lock of a run.
-#[derive(Drop)]
+/// The lock of a run. It can't be let go: the station comes out of it.
 pub struct Hall<L: Ledger, B: Room> {
     lock: Mutex<Station<L, B>>,
     changed: Condvar,
@@ -39,7 +38,8 @@ impl<L: Ledger, B: Room> Hall<L, B> {
 
     /// What lies under the lock, once all loops are over.
     pub fn into_station(self) -> Station<L, B> {
-        self.lock.into_inner()
+        let Hall { lock, changed: _ } = self;
+        lock.into_inner()
     }
 
     /// Waits until there is something to do, and takes it.

@@ -2,6 +2,7 @@
 //! what is still to come. Beside it lies a desk through which each note of a seat goes: the pass under the lock knows all notes, and the pass of
 //! each seat its own, so the journal is known to be whole once the loops are over.
 //! Contracts see the journal as its list of events.
+//! Tests: `live.rt` of the tests of `scrape_cli`.
 #![tactic(auto)]
 
 pub mod hall;

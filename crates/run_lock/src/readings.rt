@@ -57,7 +57,7 @@ pub fn take_finish<L: Ledger>(
     ensures err { OnErr result (core.new ≡ core.old) }
 {
     match read {
-        Some(reply) => core.finish_read(alloc, event, reply, steps),
-        None => core.step(alloc, event, steps),
+        Some(reply) => core.take_read(alloc, event, reply, steps),
+        None => core.take(alloc, event, steps),
     }
 }

@@ -34,7 +34,7 @@ const LONGEST_WAIT: i64 = 1_000;
 
 /// The core of a run with the seats of its events, the tickets that are out, and what is still to come.
 /// The tickets from `next` on below `started` are ready, and each worker has a slot for the ticket that it has out.
-#[derive(Drop)]
+/// It can't be let go: the core comes out of it.
 pub struct Station<L: Ledger, B: Room> {
     core: Core,
     steps: Steps<L>,
@@ -244,7 +244,7 @@ impl<L: Ledger, B: Room> Station<L, B> {
         }
         let event = sweep_at(reading, self.core.moment());
         let (event, seat) = bring(rt, desk, &mut self.keeper, seat, event);
-        let Ok(_) = self.core.step(alloc, event, &mut self.steps) else {
+        let Ok(_) = self.core.take(alloc, event, &mut self.steps) else {
             self.failed = true;
             return (false, seat);
         };
@@ -279,7 +279,7 @@ impl<L: Ledger, B: Room> Station<L, B> {
         }
         let event = event_of(order, self.core.moment());
         let (event, seat) = bring(rt, desk, &mut self.keeper, seat, event);
-        let Ok(answer) = self.core.step(alloc, event, &mut self.steps) else {
+        let Ok(answer) = self.core.take(alloc, event, &mut self.steps) else {
             self.failed = true;
             return (None, seat);
         };

@@ -5,11 +5,11 @@ use Rattle.command_words.specs.Askings.{Running}
 use Rattle.live_run.specs.Runs.{Touched}
 use Rattle.live_run.specs.declared.asked.LiveEnd.TheVariants.{NoMemory}
 use Rattle.outside.specs.Objects.{SinkSeen, used, IsUntouched}
-use Rattle.scrape_cli.specs.Ends.{Call, Ended, Speaks, status_at}
+use Rattle.scrape_commands.specs.Ends.{Call, Ended, Speaks, status_at}
 use Rattle.scrape_cli.specs.Lives.{EndedLive, EndedStill}
-use Rattle.scrape_cli.specs.declared.refusals.Refusal.TheVariants as refusal
-use Rattle.scrape_cli.proofs.DueLemmas.{complete_by}
-use Rattle.scrape_cli.proofs.EndLemmas.{ended_by, later_by, printed_by, unwritten_by}
+use Rattle.scrape_commands.specs.declared.refusals.Refusal.TheVariants as refusal
+use Rattle.scrape_commands.proofs.DueLemmas.{complete_by}
+use Rattle.scrape_commands.proofs.EndLemmas.{ended_by, later_by, printed_by, unwritten_by}
 use Rattle.station.specs.Ends.{ShelfWent, SinkWent}
 
 pub ended_still : (status : ℕ) (c : Call) → Ended status c → EndedStill status c

@@ -1,6 +1,1 @@
-pub mod Checks
-pub mod Scripts
-pub mod Synths
-pub mod Ends
-pub mod Laws
 pub mod Lives

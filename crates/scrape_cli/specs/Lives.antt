@@ -9,10 +9,10 @@ use Rattle.live_run.specs.Runs as run
 use Rattle.live_run.specs.Runs.{Touched, wanted}
 use Rattle.live_run.specs.declared.asked.LiveEnd.{LiveEnd}
 use Rattle.live_run.specs.declared.asked.LiveEnd.TheVariants.{Done, ControlFault, ControlLong, Absent, TooLong, Config, ReadFault, WriteFault, NoMemory}
-use Rattle.scrape_cli.specs.Ends.{Call, Ended, Prints, Speaks, status_at, work_of}
-use Rattle.scrape_cli.specs.Laws.{Complete, NoCountFell}
-use Rattle.scrape_cli.specs.declared.refusals.Refusal.{Refusal}
-use Rattle.scrape_cli.specs.declared.refusals.Refusal.TheVariants as refusal
+use Rattle.scrape_commands.specs.Ends.{Call, Ended, Prints, Speaks, status_at, work_of}
+use Rattle.scrape_commands.specs.Laws.{Complete, NoCountFell}
+use Rattle.scrape_commands.specs.declared.refusals.Refusal.{Refusal}
+use Rattle.scrape_commands.specs.declared.refusals.Refusal.TheVariants as refusal
 
 -- no live run is asked for
 abbrev pub IsStill : Option Order → Type 0

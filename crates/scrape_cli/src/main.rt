@@ -1,27 +1,20 @@
-//! The program `scrape`: it replays a recorded journal of a scrape manager and prints the book of it, samples, stale markers and reports;
-//! it checks a configuration and prints how many jobs it has; or it makes a large journal from a number, replays that, and prints the
-//! summary of its book.
-//! The library is `tool`, generic over what has files and takes bytes; `main` hands it the real files and the standard streams.
-//! `specs/Statuses.antt` says what each exit status means, `specs/Words.antt` which words are taken,
-//! `specs/Checks.antt` what is said of a configuration; the crate `book_text` says how a book is printed.
+//! The program `scrape`: it scrapes the targets of a configuration and prints the book of that, samples, stale markers and reports; it replays a recorded
+//! journal to the same book; it checks a configuration and prints how many jobs it has; or it makes a large journal from a number, replays that, and
+//! prints the summary of its book.
+//! `tool` is the whole program, generic over what has files and takes bytes; `main` hands it the real files, the standard streams, clock and fetchers.
+//! `specs/Lives.antt` says how a run ends; how the other commands end stands in the crate `scrape_commands`, which words are taken in `command_words`.
 #![tactic(auto)]
 
 ghost use Rattle.std.specs.Prelude.{◌≡◌, vec_len, IfOk};
 
-mod checks;
-mod commands;
-mod messages;
-mod refusals;
-mod replays;
-mod still;
 #[cfg(test)]
 mod tests;
 pub mod tool;
 
 use http_fetch::HttpFetch;
 use label_set::Name;
-use live_run::Means;
 use outside::{FileShelf, FileSink, StdSink, StdSource, SystemClock, TcpLink};
+use scrape_core::Means;
 use std::hash::RandomState;
 use std::process::ExitCode;
 use std::rt::HostRuntime;

@@ -2,13 +2,13 @@
 mod cases;
 mod live;
 
-use crate::still::tool_still;
 use label_set::{Blob, Name, NoMemory};
-use live_run::Means;
 use md5::{Digest, Md5};
 use outside::{
     CallList, FileList, MemShelf, MemSink, Shelf, ShelfError, StoredFile, SureShelf, SureSink,
 };
+use scrape_commands::still::tool_still;
+use scrape_core::Means;
 use std::alloc::Global;
 use std::hash::RandomState;
 use std::process::Abort;

@@ -10,3 +10,4 @@ pub mod OrderLemmas
 pub mod LabelLemmas
 pub mod SoundLemmas
 pub mod SettingLemmas
+pub mod SharingLemmas

@@ -4,3 +4,5 @@ pub mod RecordLemmas
 pub mod ReaderLemmas
 pub mod NowLemmas
 pub mod FreshLemmas
+pub mod SharingLemmas
+pub mod ReplayLemmas

@@ -20,8 +20,8 @@ use Rattle.scrape_machine.specs.declared.answers.Answer.TheVariants.{Halted}
 use Rattle.scrape_machine.specs.declared.lives.Life.{Life}
 use Rattle.scrape_machine.specs.Lives.{ends, closed_ends}
 use Rattle.scrape_machine.specs.Machine.{World, world_of, answer, live_answer, starts_in, forces_in, is_over}
-use Rattle.scrape_machine.specs.Unended.{is_ended, unended}
-use Rattle.scrape_machine.proofs.UnendedLemmas.{any_unended, ended_closed, ended_ends}
+use Rattle.scrape_steps.specs.Unended.{is_ended, unended}
+use Rattle.scrape_steps.proofs.UnendedLemmas.{any_unended, ended_closed, ended_ends}
 use Rattle.scrape_core.specs.Readers.{did, is_due, acts, due_in, IsWake}
 use Rattle.scrape_core.specs.declared.state.State.{State}
 use Rattle.scrape_core.specs.Kept.{seen}

@@ -21,10 +21,11 @@ use Rattle.life_roll.specs.Schedules as schedule
 use Rattle.scrape_loop.specs.Tracked.{after_forced}
 use Rattle.scrape_laws.proofs.LifeLemmas.{scanned_closed}
 use Rattle.scrape_machine.specs.Lives.{is_open, forces, scanned_life}
-use Rattle.scrape_machine.specs.Unended.{is_ended}
-use Rattle.scrape_machine.specs.Machine.{World, world, is_open_life, tick_answer, finished, answer, step, gives}
-use Rattle.scrape_machine.proofs.EventLemmas.{load_silent, update_silent}
-use Rattle.scrape_machine.proofs.ScanLemmas.{halt_step, halt_silent}
+use Rattle.scrape_steps.specs.Unended.{is_ended}
+use Rattle.scrape_machine.specs.Machine.{World, world, tick_answer, finished, answer, step, gives}
+use Rattle.scrape_steps.specs.Scans.{is_open_life}
+use Rattle.scrape_steps.proofs.EventLemmas.{load_silent, update_silent}
+use Rattle.scrape_steps.proofs.ScanLemmas.{halt_step, halt_silent}
 use Rattle.scrape_core.specs.declared.state.State.{State}
 use Rattle.scrape_core.specs.Kept.{seen, live, Appends}
 

@@ -6,7 +6,7 @@ use Rattle.report_samples.specs.declared.entries.Entry.{Entry}
 use Rattle.scrape_machine.specs.Lives.{IsRightLife}
 use Rattle.scrape_machine.specs.Machine.{World, world, world_of, book_of, gives}
 use Rattle.scrape_machine.specs.Runs.{runs_of}
-use Rattle.scrape_machine.specs.Unended.{unended_from}
+use Rattle.scrape_steps.specs.Unended.{unended_from}
 use Rattle.scrape_core.specs.declared.state.State.{State}
 
 -- the world that a state is

@@ -1,11 +1,12 @@
 //! Loads of a configuration and updates of a file's targets.
-ghost use Rattle.std.specs.Prelude.{◌≡◌, ◌≤◌, ◌<◌, ◌+◌, ◌^◌, ◌++◌, [], List, length, filter, vec_len, vec_capacity, Ok, IfOk, OnOk, OnErr};
+ghost use Rattle.std.specs.Prelude.{◌≡◌, ◌≤◌, ◌<◌, ◌+◌, ◌^◌, ◌++◌, [], List, length, map, filter, vec_len, vec_capacity, Ok, IfOk, OnOk, OnErr};
 ghost use Rattle.std.specs.List.{range_with_len};
 ghost use Rattle.journal_text.specs.declared.events.Event.TheVariants.{Load, Targets};
 ghost use Rattle.scrape_machine.specs.Machine as spec;
-ghost use Rattle.scrape_machine.specs.Plans as plan;
+ghost use Rattle.scrape_steps.specs.Plans as plan;
+ghost use Rattle.scrape_steps.specs.Reloads as reloads;
 ghost use Rattle.scrape_machine.specs.Runs.{runs};
-ghost use Rattle.scrape_machine.specs.Unended as listed;
+ghost use Rattle.scrape_steps.specs.Unended as listed;
 ghost use Rattle.scrape_core.specs.Kept as kept;
 
 use crate::state::State;
@@ -15,13 +16,13 @@ use jobs_in_force::listed::{listed_by, listed_by_named};
 use jobs_in_force::loads::{in_force_all, load_of};
 use jobs_in_force::updates::{UpdateError, jobs_updated, update_of};
 use label_set::{Blob, Name, NoMemory, Steps};
-use life_roll::Moment;
+use life_roll::{JobNames, Moment};
 use scrape_config::ConfError;
 use scrape_machine::Answer;
-use scrape_machine::acts::{Fate, meet_all};
 use scrape_machine::lives::Life;
-use scrape_machine::reloads::{births_of, count_closed, fates_of, held_of, names_of, verdicts_of};
-use scrape_machine::unended::{Lives, drop_ended};
+use scrape_steps::acts::{Fate, meet_all};
+use scrape_steps::reloads::{births_of, count_closed, fates_of, held_of, names_of, verdicts_of};
+use scrape_steps::unended::{Lives, drop_ended};
 use std::alloc::Global;
 use std::sync::ledger::Ledger;
 
@@ -42,6 +43,21 @@ pub struct Synced {
     pub begun: u32,
 }
 
+/// What becomes of each life that has not ended, where some jobs give way to others; nothing changes yet.
+fn fates_to(
+    alloc: Global,
+    olds: &[InForce],
+    names: &JobNames,
+    news: &[InForce],
+    lives: &Lives<'_>,
+) -> Result<Vec<Fate>, NoMemory>
+    ensures { IfOk result (λ v. v.items ≡ map (plan.fate_of names.now news.now (map (spec.verdict olds.now) news.now)) (listed.unended lives.now)) }
+{
+    let old_names = names_of(alloc, olds)?;
+    let verdicts = verdicts_of(alloc, &old_names, olds, news)?;
+    fates_of(alloc, names, news, &verdicts, lives)
+}
+
 /// What a change at a moment from some jobs to others comes to; nothing changes yet.
 fn change_to(
     alloc: Global,
@@ -52,14 +68,12 @@ fn change_to(
 ) -> Result<Change, NoMemory>
     requires { length lives.now < 2 ^ 32 }
     ensures each { IfOk result (λ c. length c.fates.items ≡ length (listed.unended lives.now)) }
-    ensures lives { IfOk result (λ c. plan.after_each moment (listed.all_fates c.fates.items lives.now) lives.now ≡ spec.reload_lives moment news.now (spec.world olds.now lives.now [])) }
-    ensures closed { IfOk result (λ c. length (filter plan.closes c.fates.items) ≡ spec.closed_by moment news.now (spec.world olds.now lives.now [])) }
-    ensures begun { IfOk result (λ c. c.begun.items ≡ spec.reload_births moment news.now (spec.world olds.now lives.now [])) }
+    ensures lives { IfOk result (λ c. plan.after_each moment (listed.all_fates c.fates.items lives.now) lives.now ≡ reloads.reload_lives moment news.now (spec.world olds.now lives.now [])) }
+    ensures closed { IfOk result (λ c. length (filter plan.closes c.fates.items) ≡ reloads.closed_by moment news.now (spec.world olds.now lives.now [])) }
+    ensures begun { IfOk result (λ c. c.begun.items ≡ reloads.reload_births moment news.now (spec.world olds.now lives.now [])) }
 {
-    let old_names = names_of(alloc, olds)?;
     let names = names_of(alloc, news)?;
-    let verdicts = verdicts_of(alloc, &old_names, olds, news)?;
-    let fates = fates_of(alloc, &names, news, &verdicts, lives)?;
+    let fates = fates_to(alloc, olds, &names, news, lives)?;
     let held = held_of(alloc, &names, &fates, lives)?;
     let first = lives.len() as u64;
     let begun = births_of(alloc, moment, first, &names, news, &held)?;
@@ -96,9 +110,9 @@ fn reload(
 ) -> Result<Synced, NoMemory>
     requires few { kept.HasFew state.old }
     requires listed { kept.IsListed state.old }
-    ensures closed { IfOk result (λ s. s.closed ≡ spec.closed_by moment jobs.items (kept.live state.old)) }
-    ensures begun { IfOk result (λ s. s.begun ≡ spec.begun_by moment jobs.items (kept.live state.old)) }
-    ensures state { OnOk result (kept.live state.new ≡ spec.reloaded moment jobs.items (kept.live state.old)) }
+    ensures closed { IfOk result (λ s. s.closed ≡ reloads.closed_by moment jobs.items (kept.live state.old)) }
+    ensures begun { IfOk result (λ s. s.begun ≡ reloads.begun_by moment jobs.items (kept.live state.old)) }
+    ensures state { OnOk result (kept.live state.new ≡ reloads.reloaded moment jobs.items (kept.live state.old)) }
     ensures few { OnOk result (kept.HasFew state.new) }
     ensures listed { kept.IsListed state.new }
     ensures same { state.new.halted ≡ state.old.halted }

@@ -14,8 +14,8 @@ use label_set::{NoMemory, Steps};
 use life_roll::Moment;
 use scrape_loop::LentReply;
 use scrape_machine::Answer;
-use scrape_machine::finishes::{count, finish, found};
 use scrape_machine::lives::Found;
+use scrape_steps::finishes::{count, finish, found};
 use std::alloc::Global;
 use std::sync::ledger::Ledger;
 

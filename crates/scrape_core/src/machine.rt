@@ -1,6 +1,5 @@
-//! The core: what a scrape manager has taken so far, and one call that takes an event.
-ghost use Rattle.std.specs.Prelude.{◌≡◌, ◌+◌, ◌^◌, ℕ, nat_lt, List, ◌++◌, [], ◌∷◌, length, pos, true, IfOk, OnOk, OnErr};
-ghost use Rattle.label_set.specs.declared.texts.Pair.{Pair};
+//! The core: what a scrape manager has taken so far, and the call that takes an event.
+ghost use Rattle.std.specs.Prelude.{◌≡◌, ◌+◌, ◌^◌, nat_lt, ◌++◌, [], ◌∷◌, length, pos, true, IfOk, OnOk, OnErr};
 ghost use Rattle.journal_text.specs.declared.events.Event.{Event};
 ghost use Rattle.journal_text.specs.declared.events.Event.TheVariants.{Halt};
 ghost use Rattle.journal_text.specs.Events.{IsInLimits, MayFollow, now_of};
@@ -9,11 +8,6 @@ ghost use Rattle.scrape_core.specs.Readers.{IsWake, is_due, request};
 ghost use Rattle.scrape_core.specs.Records.{is_live, started_of};
 ghost use Rattle.scrape_machine.specs.Machine as spec;
 ghost use Rattle.scrape_machine.specs.Runs as relabelling;
-ghost use Rattle.scrape_laws.specs.Markers.{MarkerLaw, ReportMarkerLaw};
-ghost use Rattle.scrape_laws.specs.Runs.{ClosedRunsLaw};
-ghost use Rattle.scrape_laws.specs.Late.{LateLaw};
-ghost use Rattle.scrape_laws.specs.Undisturbed.{NothingLaw, UndisturbedLaw, IdleLaw, RefusedLaw};
-ghost use Rattle.scrape_laws.specs.Apart.{ApartLaw, ApartRunsLaw, ReloadLaw};
 
 use crate::events::take;
 use crate::readers::{due_in, request_in, wake_in};
@@ -24,9 +18,6 @@ use journal_text::{Event, Journal};
 use label_set::{NoMemory, Steps};
 use life_roll::Moment;
 use outside::Request;
-use scrape_laws::laws::{
-    closed_runs, late, lives_apart, markers, nothing, reloads, report_markers, undisturbed,
-};
 use scrape_machine::Answer;
 use std::alloc::Global;
 use std::hash::RandomState;
@@ -34,6 +25,7 @@ use std::marker::Model;
 use std::sync::ledger::Ledger;
 
 mod read_bodies;
+mod stepping;
 
 /// The core of a scrape manager, as the events that it took.
 #[derive(Drop)]
@@ -119,17 +111,16 @@ impl Core {
         })
     }
 
+    /// Lets the core go. A crate that drops a core proves the drops of all its parts anew, so who holds one hands it back here.
+    pub fn let_go(self) {}
+
     /// Takes an event: the answer is the defined one after the journal, which then ends with the event, and the book is that of the new journal.
     /// After a refusal for want of memory the event is dropped and the core as before.
     /// The moment is at least `now`, and the event keeps the limits of a journal's events.
     ///
-    /// What that means for a dashboard is said by the other clauses, which are laws of `scrape_laws`:
-    /// each closed run of a tracked series in a life has exactly one stale marker, after it, and no marker stands elsewhere (`markers`, `closed_runs`);
-    /// the report markers are those of endings (`report_markers`); a finish that doesn't count adds nothing (`late`);
-    /// an event that is nothing to a life, an idle scan and a refused event leave the life as it is (`nothing`, `undisturbed`, `idle`, `refused`);
-    /// each relabelling run takes one step (`steps`);
-    /// lives that meet the same go alike (`apart`, `runs`), so that a reload doesn't tear the lives that it leaves alone (`reload`).
-    pub fn step<L: Ledger>(
+    /// This is `step` for who carries the journal on: what the laws say of a journal they say of each, so a caller that promises them cites
+    /// `scrape_laws::laws`.
+    pub fn take<L: Ledger>(
         &mut self,
         alloc: Global,
         event: Event,
@@ -140,27 +131,8 @@ impl Core {
         ensures answer { IfOk result (λ a. a ≡ spec.answer (spec.world_of self.old) event) }
         ensures joined { OnOk result (self.new ≡ self.old ++ event ∷ []) }
         ensures err { OnErr result (self.new ≡ self.old) }
-        ensures markers { MarkerLaw self.new }
-        ensures closed_runs { (n : ℕ) (x : List Pair) → ClosedRunsLaw self.new n x }
-        ensures report_markers { ReportMarkerLaw self.new }
-        ensures late { LateLaw (spec.world_of self.new) }
-        ensures nothing { NothingLaw (spec.world_of self.old) event }
-        ensures undisturbed { UndisturbedLaw self.old event }
-        ensures idle { IdleLaw self.old event }
-        ensures refused { RefusedLaw self.old event }
-        ensures apart { ApartLaw self.old event }
-        ensures runs { (other : List Event) → ApartRunsLaw self.new other }
-        ensures reload { ReloadLaw self.old event }
         ensures steps { OnOk result (steps.new ≡ steps.old + relabelling.runs (spec.world_of self.old) event) }
     {
-        markers();
-        closed_runs();
-        report_markers();
-        late();
-        nothing();
-        undisturbed();
-        lives_apart();
-        reloads();
         if !has_room_for_runs(self.runs) {
             return Err(NoMemory);
         }

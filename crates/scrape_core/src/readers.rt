@@ -11,9 +11,9 @@ use end_of_run::due_at;
 use label_set::NoMemory;
 use life_roll::Moment;
 use outside::Request;
-use scrape_machine::acts::ends;
 use scrape_machine::lives::{Life, Start};
-use scrape_machine::unended::Lives;
+use scrape_steps::acts::ends;
+use scrape_steps::unended::Lives;
 use std::alloc::Global;
 use target_set::request_of;
 

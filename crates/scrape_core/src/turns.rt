@@ -3,7 +3,7 @@ ghost use Rattle.std.specs.Prelude.{◌≡◌, ◌≤◌, ◌<◌, ◌+◌, ◌^
 ghost use Rattle.journal_text.specs.declared.events.Event.TheVariants.{Sweep, Tick};
 ghost use Rattle.journal_text.specs.Lines.{number};
 ghost use Rattle.scrape_machine.specs.Machine as spec;
-ghost use Rattle.scrape_machine.specs.Plans as plan;
+ghost use Rattle.scrape_steps.specs.Scans as scanned;
 ghost use Rattle.scrape_core.specs.Kept as kept;
 
 use crate::state::State;
@@ -12,14 +12,14 @@ use label_set::NoMemory;
 use life_roll::{JobNames, Moment};
 use report_samples::EntryList;
 use scrape_machine::Answer;
-use scrape_machine::acts::{is_open, push_scan, scan};
 use scrape_machine::lives::{Life, Start};
-use scrape_machine::reloads::names_of;
-use scrape_machine::scans::{
+use scrape_steps::acts::{is_open, push_scan, scan};
+use scrape_steps::reloads::names_of;
+use scrape_steps::scans::{
     count_ends, count_forced, count_starts, entries_of, is_over_in, starts_of, sweep_lives,
     tick_answer, ticked,
 };
-use scrape_machine::unended::{Lives, drop_ended};
+use scrape_steps::unended::{Lives, drop_ended};
 use std::alloc::Global;
 
 /// Adds started scrapes, into room that was made before.
@@ -34,7 +34,7 @@ fn push_starts(started: &mut Vec<Start>, begun: Vec<Start>)
 
 /// The answer to a sweep.
 fn sweep_answer(names: &JobNames, state: &State, moment: Moment) -> Answer
-    requires names { names.now ≡ map plan.name_of state.now.jobs.items }
+    requires names { names.now ≡ map spec.name_of state.now.jobs.items }
     requires few { kept.HasFew state.now }
     requires listed { kept.IsListed state.now }
     ensures { result ≡ spec.sweep_answer (kept.live state.now) (number moment) }
@@ -46,6 +46,24 @@ fn sweep_answer(names: &JobNames, state: &State, moment: Moment) -> Answer
         forced: count_forced(names, &state.jobs, moment, &lives) as u32,
         ended: count_ends(moment, &lives) as u64,
     }
+}
+
+/// Appends the entries that a sweep at a moment gives, before the lives are swept.
+fn append_swept(
+    alloc: Global,
+    names: &JobNames,
+    state: &State,
+    book: &mut Book,
+    moment: Moment,
+) -> Result<(), NoMemory>
+    requires names { names.now ≡ map spec.name_of state.now.jobs.items }
+    requires listed { kept.IsListed state.now }
+    ensures book { OnOk result (kept.Appends (kept.live state.now) (Sweep moment) book.old.entries book.new.entries) }
+    ensures err { OnErr result (book.new ≡ book.old) }
+{
+    let lives = Lives::of(&state.lives, &state.unended);
+    let items = entries_of(alloc, names, &state.jobs, moment, &lives)?;
+    book.append_all(EntryList { items })
 }
 
 /// A sweep at a moment.
@@ -70,9 +88,8 @@ pub fn take_sweep(
     let answer = sweep_answer(&names, state, moment);
     let lives = Lives::of(&state.lives, &state.unended);
     let begun = starts_of(alloc, &names, &state.jobs, moment, &lives)?;
-    let items = entries_of(alloc, &names, &state.jobs, moment, &lives)?;
     state.started.reserve(begun.len())?;
-    book.append_all(EntryList { items })?;
+    append_swept(alloc, &names, state, book, moment)?;
     sweep_lives(
         &names,
         &state.jobs,
@@ -94,7 +111,7 @@ fn tick_open(
     moment: Moment,
     life: u64,
 ) -> Result<(), NoMemory>
-    requires there { spec.is_open_at (kept.live state.old) life ≡ true }
+    requires there { scanned.is_open_at (kept.live state.old) life ≡ true }
     requires few { kept.HasFew state.old }
     requires listed { kept.IsListed state.old }
     ensures state { OnOk result (kept.live state.new ≡ spec.step (kept.live state.old) (Tick moment life)) }
@@ -127,7 +144,7 @@ fn life_at(lives: &[Life], life: u64) -> Option<&Life>
 
 /// Whether there is an open life with this number.
 fn is_open_at(lives: &[Life], life: u64) -> bool
-    ensures { result ≡ spec.is_open_life (slice_get lives.now life) }
+    ensures { result ≡ scanned.is_open_life (slice_get lives.now life) }
 {
     match life_at(lives, life) {
         None => false,

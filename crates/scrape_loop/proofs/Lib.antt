@@ -4,3 +4,4 @@ pub mod RightLemmas
 pub mod ShownLemmas
 pub mod SettleLemmas
 pub mod TextLemmas
+pub mod SharingLemmas

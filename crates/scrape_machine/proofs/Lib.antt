@@ -1,13 +1,4 @@
 pub mod StepLemmas
 pub mod OneLemmas
-pub mod ReloadLemmas
-pub mod EventLemmas
-pub mod ScanLemmas
-pub mod FinishLemmas
-pub mod HeldLemmas
-pub mod BirthLemmas
-pub mod WholeLemmas
 pub mod RunLemmas
-pub mod UnendedLemmas
-pub mod SweptLemmas
-pub mod ListedLemmas
+pub mod SharingLemmas

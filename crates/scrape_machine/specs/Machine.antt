@@ -30,7 +30,7 @@ use Rattle.scrape_machine.specs.declared.answers.Answer.{Answer}
 use Rattle.scrape_machine.specs.declared.answers.Answer.TheVariants.{Loaded, Updated, Refused, NoJob, NoFile, Started, Forced, NotDue, Busy, NoLife, Swept, Counted, Late, NoTicket, Halted}
 use Rattle.jobs_in_force.specs.Jobs.{job_named, is_crowded, has_target, in_force, loaded, updated, jobs_updated, Unlisted, UnknownJob, UnknownFile, Faulty}
 use Rattle.jobs_in_force.specs.Settings.{settings_of}
-use Rattle.scrape_machine.specs.Lives.{is_open, born, starts, forces, ends, life_after, life_gives, scan_entries, outcome_for}
+use Rattle.scrape_machine.specs.Lives.{is_open, born, starts, forces, ends, life_after, life_gives, outcome_for}
 
 -- what the past comes to: the configuration in force, the lives by number, the started scrapes by ticket, and whether a halt came
 pub record World : Type 0 where
@@ -62,7 +62,10 @@ new_jobs jobs (Sweep m) = None
 new_jobs jobs (Finish k took r) = None
 new_jobs jobs (Halt m) = None
 
--- the name of a life's job
+-- the name of a job, and that of a life's job
+abbrev pub name_of : InForce → List ℕ
+name_of j = j.job.conf.job_name
+
 abbrev pub job_name : Life → List ℕ
 job_name l = l.settings.conf.job_name
 
@@ -105,10 +108,6 @@ starts_in jobs m l = starts m (is_over jobs l) l
 abbrev pub forces_in : List InForce → ℕ → Life → Bool
 forces_in jobs m l = forces m (is_over jobs l) l
 
--- the entries that a sweep at m gives of a life
-abbrev pub swept_entries : List InForce → ℤ → Life → List Entry
-swept_entries jobs m l = scan_entries m (is_over jobs l) l l.schedule.closed
-
 -- the ticket of life n in a sweep: the scrapes started before, those of the sweep's earlier lives too
 abbrev pub ticket_in_sweep : World → ℕ → ℕ → ℕ
 ticket_in_sweep w m n = length w.started + length (filter (starts_in w.jobs m) (take n w.lives))
@@ -129,12 +128,6 @@ found_start ls k (Some s) = if s.finished then NotStarted else found_life k s.li
 
 abbrev pub found : World → ℕ → Found
 found w k = found_start w.lives k (slice_get w.started k)
-
--- what was found is among so many lives
-abbrev pub IsWithin : ℕ → Found → Type 0
-IsWithin count NotStarted = Unit {0}
-IsWithin count Cancelled = Unit {0}
-IsWithin count (Counts n m) = n < count
 
 -- what a finish is to life number n, by what it finds
 abbrev pub finish_local : ℕ → ℤ → Reply → Found → Local
@@ -274,33 +267,6 @@ closed_count w e = length (filter closes (locals_from w e 0 w.lives))
 abbrev pub begun_count : World → Event → ℕ
 begun_count w e = length (begun w.jobs e (lives_from w e 0 w.lives))
 
--- the world after the configuration in force becomes these jobs at m
-abbrev pub reload_life : ℤ → List InForce → List InForce → Life → Life
-reload_life m jobs news l = life_after (reload_local m jobs (Some news) l) l
-
-abbrev pub reload_lives : ℤ → List InForce → World → List Life
-reload_lives m news w = map (reload_life m w.jobs news) w.lives
-
-abbrev pub reload_births : ℤ → List InForce → World → List Life
-reload_births m news w = births (number m) (length w.lives) (reload_lives m news w) news
-
-abbrev pub reloaded : ℤ → List InForce → World → World
-reloaded m news w = record w { jobs = news; lives = reload_lives m news w ++ reload_births m news w }
-
-abbrev pub closed_by : ℤ → List InForce → World → ℕ
-closed_by m news w = length (filter closes (map (reload_local m w.jobs (Some news)) w.lives))
-
-abbrev pub begun_by : ℤ → List InForce → World → ℕ
-begun_by m news w = length (reload_births m news w)
-
--- life number n is open
-abbrev pub is_open_life : Option Life → Bool
-is_open_life None = false
-is_open_life (Some l) = is_open l
-
-abbrev pub is_open_at : World → ℕ → Bool
-is_open_at w n = is_open_life (slice_get w.lives n)
-
 -- the answer to a load, to an update
 abbrev pub load_answer : ℕ → ℕ → Result (List Filed) ConfFault → Answer
 load_answer closed begun (Err fault) = Refused fault
@@ -339,12 +305,6 @@ abbrev pub finish_answer : World → ℤ → Reply → Found → Answer
 finish_answer w took r NotStarted = NoTicket
 finish_answer w took r Cancelled = Late
 finish_answer w took r (Counts n m) = Counted (fault_at took r (slice_get w.lives n))
-
--- the answer to a finish that finds no life
-abbrev pub IsMissed : Answer → Found → Type 0
-IsMissed a NotStarted = a ≡ NoTicket
-IsMissed a Cancelled = a ≡ Late
-IsMissed a (Counts n m) = ⊥
 
 -- the answer to an event
 abbrev pub live_answer : World → Event → Answer

@@ -6,3 +6,4 @@ pub mod AddedLemmas
 pub mod MemberLemmas
 pub mod HashLemmas
 pub mod TurnLemmas
+pub mod SharingLemmas

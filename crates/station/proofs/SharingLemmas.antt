@@ -14,7 +14,7 @@ use denote.Struct.Tuple.{TupleAt, type_at}
 use Rattle.std.proofs.Crossing.{crosses, frees, Vec-send, send as heap_send, sync as heap_sync}
 use Rattle.atomic_table.proofs.shared.Seat.TheSendSync as seat
 use Rattle.label_set.proofs.steps.Steps.TheSendSync as steps
-use Rattle.core_sharing.proofs.CoreSharing.{core_send}
+use Rattle.scrape_core.proofs.SharingLemmas.{core_send}
 use Rattle.std.specs.declared.sync.ledger.Ledger as Ledger
 use Rattle.seat_notes.specs.declared.desk.Room as Room
 use Rattle.seat_notes.specs.contracts.desk.Note as Note

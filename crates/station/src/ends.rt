@@ -54,8 +54,7 @@ impl Model for SeatList {
     ghost view = { λ l. l.items.items };
 }
 
-/// What a run hands back.
-#[derive(Drop)]
+/// What a run hands back. Its core is to be let go by whoever takes it.
 pub struct Ran<C, K, F> {
     pub end: RunEnd,
     pub core: Core,

@@ -65,7 +65,6 @@ fn unmade<C, K, F>(
 }
 
 /// A run before its loops: the station under its lock, and a pass for each seat.
-#[derive(Drop)]
 struct Opened<L: Ledger, B: Room> {
     hall: Hall<L, B>,
     caller: Token,
@@ -117,7 +116,6 @@ fn open_run<L: Ledger, B: Room>(
 }
 
 /// The journal of a run whose loops are over, closed where none met want of memory.
-#[derive(Drop)]
 struct Closed {
     whole: bool,
     core: Core,
@@ -264,12 +262,15 @@ fn run_with<
         ticked.seat,
         controlled.seat,
     );
+    let Closed {
+        whole,
+        core,
+        numbers,
+    } = closed;
     Ran {
-        end: end_of(closed.whole, controlled.end),
-        core: closed.core,
-        seats: SeatList {
-            items: closed.numbers,
-        },
+        end: end_of(whole, controlled.end),
+        core,
+        seats: SeatList { items: numbers },
         control: Some(controlled.control),
         clock: Some(ticked.clock),
         fetchers: crew.fetchers,

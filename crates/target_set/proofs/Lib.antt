@@ -3,3 +3,4 @@ pub mod OverlayLemmas
 pub mod WalkLemmas
 pub mod RequestLemmas
 pub mod ValueLemmas
+pub mod SharingLemmas

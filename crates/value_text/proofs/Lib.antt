@@ -3,3 +3,4 @@ pub mod DurationLemmas
 pub mod GrammarLemmas
 pub mod NumberLemmas
 pub mod ValueLemmas
+pub mod SharingLemmas

@@ -61,6 +61,20 @@ impl<L: Ledger, B: Room> Station<L, B> {
     pub fn into_core(self) -> (Core, Vec<u32>)
         ensures { vec_len result.1 ≡ length result.0 }
     {
-        (self.core, self.seats)
+        let Station {
+            core,
+            steps: _,
+            seats,
+            next: _,
+            started: _,
+            slots: _,
+            out: _,
+            sweeps_left: _,
+            ended: _,
+            failed: _,
+            keeper: _,
+            room: _,
+        } = self;
+        (core, seats)
     }
 }

@@ -11,12 +11,12 @@
 //! before it away.
 use super::{ROOM, Ran, means_of, run_over};
 use label_set::{Blob, Name, NoMemory};
-use live_run::Means;
 use outside::{FileList, StoredFile, SureShelf};
 use scrape_cases::{
     bodies, broken, checked, conflicts, endings, fields, flags, limits, relabelling, reloads,
     scripts, synths, targets, texts, updates, verdicts, words,
 };
+use scrape_core::Means;
 use std::alloc::{AllocError, Global};
 use std::process::Abort;
 use std::str;

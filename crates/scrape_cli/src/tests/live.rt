@@ -2,14 +2,14 @@
 ghost use Rattle.std.specs.Prelude.{◌≡◌, vec_len, IfOk};
 
 use super::{ROOM, fails, means_of, words_of};
-use crate::still::tool_still;
 use crate::tool::{Finished, tool};
 use label_set::{Blob, Name, NoMemory};
-use live_run::Means;
 use outside::{
     Clock, Fetch, Fetched, FetchedList, FileList, MemClock, MemFetch, MemShelf, MemSink, MemSource,
     MomentList, Request, Source, SourceFault, StoredFile,
 };
+use scrape_commands::still::tool_still;
+use scrape_core::Means;
 use std::alloc::Global;
 use std::marker::{Send, Sync};
 use std::process::Abort;

@@ -1,7 +1,7 @@
 use Rattle.std.proofs.Common.{◌≡◌, ◌∙◌, [], ℕ, map, refl, string_bytes, subst, sym}
 use Rattle.outside.specs.Objects.{used}
 use Rattle.live_run.specs.Runs.{touched}
-use Rattle.scrape_cli.specs.Ends.{call}
+use Rattle.scrape_commands.specs.Ends.{call}
 use Rattle.scrape_cli.specs.Lives.{EndedLive, EndedStill}
 use Rattle.scrape_cli.proofs.LiveLemmas.{ended_still, live_wanting, still_wanting}
 use Rattle.station.proofs.EndLemmas.{shelf_same, sink_same}

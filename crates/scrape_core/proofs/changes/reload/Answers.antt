@@ -3,13 +3,14 @@ use Rattle.std.specs.Prelude.{filter, List, ℕ}
 use Rattle.std.specs.List.{range_with_len}
 use Rattle.std.proofs.Math.Seq.{take-append_seam}
 use Rattle.std.proofs.lemmas.List.{length-map}
-use Rattle.scrape_machine.specs.Machine.{world, closed_by, begun_by, reload_life, reload_lives, reload_births}
-use Rattle.scrape_machine.specs.declared.acts.Fate.{Fate}
+use Rattle.scrape_machine.specs.Machine.{world}
+use Rattle.scrape_steps.specs.Reloads.{closed_by, begun_by, reload_life, reload_lives, reload_births}
+use Rattle.scrape_steps.specs.declared.acts.Fate.{Fate}
 use Rattle.scrape_machine.specs.declared.lives.Life.{Life}
-use Rattle.scrape_machine.specs.Plans as plan
-use Rattle.scrape_machine.specs.Unended.{unended, unended_from, all_fates, is_unended, is_unended_at}
-use Rattle.scrape_machine.proofs.ListedLemmas.{left_unended, reload_stays, reload_places}
-use Rattle.scrape_machine.proofs.UnendedLemmas.{unended_length, filter_few}
+use Rattle.scrape_steps.specs.Plans as plan
+use Rattle.scrape_steps.specs.Unended.{unended, unended_from, all_fates, is_unended, is_unended_at}
+use Rattle.scrape_steps.proofs.ListedLemmas.{left_unended, reload_stays, reload_places}
+use Rattle.scrape_steps.proofs.UnendedLemmas.{unended_length, filter_few}
 use Rattle.scrape_core.proofs.StateLemmas.{same_change}
 use Rattle.scrape_core.specs.Kept.{live}
 use Rattle.scrape_core.proofs.changes.reload.Goals as goal

@@ -2,8 +2,9 @@ use Rattle.std.proofs.Common.{◌∙◌, ◌+◌, arith, map, sym, ap, ap₂, su
 use Rattle.jobs_in_force.specs.Jobs.{loaded, in_force, IsLoadCause}
 use Rattle.jobs_in_force.proofs.FewLemmas.{loaded_few}
 use Rattle.scrape_machine.specs.declared.answers.Answer.TheVariants.{Loaded, Refused}
-use Rattle.scrape_machine.specs.Machine.{after_load, closed_by, begun_by, reloaded}
-use Rattle.scrape_machine.proofs.EventLemmas.{load_taken, load_refused, load_answer_taken, load_answer_refused}
+use Rattle.scrape_machine.specs.Machine.{after_load}
+use Rattle.scrape_steps.specs.Reloads.{closed_by, begun_by, reloaded}
+use Rattle.scrape_steps.proofs.EventLemmas.{load_taken, load_refused, load_answer_taken, load_answer_refused}
 use Rattle.jobs_in_force.specs.Listed.{listed_by}
 use Rattle.scrape_machine.proofs.RunLemmas.{load_taken_runs, load_refused_runs}
 use Rattle.scrape_core.specs.Kept.{live}

@@ -1,8 +1,9 @@
 use Rattle.std.proofs.Common.{◌∙◌, ◌+◌, arith, refl, sym, ap, ap₂, subst}
 use Rattle.jobs_in_force.specs.Jobs.{updated, IsUpdateCause, UnknownJob, UnknownFile, Faulty}
 use Rattle.scrape_machine.specs.declared.answers.Answer.TheVariants.{Updated, Refused}
-use Rattle.scrape_machine.specs.Machine.{after_update, closed_by, begun_by, reloaded}
-use Rattle.scrape_machine.proofs.EventLemmas.{update_taken, update_refused, update_answer_taken, update_answer_refused}
+use Rattle.scrape_machine.specs.Machine.{after_update}
+use Rattle.scrape_steps.specs.Reloads.{closed_by, begun_by, reloaded}
+use Rattle.scrape_steps.proofs.EventLemmas.{update_taken, update_refused, update_answer_taken, update_answer_refused}
 use Rattle.jobs_in_force.specs.Listed.{listed_by_named}
 use Rattle.scrape_machine.proofs.RunLemmas.{update_taken_runs, update_refused_runs}
 use Rattle.scrape_core.specs.Kept.{live}

@@ -12,9 +12,9 @@ use Rattle.scrape_machine.specs.declared.lives.Start.{Start}
 use Rattle.scrape_machine.specs.Lives.{counted, outcome_for, IsRightLife}
 use Rattle.scrape_machine.specs.Machine.{world, finished}
 use Rattle.scrape_machine.specs.Runs.{scrape_runs}
-use Rattle.scrape_machine.proofs.FinishLemmas.{counted_answer, counted_world, counted_book, counted_runs}
-use Rattle.scrape_machine.specs.Unended.{is_ended}
-use Rattle.scrape_machine.proofs.ListedLemmas.{unended_set}
+use Rattle.scrape_steps.proofs.FinishLemmas.{counted_answer, counted_world, counted_book, counted_runs}
+use Rattle.scrape_steps.specs.Unended.{is_ended}
+use Rattle.scrape_steps.proofs.ListedLemmas.{unended_set}
 use Rattle.scrape_core.proofs.StateLemmas.{length-finished, get_or_at}
 use Rattle.scrape_core.proofs.finishes.finish_counted.Goals as goal
 

@@ -5,8 +5,9 @@ use Rattle.report_samples.specs.declared.entries.Entry.{Entry}
 use Rattle.scrape_machine.specs.declared.answers.Answer.TheVariants.{NoTicket, Late}
 use Rattle.scrape_machine.specs.declared.lives.Life.{Life}
 use Rattle.scrape_machine.specs.declared.lives.Start.{Start}
-use Rattle.scrape_machine.specs.Machine.{world, finished, found, found_start, IsMissed}
-use Rattle.scrape_machine.proofs.FinishLemmas.{missed_said, missed_step, missed_silent, missed_runs}
+use Rattle.scrape_machine.specs.Machine.{world, finished, found, found_start}
+use Rattle.scrape_steps.specs.Scans.{IsMissed}
+use Rattle.scrape_steps.proofs.FinishLemmas.{missed_said, missed_step, missed_silent, missed_runs}
 use Rattle.scrape_core.specs.Kept.{live}
 use Rattle.scrape_core.proofs.StateLemmas.{length-finished}
 use Rattle.scrape_core.proofs.finishes.take_finish.Goals as goal

@@ -1,6 +1,6 @@
 use Rattle.std.proofs.Common.{◌∙◌, sym, arith}
 use Rattle.journal_text.specs.declared.events.Event.TheVariants.{Finish}
-use Rattle.scrape_machine.proofs.EventLemmas.{dead_answer, dead_step, dead_gives}
+use Rattle.scrape_steps.proofs.EventLemmas.{dead_answer, dead_step, dead_gives}
 use Rattle.scrape_machine.proofs.RunLemmas.{dead_runs}
 use Rattle.scrape_core.specs.Kept.{seen}
 use Rattle.scrape_core.proofs.StateLemmas.{appends_none}

@@ -1,8 +1,8 @@
-use Rattle.std.proofs.Common.{◌≡◌, ◌+◌, ◌||◌, Bool, true, false, ◌∙◌, sym, ap, arith, drop}
+use Rattle.std.proofs.Common.{◌+◌, ◌||◌, ◌∙◌, sym, ap, arith, drop}
 use Rattle.std.specs.List.{list_any}
 use Rattle.std.proofs.lemmas.List.{drop_all}
 use Rattle.journal_text.specs.Lines.{number}
-use Rattle.scrape_machine.specs.Unended.{unended}
+use Rattle.scrape_steps.specs.Unended.{unended}
 use Rattle.scrape_core.specs.Readers.{acts}
 use Rattle.scrape_core.proofs.ReaderLemmas.{acts_unended, any_left}
 use Rattle.scrape_core.proofs.readers.any_due.Goals as goal

@@ -1,7 +1,7 @@
 use Rattle.std.proofs.Common.{◌≡◌, drop}
 use Rattle.std.specs.List.{list_any}
 use Rattle.journal_text.specs.Lines.{number}
-use Rattle.scrape_machine.specs.Unended.{unended}
+use Rattle.scrape_steps.specs.Unended.{unended}
 use Rattle.scrape_core.specs.Readers.{acts}
 use Rattle.scrape_core.proofs.readers.any_due.Given as goal
 

@@ -1,7 +1,7 @@
 use Rattle.std.proofs.Common.{ℕ, ◌∙◌, sym, ap, arith}
 use Rattle.std.specs.List.{list_any}
 use Rattle.std.proofs.lemmas.List.{take_all}
-use Rattle.scrape_machine.specs.Unended.{unended}
+use Rattle.scrape_steps.specs.Unended.{unended}
 use Rattle.scrape_core.specs.Readers.{acts}
 use Rattle.scrape_core.specs.Wakes.{sooner}
 use Rattle.scrape_core.proofs.ReaderLemmas.{acts_unended, more_reached}

@@ -1,6 +1,6 @@
 use Rattle.std.proofs.Common.{◌≡◌, ℕ, take}
 use Rattle.std.specs.List.{list_any}
-use Rattle.scrape_machine.specs.Unended.{unended}
+use Rattle.scrape_steps.specs.Unended.{unended}
 use Rattle.scrape_core.specs.Readers.{acts}
 use Rattle.scrape_core.specs.Wakes.{reached}
 use Rattle.scrape_core.proofs.readers.first_wake.Given as goal

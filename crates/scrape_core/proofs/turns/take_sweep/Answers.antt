@@ -1,16 +1,15 @@
 use Rattle.std.proofs.Common.{◌≡◌, ◌++◌, ◌∙◌, ℕ, List, length, sym, ap, ap₂}
 use Rattle.std.proofs.lemmas.List.{with_items_is}
-use Rattle.std.specs.List.{filter, flat_map}
+use Rattle.std.specs.List.{filter}
 use Rattle.journal_text.specs.declared.events.Event.TheVariants.{Sweep}
 use Rattle.journal_text.specs.Lines.{number}
-use Rattle.report_samples.specs.declared.entries.Entry.{Entry}
 use Rattle.scrape_machine.specs.declared.lives.Life.{Life}
 use Rattle.scrape_machine.specs.declared.lives.Start.{Start}
-use Rattle.scrape_machine.specs.Machine.{world, lives_from, starts_from, swept_entries, answer}
-use Rattle.scrape_machine.proofs.ScanLemmas.{sweep_step}
-use Rattle.scrape_machine.proofs.StepLemmas.{sweep_entries, length-lives}
-use Rattle.scrape_machine.specs.Unended.{unended_from, is_unended_at}
-use Rattle.scrape_machine.proofs.ListedLemmas.{left_unended, sweep_stays}
+use Rattle.scrape_machine.specs.Machine.{world, lives_from, starts_from, gives, answer}
+use Rattle.scrape_steps.proofs.ScanLemmas.{sweep_step}
+use Rattle.scrape_machine.proofs.StepLemmas.{length-lives}
+use Rattle.scrape_steps.specs.Unended.{unended_from, is_unended_at}
+use Rattle.scrape_steps.proofs.ListedLemmas.{left_unended, sweep_stays}
 use Rattle.scrape_core.specs.Kept.{live}
 use Rattle.scrape_core.proofs.StateLemmas.{same_world}
 use Rattle.scrape_core.proofs.turns.take_sweep.Goals as goal
@@ -25,7 +24,7 @@ returns-clause-state c =
     let m = c.args.moment in
     let swept : c.sweep_lives.new.lives ≡ lives_from (live s) (Sweep m) 0 s.lives.items =
     c.sweep_lives.ensures
-    ∙ same_world (λ js ls ss. lives_from (world js ls ss) (Sweep m) 0 ls) _ _ _ _ _ _ c.deref-6.ensures.value c.deref_mut.ensures.value (c.deref-8.ensures.value ∙ c.in_ok-reserve.ensures.items) in
+    ∙ same_world (λ js ls ss. lives_from (world js ls ss) (Sweep m) 0 ls) _ _ _ _ _ _ c.deref-5.ensures.value c.deref_mut.ensures.value (c.deref-7.ensures.value ∙ c.in_ok-reserve.ensures.items) in
     let long : length c.sweep_lives.new.lives ≡ s.lives.len =
     ap (λ (ls : List Life). length ls) swept ∙ length-lives (live s) (Sweep m) 0 s.lives.items ∙ sym s.lives.ok.0 in
     let begun = c.in_ok-begun.ensures ∙ ap₂ (λ js ls. starts_from js (number m) 0 ls) c.deref-4.ensures.value (c.of-lives.ensures ∙ c.deref-2.ensures.value) in
@@ -36,14 +35,11 @@ returns-clause-state c =
 pub returns-clause-book : goal.returns-clause-book
 returns-clause-book c =
     let s = c.args.state.now in
-    let m = c.args.moment in
-    c.in_ok-append_all.ensures.ok
-    ∙ ap (λ (es : List Entry). c.args.book.now.entries ++ es)
-    (c.in_ok-items.ensures ∙ ap₂ (λ js ls. flat_map (swept_entries js m) ls) c.deref-5.ensures.value (c.of-lives.ensures ∙ c.deref-2.ensures.value)
-    ∙ sym (sweep_entries s.jobs.items s.lives.items s.started.items m))
+    c.in_ok-append_swept.ensures.book
+    ∙ ap (λ (ss : List Start). c.args.book.now.entries ++ gives (world s.jobs.items s.lives.items ss) (Sweep c.args.moment)) c.in_ok-reserve.ensures.items
 
 pub sweep_lives-requires-clause-places : goal.sweep_lives-requires-clause-places
-sweep_lives-requires-clause-places c = c.deref-7.ensures.value ∙ c.requires.listed ∙ ap (unended_from 0) (sym c.deref_mut.ensures.value)
+sweep_lives-requires-clause-places c = c.deref-6.ensures.value ∙ c.requires.listed ∙ ap (unended_from 0) (sym c.deref_mut.ensures.value)
 
 pub returns-clause-listed : goal.returns-clause-listed
 returns-clause-listed c =
@@ -51,11 +47,11 @@ returns-clause-listed c =
     let m = c.args.moment in
     let swept : c.sweep_lives.new.lives ≡ lives_from (live s) (Sweep m) 0 s.lives.items =
     c.sweep_lives.ensures
-    ∙ same_world (λ js ls ss. lives_from (world js ls ss) (Sweep m) 0 ls) _ _ _ _ _ _ c.deref-6.ensures.value c.deref_mut.ensures.value (c.deref-8.ensures.value ∙ c.in_ok-reserve.ensures.items) in
+    ∙ same_world (λ js ls ss. lives_from (world js ls ss) (Sweep m) 0 ls) _ _ _ _ _ _ c.deref-5.ensures.value c.deref_mut.ensures.value (c.deref-7.ensures.value ∙ c.in_ok-reserve.ensures.items) in
     let long : length c.sweep_lives.new.lives ≡ s.lives.len =
     ap (λ (ls : List Life). length ls) swept ∙ length-lives (live s) (Sweep m) 0 s.lives.items ∙ sym s.lives.ok.0 in
     let after = with_items_is s.lives c.sweep_lives.new.lives long ∙ swept in
     c.drop_ended.ensures.left
-    ∙ ap₂ (λ (ls : List Life) (ps : List ℕ). filter (is_unended_at ls) ps) (c.deref-9.ensures.value ∙ after) c.requires.listed
+    ∙ ap₂ (λ (ls : List Life) (ps : List ℕ). filter (is_unended_at ls) ps) (c.deref-8.ensures.value ∙ after) c.requires.listed
     ∙ left_unended s.lives.items (lives_from (live s) (Sweep m) 0 s.lives.items) (sweep_stays s.jobs.items s.lives.items s.started.items m 0 s.lives.items)
     ∙ ap (unended_from 0) (sym after)

@@ -4,8 +4,9 @@ use Rattle.journal_text.specs.Lines.{number}
 use Rattle.report_samples.specs.declared.entries.Entry.{Entry}
 use Rattle.appender_book.specs.Books.{BookView}
 use Rattle.scrape_machine.specs.declared.lives.Life.{Life}
-use Rattle.scrape_machine.specs.Machine.{answer, is_open_life}
-use Rattle.scrape_machine.proofs.ScanLemmas as scans
+use Rattle.scrape_machine.specs.Machine.{answer}
+use Rattle.scrape_steps.specs.Scans.{is_open_life}
+use Rattle.scrape_steps.proofs.ScanLemmas as scans
 use Rattle.scrape_core.specs.Kept.{live}
 use Rattle.scrape_core.proofs.StateLemmas.{same_tick}
 use Rattle.scrape_core.proofs.turns.take_tick.Goals.{then-is_open_at+in_ok-tick_open, else-is_open_at}

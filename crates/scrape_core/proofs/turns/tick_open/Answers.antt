@@ -5,10 +5,11 @@ use Rattle.report_samples.specs.declared.entries.Entry.{Entry}
 use Rattle.scrape_machine.specs.declared.lives.Life.{Life}
 use Rattle.scrape_machine.specs.declared.lives.Start.{Start}
 use Rattle.scrape_machine.specs.Lives.{starts, scanned_life, scan_entries}
-use Rattle.scrape_machine.specs.Machine.{world, is_over, is_open_life, started_by}
-use Rattle.scrape_machine.proofs.ScanLemmas as scans
-use Rattle.scrape_machine.specs.Unended.{is_ended}
-use Rattle.scrape_machine.proofs.ListedLemmas.{unended_set}
+use Rattle.scrape_machine.specs.Machine.{world, is_over, started_by}
+use Rattle.scrape_steps.specs.Scans.{is_open_life}
+use Rattle.scrape_steps.proofs.ScanLemmas as scans
+use Rattle.scrape_steps.specs.Unended.{is_ended}
+use Rattle.scrape_steps.proofs.ListedLemmas.{unended_set}
 use Rattle.scrape_core.proofs.StateLemmas.{open_there, found_there, scanned_open}
 use Rattle.scrape_core.proofs.turns.tick_open.Goals as goal
 

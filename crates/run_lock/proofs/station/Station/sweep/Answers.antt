@@ -32,7 +32,7 @@ invariant_of-self-2-clause-running g c =
     let m = ap (λ (y : View). y.made) old.knows in
     let log = k.all ++ act v.seat x ∷ [] in
     let again = knows_again (view c.bring-event.new.keeper) log k.made (2 + length slots) (c.bring-event.ensures.noted.kept ∙ ap (λ (z : Event). knower (k.all ++ act v.seat (Brought z) ∷ []) k.made) c.sweep_at-event.ensures.event) m in
-    running_sweep old.core c.step.new.self (sweep_moment c.args.reading (number n)) old.next old.started c.started-self.result slots old.running (c.in-Ok.ensures.joined ∙ ap (λ (z : Event). old.core ++ z ∷ []) (c.bring-event.ensures.same ∙ c.sweep_at-event.ensures.event)) c.started-self.ensures
+    running_sweep old.core c.take.new.self (sweep_moment c.args.reading (number n)) old.next old.started c.started-self.result slots old.running (c.in-Ok.ensures.joined ∙ ap (λ (z : Event). old.core ++ z ∷ []) (c.bring-event.ensures.same ∙ c.sweep_at-event.ensures.event)) c.started-self.ensures
 
 pub invariant_of-self-2-clause-knows : goal.invariant_of-self-2-clause-knows
 invariant_of-self-2-clause-knows g c =
@@ -77,8 +77,8 @@ invariant_of-self-2-clause-told g c =
     let m = ap (λ (y : View). y.made) old.knows in
     let log = k.all ++ act v.seat x ∷ [] in
     let again = knows_again (view c.bring-event.new.keeper) log k.made (2 + length slots) (c.bring-event.ensures.noted.kept ∙ ap (λ (z : Event). knower (k.all ++ act v.seat (Brought z) ∷ []) k.made) c.sweep_at-event.ensures.event) m in
-    λ h. subst (λ (l : List Act). IsTold c.step.new.self c.push_reserved.new.self.items l) (sym again.1)
-    (told_bring old.core c.step.new.self old.seats.items c.push_reserved.new.self.items k.all v.seat e (sym old.seated.1) (old.told h) (c.in-Ok.ensures.joined ∙ ap (λ (z : Event). old.core ++ z ∷ []) (c.bring-event.ensures.same ∙ c.sweep_at-event.ensures.event)) (c.push_reserved.ensures.items ∙ (ap (λ xs. xs ++ 1 ∷ []) c.reserve.ensures.items ∙ ap (λ n. old.seats.items ++ n ∷ []) (sym s))))
+    λ h. subst (λ (l : List Act). IsTold c.take.new.self c.push_reserved.new.self.items l) (sym again.1)
+    (told_bring old.core c.take.new.self old.seats.items c.push_reserved.new.self.items k.all v.seat e (sym old.seated.1) (old.told h) (c.in-Ok.ensures.joined ∙ ap (λ (z : Event). old.core ++ z ∷ []) (c.bring-event.ensures.same ∙ c.sweep_at-event.ensures.event)) (c.push_reserved.ensures.items ∙ (ap (λ xs. xs ++ 1 ∷ []) c.reserve.ensures.items ∙ ap (λ n. old.seats.items ++ n ∷ []) (sym s))))
 
 pub invariant_of-self-2-clause-turns : goal.invariant_of-self-2-clause-turns
 invariant_of-self-2-clause-turns g c =
@@ -141,5 +141,5 @@ invariant_of-self-2-clause-begun g c =
     let m = ap (λ (y : View). y.made) old.knows in
     let log = k.all ++ act v.seat x ∷ [] in
     let again = knows_again (view c.bring-event.new.keeper) log k.made (2 + length slots) (c.bring-event.ensures.noted.kept ∙ ap (λ (z : Event). knower (k.all ++ act v.seat (Brought z) ∷ []) k.made) c.sweep_at-event.ensures.event) m in
-    λ h. subst (λ (l : List Act). IsBegun g.B.Room.start c.step.new.self c.push_reserved.new.self.items l) (sym again.1)
-    (begun_else g.B.Room.start old.core c.step.new.self old.seats.items c.push_reserved.new.self.items k.all v.seat e (old.begun h) old.running.live (sym old.seated.1) (c.in-Ok.ensures.joined ∙ ap (λ (z : Event). old.core ++ z ∷ []) (c.bring-event.ensures.same ∙ c.sweep_at-event.ensures.event)) (c.push_reserved.ensures.items ∙ (ap (λ xs. xs ++ 1 ∷ []) c.reserve.ensures.items ∙ ap (λ n. old.seats.items ++ n ∷ []) (sym s))) (λ e. absurd (omega (arith, s, e))) refl)
+    λ h. subst (λ (l : List Act). IsBegun g.B.Room.start c.take.new.self c.push_reserved.new.self.items l) (sym again.1)
+    (begun_else g.B.Room.start old.core c.take.new.self old.seats.items c.push_reserved.new.self.items k.all v.seat e (old.begun h) old.running.live (sym old.seated.1) (c.in-Ok.ensures.joined ∙ ap (λ (z : Event). old.core ++ z ∷ []) (c.bring-event.ensures.same ∙ c.sweep_at-event.ensures.event)) (c.push_reserved.ensures.items ∙ (ap (λ xs. xs ++ 1 ∷ []) c.reserve.ensures.items ∙ ap (λ n. old.seats.items ++ n ∷ []) (sym s))) (λ e. absurd (omega (arith, s, e))) refl)

@@ -1,4 +1,0 @@
-use Rattle.scrape_cli.proofs.commands.check.Goals as goal
-
-pub returns-in-Err : goal.returns-in-Err
-returns-in-Err g c = λ kept. c.in-Err.ensures.refused kept (g.O.Sink.seen c.args.out.now)

@@ -1,8 +1,0 @@
-use Rattle.scrape_cli.proofs.EndLemmas.{causes_of, status_by}
-use Rattle.scrape_cli.proofs.still.causes.Goals as goal
-
-pub returns-clause-causes : goal.returns-clause-causes
-returns-clause-causes _ = causes_of
-
-pub returns-clause-statuses : goal.returns-clause-statuses
-returns-clause-statuses _ = status_by

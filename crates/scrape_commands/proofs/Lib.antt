@@ -1,0 +1,4 @@
+pub mod SaidLemmas
+pub mod EndLemmas
+pub mod DueLemmas
+pub mod PrintLemmas

@@ -1,0 +1,102 @@
+-- What follows of a call that ended.
+use Rattle.std.specs.Prelude.{◌≡◌, ◌≢◌, ◌⊎◌, ℕ, ◌<◌, ◌≤◌, Bool, List, length, Some, None, IsSomeAnd, Ok, Err}
+use Rattle.outside.specs.Objects.{IsUntouched, Rose, file_of, LacksFile, HasLongerFile, Missed, MetLonger, FailedToRead}
+use Rattle.journal_text.specs.declared.events.Event.{Event}
+use Rattle.journal_text.specs.Events.{IsJournal, journal_text}
+use Rattle.journal_text.specs.declared.faults.ScriptFault.{ScriptFault}
+use Rattle.journal_text.specs.Faults.{SpellsNone, IsOnlyFault, IsFault as IsScriptFault}
+use Rattle.jobs_in_force.specs.declared.jobs.Filed.{Filed}
+use Rattle.config_fields.specs.declared.fault.ConfFault.{ConfFault}
+use Rattle.scrape_commands.specs.Checks.{IsConf, IsFault, fault_message}
+use Rattle.scrape_commands.specs.Scripts.{fault_message as script_message}
+use Rattle.scrape_commands.specs.Ends.{Call, work_of, Ended, Reads, Prints, PrintsFront, IsSaid, message_of, status_of}
+use Rattle.synth.specs.declared.scripts.Plan.{Plan}
+use Rattle.command_words.specs.Askings.{Asking, asking}
+use Rattle.command_words.specs.Words.{OfFile, asked_in, file_in, limit_of}
+use Rattle.command_words.specs.declared.words.Asked.TheVariants.{File, Synth}
+use Rattle.command_words.specs.declared.words.Command.{Command}
+use Rattle.command_words.specs.declared.words.Command.TheVariants.{Replay, Check}
+use Rattle.scrape_commands.specs.declared.refusals.Refusal.{Refusal}
+
+-- what each status says of the call
+pub record Causes (c : Call) : Type 0 where
+  pub done : Ended 0 c → Prints (work_of c)
+  pub quiet : Ended 0 c → IsUntouched c.err
+  pub bad_words : Ended 2 c → asked_in c.words ≡ None
+  pub absent : Ended 3 c → Missed c.shelf × IsSomeAnd (asked_in c.words) (OfFile (λ a. LacksFile c.shelf.before a.file))
+  pub faulty : Ended 4 c → (fault : ConfFault) × (bytes : List ℕ) × Reads Check bytes (work_of c) × IsFault bytes fault × IsSaid (fault_message fault) c.err
+  pub misspelled : Ended 5 c → (fault : ScriptFault) × (bytes : List ℕ) × Reads Replay bytes (work_of c) × IsOnlyFault bytes fault × IsSaid (script_message fault) c.err
+  pub read_fault : Ended 6 c → FailedToRead c.shelf
+  pub front : Ended 7 c → PrintsFront (work_of c)
+  pub too_long : Ended 9 c → MetLonger c.shelf × IsSomeAnd (asked_in c.words) (OfFile (λ a. HasLongerFile c.shelf.before a.file (limit_of a.command)))
+  pub said : (r : Refusal) → status_of r ≢ 4 → status_of r ≢ 5 → Ended (status_of r) c → IsSaid (message_of (file_in c.words) r) c.err
+
+-- a call ends with one of these statuses
+abbrev pub IsStatus : ℕ → Type 0
+IsStatus status = (status ≡ 0) ⊎ ((r : Refusal) × (status ≡ status_of r))
+
+-- what the words ask for is this, of a file that the shelf tells, within the limit
+pub record IsTold (command : Command) (bytes : List ℕ) (c : Call) : Type 0 where
+  pub kept : Bool
+  pub asked : asked_in c.words ≡ Some (File (asking kept (file_in c.words) command))
+  pub file : IsSomeAnd c.shelf.before.files (λ files. file_of (file_in c.words) files ≡ Some bytes)
+  pub short : length bytes ≤ limit_of command
+
+-- the shelf tells its files, and has none of the name; or a longer one
+abbrev pub TellsNone : Call → Type 0
+TellsNone c = IsSomeAnd c.shelf.before.files (λ files. file_of (file_in c.words) files ≡ None)
+
+abbrev pub TellsLonger : Command → Call → Type 0
+TellsLonger command c = IsSomeAnd c.shelf.before.files (λ files. IsSomeAnd (file_of (file_in c.words) files) (λ bytes. limit_of command < length bytes))
+
+-- reading didn't fail; writing didn't; neither did; nothing was counted at all
+abbrev pub IsRead : Call → Type 0
+IsRead c = ¬ Rose c.shelf.before.faults c.shelf.after.faults
+
+abbrev pub IsWritten : Call → Type 0
+IsWritten c = ¬ Rose c.out.before.faults c.out.after.faults
+
+pub record IsSound (c : Call) : Type 0 where
+  pub read : IsRead c
+  pub written : IsWritten c
+
+pub record IsUncounted (c : Call) : Type 0 where
+  pub sound : IsSound c
+  pub found : ¬ Rose c.shelf.before.misses c.shelf.after.misses
+  pub short : ¬ Rose c.shelf.before.overs c.shelf.after.overs
+
+-- a status, or want of memory in its place
+abbrev pub IsFreely : ℕ → ℕ → Type 0
+IsFreely due status = (status ≡ due) ⊎ (status ≡ 8)
+
+-- the bytes spell a journal
+abbrev pub Spells : List ℕ → Type 0
+Spells bytes = (journal : List Event) × IsJournal journal × (journal_text journal ≡ bytes)
+
+-- the status for a file whose content a command refuses
+abbrev pub refused_at : Command → ℕ
+refused_at Replay = 5
+refused_at Check = 4
+
+-- which status is due: where the words are others; where the file is told and reading and writing don't fail; where nothing is counted.
+-- Want of memory alone may stand in its place
+pub record Complete (status : ℕ) (c : Call) : Type 0 where
+  pub words : asked_in c.words ≡ None → IsFreely 2 status
+  pub missing : (a : Asking) → asked_in c.words ≡ Some (File a) → TellsNone c → IsRead c → IsFreely 3 status
+  pub longer : (a : Asking) → asked_in c.words ≡ Some (File a) → TellsLonger a.command c → IsRead c → IsFreely 9 status
+  pub replayed : (bytes : List ℕ) → IsTold Replay bytes c → Spells bytes → IsSound c → IsFreely 0 status
+  pub unspelled : (bytes : List ℕ) → IsTold Replay bytes c → SpellsNone bytes → IsRead c → IsFreely 5 status
+  pub misspelled : (bytes : List ℕ) (fault : ScriptFault) → IsTold Replay bytes c → IsScriptFault bytes fault → status ≡ 5 → IsSaid (script_message fault) c.err
+  pub checked : (bytes : List ℕ) (jobs : List Filed) → IsTold Check bytes c → IsConf bytes jobs → IsSound c → IsFreely 0 status
+  pub refused : (bytes : List ℕ) (fault : ConfFault) → IsTold Check bytes c → IsFault bytes fault → IsRead c → IsFreely 4 status
+  pub told : (bytes : List ℕ) (fault : ConfFault) → IsTold Check bytes c → IsFault bytes fault → status ≡ 4 → IsSaid (fault_message fault) c.err
+  pub made : (p : Plan) → asked_in c.words ≡ Some (Synth p) → IsWritten c → IsFreely 0 status
+  pub untold : (a : Asking) → asked_in c.words ≡ Some (File a) → IsUncounted c → IsFreely 0 status ⊎ (status ≡ refused_at a.command)
+
+-- no count of any object fell
+pub record NoCountFell (c : Call) : Type 0 where
+  pub misses : c.shelf.before.misses ≤ c.shelf.after.misses
+  pub overs : c.shelf.before.overs ≤ c.shelf.after.overs
+  pub reads : c.shelf.before.faults ≤ c.shelf.after.faults
+  pub puts : c.out.before.faults ≤ c.out.after.faults
+  pub messages : c.err.before.faults ≤ c.err.after.faults

@@ -1,0 +1,5 @@
+pub mod Checks
+pub mod Scripts
+pub mod Synths
+pub mod Ends
+pub mod Laws

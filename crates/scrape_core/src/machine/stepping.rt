@@ -1,0 +1,111 @@
+//! The calls that take an event and say, beside what `take` says of it, what that means for a dashboard.
+//!
+//! The clauses that these calls add are laws of `scrape_laws`, which hold of every journal: each closed run of a tracked series in a life has exactly
+//! one stale marker, after it, and no marker stands elsewhere (`markers`, `closed_runs`); the report markers are those of endings (`report_markers`);
+//! a finish that doesn't count adds nothing (`late`); an event that is nothing to a life, an idle scan and a refused event leave the life as it is
+//! (`nothing`, `undisturbed`, `idle`, `refused`); lives that meet the same go alike (`apart`, `runs`), so that a reload doesn't tear the lives that
+//! it leaves alone (`reload`). Each relabelling run takes one step (`steps`).
+//!
+//! Who calls one of them pays for reading all that in its proof, so the crates above call `take` and `take_read`.
+ghost use Rattle.std.specs.Prelude.{◌≡◌, ◌+◌, ℕ, List, ◌++◌, [], ◌∷◌, IfOk, OnOk, OnErr};
+ghost use Rattle.label_set.specs.declared.texts.Pair.{Pair};
+ghost use Rattle.journal_text.specs.declared.events.Event.{Event};
+ghost use Rattle.journal_text.specs.Events.{IsInLimits, MayFollow, now_of};
+ghost use Rattle.scrape_machine.specs.Machine as spec;
+ghost use Rattle.scrape_machine.specs.Runs as relabelling;
+ghost use Rattle.scrape_laws.specs.Markers.{MarkerLaw, ReportMarkerLaw};
+ghost use Rattle.scrape_laws.specs.Runs.{ClosedRunsLaw};
+ghost use Rattle.scrape_laws.specs.Late.{LateLaw};
+ghost use Rattle.scrape_laws.specs.Undisturbed.{NothingLaw, UndisturbedLaw, IdleLaw, RefusedLaw};
+ghost use Rattle.scrape_laws.specs.Apart.{ApartLaw, ApartRunsLaw, ReloadLaw};
+ghost use Rattle.scrape_core.specs.Records.{IsFinishWith};
+
+use super::Core;
+use journal_text::Event;
+use label_set::{NoMemory, Steps};
+use scrape_laws::laws::{
+    closed_runs, late, lives_apart, markers, nothing, reloads, report_markers, undisturbed,
+};
+use scrape_loop::ReadReply;
+use scrape_machine::Answer;
+use std::alloc::Global;
+use std::sync::ledger::Ledger;
+
+impl Core {
+    /// Takes an event: the answer is the defined one after the journal, which then ends with the event, and the book is that of the new journal.
+    /// After a refusal for want of memory the event is dropped and the core as before.
+    /// The moment is at least `now`, and the event keeps the limits of a journal's events.
+    pub fn step<L: Ledger>(
+        &mut self,
+        alloc: Global,
+        event: Event,
+        steps: &mut Steps<L>,
+    ) -> Result<Answer, NoMemory>
+        requires limits { IsInLimits event }
+        requires order { MayFollow (now_of self.old) event }
+        ensures answer { IfOk result (λ a. a ≡ spec.answer (spec.world_of self.old) event) }
+        ensures joined { OnOk result (self.new ≡ self.old ++ event ∷ []) }
+        ensures err { OnErr result (self.new ≡ self.old) }
+        ensures markers { MarkerLaw self.new }
+        ensures closed_runs { (n : ℕ) (x : List Pair) → ClosedRunsLaw self.new n x }
+        ensures report_markers { ReportMarkerLaw self.new }
+        ensures late { LateLaw (spec.world_of self.new) }
+        ensures nothing { NothingLaw (spec.world_of self.old) event }
+        ensures undisturbed { UndisturbedLaw self.old event }
+        ensures idle { IdleLaw self.old event }
+        ensures refused { RefusedLaw self.old event }
+        ensures apart { ApartLaw self.old event }
+        ensures runs { (other : List Event) → ApartRunsLaw self.new other }
+        ensures reload { ReloadLaw self.old event }
+        ensures steps { OnOk result (steps.new ≡ steps.old + relabelling.runs (spec.world_of self.old) event) }
+    {
+        markers();
+        closed_runs();
+        report_markers();
+        late();
+        nothing();
+        undisturbed();
+        lives_apart();
+        reloads();
+        self.take(alloc, event, steps)
+    }
+
+    /// Takes a finish whose reply is read already, as `step` takes it: with the same answer, journal and book, without reading its body once more.
+    /// A finish carries no moment, so it may always follow.
+    /// After a refusal for want of memory the event is dropped and the core as before.
+    pub fn finish_read<L: Ledger>(
+        &mut self,
+        alloc: Global,
+        event: Event,
+        reply: &ReadReply<'_>,
+        steps: &mut Steps<L>,
+    ) -> Result<Answer, NoMemory>
+        requires limits { IsInLimits event }
+        requires finish { IsFinishWith reply.now event }
+        ensures answer { IfOk result (λ a. a ≡ spec.answer (spec.world_of self.old) event) }
+        ensures joined { OnOk result (self.new ≡ self.old ++ event ∷ []) }
+        ensures err { OnErr result (self.new ≡ self.old) }
+        ensures markers { MarkerLaw self.new }
+        ensures closed_runs { (n : ℕ) (x : List Pair) → ClosedRunsLaw self.new n x }
+        ensures report_markers { ReportMarkerLaw self.new }
+        ensures late { LateLaw (spec.world_of self.new) }
+        ensures nothing { NothingLaw (spec.world_of self.old) event }
+        ensures undisturbed { UndisturbedLaw self.old event }
+        ensures idle { IdleLaw self.old event }
+        ensures refused { RefusedLaw self.old event }
+        ensures apart { ApartLaw self.old event }
+        ensures runs { (other : List Event) → ApartRunsLaw self.new other }
+        ensures reload { ReloadLaw self.old event }
+        ensures steps { OnOk result (steps.new ≡ steps.old + relabelling.runs (spec.world_of self.old) event) }
+    {
+        markers();
+        closed_runs();
+        report_markers();
+        late();
+        nothing();
+        undisturbed();
+        lives_apart();
+        reloads();
+        self.take_read(alloc, event, reply, steps)
+    }
+}

@@ -1,8 +1,0 @@
-use Rattle.std.proofs.Common.{◌≡◌, take}
-use Rattle.std.specs.List.{flat_map}
-use Rattle.scrape_machine.specs.Machine.{swept_entries}
-use Rattle.scrape_machine.specs.Unended.{unended}
-use Rattle.scrape_machine.proofs.scans.entries_of.Given as goal
-
-abbrev pub invariant-loop-index : goal.invariant-loop-index
-invariant-loop-index l = l.entries.items ≡ flat_map (swept_entries l.jobs l.moment) (take l.index (unended l.lives))

@@ -1,0 +1,11 @@
+pub mod ReloadLemmas
+pub mod EventLemmas
+pub mod ScanLemmas
+pub mod FinishLemmas
+pub mod HeldLemmas
+pub mod BirthLemmas
+pub mod WholeLemmas
+pub mod UnendedLemmas
+pub mod SweptLemmas
+pub mod ListedLemmas
+pub mod SweepLemmas

@@ -1,0 +1,30 @@
+use Rattle.std.proofs.Common.{◌∙◌, ap, ap₂, arith, List, get_or}
+use Rattle.std.specs.List.{list_any}
+use Rattle.std.proofs.lemmas.List.{take_all}
+use Rattle.scrape_steps.specs.declared.acts.Fate.{Fate}
+use Rattle.scrape_machine.specs.declared.lives.Life.{Life}
+use Rattle.scrape_steps.specs.Plans.{after_each, sits}
+use Rattle.scrape_steps.specs.Unended.{unended}
+use Rattle.scrape_steps.proofs.HeldLemmas.{held_more}
+use Rattle.scrape_steps.proofs.UnendedLemmas.{held_unended}
+use Rattle.scrape_steps.proofs.reloads.held_of.Goals as goal
+
+pub loop-fate-preserved : goal.loop-fate-preserved
+loop-fate-preserved c =
+    let p = c.loop-fate.invariant.place in
+    let n = c.requires in
+    let ls = unended c.args.lives.now in
+    record {
+      place = omega arith;
+      held = λ moment place identity.
+          held_more moment c.args.names.now place identity c.args.fates.now ls c.loop-fate.fate-index c.fate-item.result c.at.result.now _ _
+          c.loop-fate-test.true (omega (arith, p, n, c.loop-fate-test.true)) c.fate-item.is (c.at.ensures ∙ ap (λ i. get_or ls i c.at.result.now) p) (c.loop-fate.invariant.held moment place identity)
+          (c.in_ok-hold.ensures moment place identity);
+    }
+
+pub returns : goal.returns
+returns c = λ moment place identity.
+    c.loop-fate.invariant.held moment place identity
+    ∙ ap₂ (λ (fs : List Fate) (ls : List Life). list_any (sits c.args.names.now place identity) (after_each moment fs ls))
+    (take_all c.loop-fate.fate-index c.args.fates.now (omega (arith, c.loop-fate-test.false))) (take_all c.loop-fate.fate-index (unended c.args.lives.now) (omega (arith, c.loop-fate-test.false, c.requires)))
+    ∙ held_unended moment c.args.names.now place identity c.args.fates.now c.args.lives.now c.requires

@@ -1,0 +1,4 @@
+pub mod Plans
+pub mod Reloads
+pub mod Scans
+pub mod Unended

@@ -1,0 +1,123 @@
+//! What a finish does.
+ghost use Rattle.std.specs.Prelude.{◌≡◌, ◌≤◌, ◌+◌, ◌++◌, length, slice_get, option_copied, IfOk, OnOk, OnErr};
+ghost use Rattle.journal_text.specs.Lines.{IsMoment};
+ghost use Rattle.scrape_machine.specs.Lives as lives_of;
+ghost use Rattle.scrape_machine.specs.Machine as spec;
+ghost use Rattle.scrape_steps.specs.Scans as scanned;
+ghost use Rattle.scrape_machine.specs.Runs.{scrape_runs};
+ghost use Rattle.scrape_loop.specs.Entries.{entries_of};
+ghost use Rattle.scrape_loop.specs.Tracked.{fault_of};
+
+use appender_book::Book;
+use label_set::{NoMemory, Steps};
+use life_roll::InFlight;
+use sample_rows::RowRules;
+use scrape_config::Job;
+use scrape_loop::{Counted, LentReply};
+use scrape_machine::lives::{Found, Life, Start};
+use std::alloc::Global;
+use std::sync::ledger::Ledger;
+
+fn found_flight(ticket: u64, number: u64, flight: Option<InFlight>) -> Found
+    ensures { result ≡ spec.found_flight ticket number flight }
+{
+    match flight {
+        None => Found::Cancelled,
+        Some(flight) => {
+            if flight.ticket == ticket {
+                Found::Counts {
+                    life: number,
+                    moment: flight.moment,
+                }
+            } else {
+                Found::Cancelled
+            }
+        }
+    }
+}
+
+fn found_life(ticket: u64, number: u64, life: Option<&Life>) -> Found
+    ensures { result ≡ spec.found_life ticket number (option_copied life.entry) }
+{
+    match life {
+        None => Found::Cancelled,
+        Some(life) => found_flight(ticket, number, life.schedule.flight),
+    }
+}
+
+fn found_start(lives: &[Life], ticket: u64, start: Option<&Start>) -> Found
+    ensures { result ≡ spec.found_start lives.now ticket (option_copied start.entry) }
+{
+    match start {
+        None => Found::NotStarted,
+        Some(start) => {
+            if start.finished {
+                Found::NotStarted
+            } else {
+                found_life(ticket, start.life, lives.get(start.life as usize))
+            }
+        }
+    }
+}
+
+/// What a finish of a ticket finds.
+pub fn found(lives: &[Life], started: &[Start], ticket: u64) -> Found
+    ensures value { result ≡ spec.found_start lives.now ticket (slice_get started.now ticket) }
+    ensures within { scanned.IsWithin (length lives.now) result }
+{
+    found_start(lives, ticket, started.get(ticket as usize))
+}
+
+/// The scrape with a ticket has had its finish.
+pub fn finish(started: &mut [Start], ticket: u64)
+    ensures { started.new ≡ spec.finished (slice_get started.old ticket) started.old ticket }
+{
+    let place = ticket as usize;
+    if place < started.len() {
+        started[place].finished = true;
+    }
+}
+
+/// The settings that rows are judged by.
+fn rules_of(job: &Job) -> RowRules
+    ensures { result ≡ lives_of.rules_of job.now }
+{
+    RowRules {
+        honor_labels: job.conf.honor_labels,
+        honor_timestamps: job.conf.honor_timestamps,
+        timeout: job.conf.scrape_timeout,
+        limits: job.conf.limits,
+    }
+}
+
+/// Counts a scrape of a life that started at a moment, and ended with a reply after so many milliseconds: its fault, if it isn't good, and how often the
+/// rules for samples were run, each of which takes one step. The body of the reply may be read already.
+#[tactic(auto, unfolding(scrape_machine::specs::Lives::outcome_for))]
+pub fn count<L: Ledger>(
+    alloc: Global,
+    life: &mut Life,
+    moment: i64,
+    reply: &LentReply<'_>,
+    took: i64,
+    book: &mut Book,
+    steps: &mut Steps<L>,
+) -> Result<Counted, NoMemory>
+    requires took { IsMoment took }
+    requires right { lives_of.IsRightLife life.old }
+    ensures fault { IfOk result (λ c. c.fault ≡ fault_of (lives_of.outcome_for life.old took reply.now)) }
+    ensures runs { IfOk result (λ c. c.runs ≡ scrape_runs took reply.now life.old) }
+    ensures life { OnOk result (life.new ≡ lives_of.counted life.old took reply.now) }
+    ensures book { OnOk result (book.new.entries ≡ book.old.entries ++ entries_of life.old.state (lives_of.outcome_for life.old took reply.now) moment took) }
+    ensures err_life { OnErr result (life.new ≡ life.old) }
+    ensures err_book { OnErr result (book.new.entries ≡ book.old.entries) }
+    ensures steps { OnOk result (steps.new ≡ steps.old + scrape_runs took reply.now life.old) }
+    ensures at_least { steps.old ≤ steps.new }
+{
+    let rules = rules_of(life.settings.job());
+    let metric = &life.settings.job().metric_rules;
+    let counted = life
+        .state
+        .count(alloc, &rules, metric, moment, reply, took, book, steps)?;
+    life.schedule.land();
+    Ok(counted)
+}

@@ -1,0 +1,323 @@
+//! What becomes of the lives when the configuration in force changes.
+ghost use Rattle.std.specs.Prelude.{◌≡◌, ◌≤◌, ◌<◌, ◌+◌, ◌++◌, ◌^◌, [], map, length, filter, not, option_copied, IfOk, OnOk, OnErr, ℤ, pos, false};
+ghost use Rattle.std.specs.List.{list_any};
+ghost use Rattle.journal_text.specs.Lines.{number};
+ghost use Rattle.label_conflict.specs.Merging.{bears};
+ghost use Rattle.label_set.specs.SetText.{metric_label};
+ghost use Rattle.life_roll.specs.Names.{place_in};
+ghost use Rattle.jobs_in_force.specs.Jobs as jobs_of;
+ghost use Rattle.jobs_in_force.specs.TargetWords.{HasNoName};
+ghost use Rattle.scrape_machine.specs.Lives as lives_of;
+ghost use Rattle.scrape_machine.specs.Machine as spec;
+ghost use Rattle.scrape_steps.specs.Plans as plan;
+ghost use Rattle.scrape_steps.specs.Unended as listed;
+ghost use Rattle.jobs_in_force.specs.Settings.{settings_of};
+
+use crate::acts::{Fate, is_open};
+use crate::unended::Lives;
+use jobs_in_force::jobs::{InForce, Settings};
+use jobs_in_force::loads::job_named;
+use label_set::{Name, NoMemory};
+use life_roll::{JobNames, Moment, Schedule, Seat, Seats};
+use scrape_loop::LifeState;
+use scrape_machine::lives::{Life, Verdict};
+use std::alloc::Global;
+use target_set::Target;
+
+/// The names of jobs, with their places.
+pub fn names_of(alloc: Global, jobs: &[InForce]) -> Result<JobNames, NoMemory>
+    ensures { IfOk result (λ n. n ≡ map spec.name_of jobs.now) }
+{
+    let mut names = JobNames::new(alloc);
+    for job in jobs {
+        names.push(alloc, &job.job.job().conf.job_name)?;
+    }
+    Ok(names)
+}
+
+fn verdict_on(before: Option<&InForce>, after: &InForce) -> Result<Verdict, NoMemory>
+    ensures { IfOk result (λ v. v ≡ spec.verdict_on after.now (option_copied before.entry)) }
+{
+    let Some(before) = before else {
+        return Ok(Verdict::Apart);
+    };
+    let (old, new) = (&before.job.job().conf, &after.job.job().conf);
+    if !old.compatible(new) {
+        return Ok(Verdict::Apart);
+    }
+    if old.same(new) {
+        return Ok(Verdict::Same);
+    }
+    Ok(Verdict::Other(Settings::of(&after.job)?))
+}
+
+/// How the settings of each job compare with those of the job of the same name before.
+pub fn verdicts_of(
+    alloc: Global,
+    names: &JobNames,
+    jobs: &[InForce],
+    news: &[InForce],
+) -> Result<Vec<Verdict>, NoMemory>
+    requires { names.now ≡ map spec.name_of jobs.now }
+    ensures { IfOk result (λ v. v.items ≡ map (spec.verdict jobs.now) news.now) }
+{
+    let mut verdicts = Vec::with_capacity(alloc, news.len())?;
+    for job in news {
+        let before = job_at(names, jobs, &job.job.job().conf.job_name);
+        let verdict = verdict_on(before, job)?;
+        verdicts.push(verdict)?;
+    }
+    Ok(verdicts)
+}
+
+/// The job of a name, by the places of the names.
+#[tactic(auto, using(crate::proofs::ReloadLemmas::named_at))]
+pub fn job_at<'a>(names: &JobNames, jobs: &'a [InForce], name: &Name) -> Option<&'a InForce>
+    requires { names.now ≡ map spec.name_of jobs.now }
+    ensures { option_copied result ≡ jobs_of.job_named name.now jobs.now }
+{
+    look_job(jobs, names.place(name))
+}
+
+fn fate_by(verdict: &Verdict) -> Result<Fate, NoMemory>
+    ensures { IfOk result (λ f. f ≡ plan.fate_by verdict.now) }
+{
+    match verdict {
+        Verdict::Apart => Ok(Fate::Closes),
+        Verdict::Same => Ok(Fate::Stays),
+        Verdict::Other(settings) => Ok(Fate::Changes(settings.share()?)),
+    }
+}
+
+fn fate_at(
+    life: &Life,
+    after: Option<&InForce>,
+    verdict: Option<&Verdict>,
+) -> Result<Fate, NoMemory>
+    ensures { IfOk result (λ f. f ≡ plan.fate_at life.now (option_copied after.entry) (option_copied verdict.entry)) }
+{
+    match after {
+        None => Ok(Fate::Closes),
+        Some(job) => match verdict {
+            None => Ok(Fate::Closes),
+            Some(verdict) => {
+                if job.kept.has(&life.identity) {
+                    fate_by(verdict)
+                } else {
+                    Ok(Fate::Closes)
+                }
+            }
+        },
+    }
+}
+
+fn look_job(jobs: &[InForce], place: Option<usize>) -> Option<&InForce>
+    ensures { option_copied result ≡ plan.look jobs.now place }
+{
+    match place {
+        None => None,
+        Some(place) => jobs.get(place),
+    }
+}
+
+fn look_verdict(verdicts: &[Verdict], place: Option<usize>) -> Option<&Verdict>
+    ensures { option_copied result ≡ plan.look verdicts.now place }
+{
+    match place {
+        None => None,
+        Some(place) => verdicts.get(place),
+    }
+}
+
+/// The name of a life's job.
+pub fn job_name(life: &Life) -> &Name
+    ensures { result.now ≡ spec.job_name life.now }
+{
+    &life.settings.job().conf.job_name
+}
+
+fn fate_of(
+    names: &JobNames,
+    news: &[InForce],
+    verdicts: &[Verdict],
+    life: &Life,
+) -> Result<Fate, NoMemory>
+    ensures { IfOk result (λ f. f ≡ plan.fate_of names.now news.now verdicts.now life.now) }
+{
+    if !is_open(life) {
+        return Ok(Fate::Stays);
+    }
+    let place = names.place(job_name(life));
+    let after = look_job(news, place);
+    let verdict = look_verdict(verdicts, place);
+    fate_at(life, after, verdict)
+}
+
+/// What becomes of each life that has not ended.
+pub fn fates_of(
+    alloc: Global,
+    names: &JobNames,
+    news: &[InForce],
+    verdicts: &[Verdict],
+    lives: &Lives<'_>,
+) -> Result<Vec<Fate>, NoMemory>
+    ensures { IfOk result (λ v. v.items ≡ map (plan.fate_of names.now news.now verdicts.now) (listed.unended lives.now)) }
+{
+    let mut fates = Vec::with_capacity(alloc, lives.unended())?;
+    for index in 0..lives.unended() {
+        let fate = fate_of(names, news, verdicts, lives.at(index))?;
+        fates.push(fate)?;
+    }
+    Ok(fates)
+}
+
+fn closes(fate: &Fate) -> bool
+    ensures { result ≡ plan.closes fate.now }
+{
+    match fate {
+        Fate::Stays => false,
+        Fate::Changes(_) => false,
+        Fate::Closes => true,
+    }
+}
+
+/// How many lives are closed.
+pub fn count_closed(fates: &[Fate]) -> usize
+    ensures value { result ≡ length (filter plan.closes fates.now) }
+    ensures few { result ≤ length fates.now }
+{
+    let mut count: usize = 0;
+    for fate in fates {
+        if closes(fate) {
+            count += 1;
+        }
+    }
+    count
+}
+
+fn name_after<'a>(fate: &'a Fate, life: &'a Life) -> &'a Name
+    ensures { result.now ≡ spec.job_name (lives_of.life_after (plan.local_of (pos 0) fate.now) life.now) }
+{
+    match fate {
+        Fate::Changes(settings) => &settings.job().conf.job_name,
+        Fate::Stays => job_name(life),
+        Fate::Closes => job_name(life),
+    }
+}
+
+/// Puts the target of a life into the held ones, if the life stays open.
+fn hold(held: &mut Seats, names: &JobNames, fate: &Fate, life: &Life) -> Result<(), NoMemory>
+    ensures { OnOk result ((moment : ℤ) → plan.IsHeldWith held.new held.old names.now (lives_of.life_after (plan.local_of moment fate.now) life.now)) }
+{
+    if closes(fate) || !is_open(life) {
+        return Ok(());
+    }
+    match names.place(name_after(fate, life)) {
+        None => Ok(()),
+        Some(place) => {
+            let job = place as u64;
+            let identity = life.identity.copy()?;
+            held.put(Seat { job, identity })
+        }
+    }
+}
+
+/// The targets that lives have which stay open, by what becomes of those that have not ended.
+pub fn held_of(
+    alloc: Global,
+    names: &JobNames,
+    fates: &[Fate],
+    lives: &Lives<'_>,
+) -> Result<Seats, NoMemory>
+    requires { length fates.now ≡ length (listed.unended lives.now) }
+    ensures { IfOk result (λ s. (moment : ℤ) → plan.IsHeld s names.now (plan.after_each moment (listed.all_fates fates.now lives.now) lives.now)) }
+{
+    let mut held = Seats::new(alloc);
+    let mut place: usize = 0;
+    for fate in fates {
+        hold(&mut held, names, fate, lives.at(place))?;
+        place += 1;
+    }
+    Ok(held)
+}
+
+/// A life of a target that begins at a moment.
+#[tactic(auto, unfolding(scrape_machine::specs::Lives::born))]
+fn born(
+    alloc: Global,
+    moment: Moment,
+    life: u64,
+    job: &InForce,
+    target: &Target,
+) -> Result<Life, NoMemory>
+    requires { bears target.now.labels metric_label ≡ false }
+    ensures { IfOk result (λ l. l ≡ lives_of.born (number moment) life (settings_of job.now.job) target.now) }
+{
+    let settings = Settings::of(&job.job)?;
+    let schedule = Schedule::begun(moment, settings.interval());
+    Ok(Life {
+        state: LifeState::new(alloc, life, target.labels.copy()?)?,
+        identity: target.identity.copy()?,
+        settings,
+        schedule,
+        ended: false,
+    })
+}
+
+/// Whether an open life has a target of a job, by the place of the job's name.
+fn is_held(held: &Seats, place: Option<usize>, target: &Target) -> Result<bool, NoMemory>
+    ensures { IfOk result (λ b. b ≡ plan.is_seated held.now target.now.identity place) }
+{
+    match place {
+        None => Ok(false),
+        Some(place) => {
+            let job = place as u64;
+            let identity = target.identity.copy()?;
+            Ok(held.has(&Seat { job, identity }))
+        }
+    }
+}
+
+/// Adds the lives of targets of a job that begin at a moment: those of which no life is held.
+fn push_born(
+    alloc: Global,
+    lives: &mut Vec<Life>,
+    moment: Moment,
+    first: u64,
+    job: &InForce,
+    held: &Seats,
+    place: Option<usize>,
+) -> Result<(), NoMemory>
+    requires { first < 2 ^ 32 }
+    ensures { OnOk result (lives.new.items ≡ lives.old.items ++ spec.born_all (number moment) (first + length lives.old.items) job.now (filter (λ (t : Target). not (plan.is_seated held.now t.identity place)) job.now.kept)) }
+{
+    for target in job.kept.as_slice() {
+        if !is_held(held, place, target)? {
+            let number = first + lives.len() as u64;
+            let life = born(alloc, moment, number, job, target)?;
+            lives.reserve(1)?;
+            lives.push_reserved(life);
+        }
+    }
+    Ok(())
+}
+
+/// The lives that begin at a moment, where the first has number `first`.
+pub fn births_of(
+    alloc: Global,
+    moment: Moment,
+    first: u64,
+    names: &JobNames,
+    news: &[InForce],
+    held: &Seats,
+) -> Result<Vec<Life>, NoMemory>
+    requires { first < 2 ^ 32 }
+    ensures { IfOk result (λ v. v.items ≡ plan.births_by (number moment) first held.now names.now news.now) }
+{
+    let mut lives = Vec::new(alloc);
+    for job in news {
+        let place = names.place(&job.job.job().conf.job_name);
+        push_born(alloc, &mut lives, moment, first, job, held, place)?;
+    }
+    Ok(lives)
+}
