@@ -13,7 +13,8 @@ pub mod tool;
 
 use http_fetch::HttpFetch;
 use label_set::Name;
-use outside::{FileShelf, FileSink, StdSink, StdSource, SystemClock, TcpLink};
+use os_streams::{StdSource, TcpLink};
+use outside::{FileShelf, FileSink, StdSink, SystemClock};
 use scrape_core::Means;
 use std::hash::RandomState;
 use std::process::ExitCode;

@@ -6,9 +6,10 @@ ghost use Rattle.outside.specs.Sizes.{most_body_bytes};
 
 use crate::files::calls;
 use label_set::{Blob, Name, NoMemory};
+use os_streams::TcpLink;
 use outside::{
     Clock, Fetch, Fetched, FetchedList, MemClock, MemFetch, MomentList, Reply, Request, Scheme,
-    SureFetch, SystemClock, TcpLink, is_scheme, scheme_of, scheme_text,
+    SureFetch, SystemClock, is_scheme, scheme_of, scheme_text,
 };
 use std::alloc::Global;
 use std::process::Abort;

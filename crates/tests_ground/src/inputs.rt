@@ -2,14 +2,16 @@
 
 use crate::files::{calls, put_two, taken};
 use label_set::{Blob, Name, NoMemory};
+use os_streams::StdSource;
 use outside::{
     Clock, FileSink, MemClock, MemSource, MomentList, Sink, SinkFault, Source, SourceFault,
-    StdSource, SureSource, SystemClock,
+    SureSource, SystemClock,
 };
 use std::alloc::Global;
-use std::fs;
+use std::io::{Error, ErrorKind, Read};
 use std::process::Abort;
 use std::test::Fail;
+use std::{fs, io};
 
 /// A source of three bytes whose reads fail at these calls.
 fn source(alloc: Global, fails: &[u64]) -> Result<MemSource, NoMemory> {
@@ -46,6 +48,35 @@ fn files_give_their_bytes(rt: HostRuntime) -> Result<(), Fail> {
     let mut source = StdSource::new(fs::open(&rt, "three")?);
     three_bytes(&rt, &mut source);
     fs::remove_file(&rt, "three")?;
+    Ok(())
+}
+
+/// A reader whose every other read a signal breaks off.
+#[derive(Drop)]
+struct BrokenOff<R: Read + Drop> {
+    reader: R,
+    is_next: bool,
+}
+
+impl<R: Read + Drop> Read for BrokenOff<R> {
+    fn read(&mut self, room: &mut [u8]) -> io::Result<usize> {
+        self.is_next = !self.is_next;
+        if self.is_next {
+            return Err(Error::from(ErrorKind::Interrupted));
+        }
+        self.reader.read(room)
+    }
+}
+
+#[test]
+fn a_read_that_a_signal_breaks_off_is_made_again(rt: HostRuntime) -> Result<(), Fail> {
+    fs::write(&rt, "broken", "abc")?;
+    let mut source = StdSource::new(BrokenOff {
+        reader: fs::open(&rt, "broken")?,
+        is_next: false,
+    });
+    three_bytes(&rt, &mut source);
+    fs::remove_file(&rt, "broken")?;
     Ok(())
 }
 

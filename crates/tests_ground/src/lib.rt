@@ -1,4 +1,4 @@
-//! Tests of the ground: `label_set`, `value_text` and `outside`. They show what no contract says: that calls succeed
+//! Tests of the ground: `label_set`, `value_text`, `outside` and `os_streams`. They show what no contract says: that calls succeed
 //! where there is memory, what is printed, values that others wrote down, and what a machine's files, clocks and links
 //! do. There is no code here. What shows each public call:
 //!

@@ -2,12 +2,14 @@
 
 use crate::files::calls;
 use label_set::{Blob, NoMemory};
-use outside::{Link, LinkFault, MemLink, SureLink, TcpLink};
+use os_streams::TcpLink;
+use outside::{Link, LinkFault, MemLink, SureLink};
 use std::alloc::Global;
 use std::io::{Read, Write};
 use std::net::TcpListener;
 use std::process::Abort;
 use std::test::Fail;
+use std::time::{self, Duration, Instant};
 use std::{io, thread};
 
 /// A link of three bytes, with room for four, that fails at these calls.
@@ -129,5 +131,50 @@ fn a_read_that_takes_too_long_is_a_fault(rt: HostRuntime) -> Result<(), Fail> {
     assert_eq!(rt; link.dial("127.0.0.1", port, 20), Ok(()));
     let mut room = [0u8; 8];
     assert_eq!(rt; link.read(&mut room), Err(LinkFault));
+    Ok(())
+}
+
+/// Gives one byte every 20 milliseconds, until the other end hangs up or 200 were given.
+fn drip<C: time::Clock>(clock: &C, listener: TcpListener) -> io::Result<()> {
+    let (mut stream, _) = listener.accept()?;
+    for _ in 0..200 {
+        stream.write_all(b"x")?;
+        thread::sleep(clock, Duration::from_millis(20));
+    }
+    Ok(())
+}
+
+/// How many bytes a link gives until a read is a fault.
+fn count_until_fault<L: Link>(link: &mut L) -> usize {
+    let mut room = [0u8; 8];
+    let mut come = 0usize;
+    for _ in 0..400 {
+        let Ok(count) = link.read(&mut room) else {
+            return come;
+        };
+        come = come.saturating_add(count);
+    }
+    come
+}
+
+#[test]
+fn deadline_of_each_read_alone(rt: HostRuntime) -> Result<(), Fail> {
+    let mut link = TcpLink::new(rt.clone()?);
+    let clock = rt.clone()?;
+    let listener = TcpListener::bind(&rt, "127.0.0.1:0")?;
+    let port = listener.local_addr()?.port();
+    let server = thread::spawn(&rt, move || drip(&clock, listener))?;
+    let start = Instant::now(&rt)?;
+    assert_eq!(rt; link.dial("127.0.0.1", port, 300), Ok(()));
+    // each read is over long before the timeout, and all together aren't
+    let come = count_until_fault(&mut link);
+    let took = start.elapsed(&rt)?.as_millis();
+    assert!(rt; 1 < come && come < 100, "{come}");
+    assert!(rt; 300 <= took && took < 2000, "{took}");
+    // nothing is left for another call
+    assert_eq!(rt; link.write(b"GET"), Err(LinkFault));
+    assert_eq!(rt; link.read(&mut [0u8; 8]), Err(LinkFault));
+    link.hang_up();
+    let _ = server.join(&rt);
     Ok(())
 }

@@ -7,15 +7,16 @@ ghost use Rattle.outside.specs.Sizes.{most_body_bytes};
 use crate::replies::show;
 use http_fetch::HttpFetch;
 use label_set::{Blob, Name, NoMemory};
+use os_streams::TcpLink;
 use outside::{
     CallList, Fetch, Fetched, MemClock, MemLink, MomentList, Reply, Request, Scheme, SystemClock,
-    TcpLink,
 };
 use std::alloc::Global;
 use std::io::{Read, Write};
 use std::net::TcpListener;
 use std::process::Abort;
 use std::test::Fail;
+use std::time::{self, Duration};
 use std::{io, thread};
 
 const TEXT: &str =
@@ -189,5 +190,35 @@ fn a_server_that_says_nothing_is_given_up(rt: HostRuntime) -> Result<(), Fail> {
         "{}",
         fetched.took
     );
+    Ok(())
+}
+
+/// Answers one connection with a page that has no end, a line every 10 milliseconds.
+fn drip<C: time::Clock>(clock: &C, listener: TcpListener) -> io::Result<()> {
+    let (mut stream, _) = listener.accept()?;
+    stream.write_all(b"HTTP/1.1 200 OK\r\n\r\n")?;
+    for _ in 0..400 {
+        stream.write_all(b"#\n")?;
+        thread::sleep(clock, Duration::from_millis(10));
+    }
+    Ok(())
+}
+
+#[test]
+fn a_server_that_drips_is_given_up(rt: HostRuntime) -> Result<(), Fail> {
+    let link = TcpLink::new(rt.clone()?);
+    let mut fetch = HttpFetch::new(rt.alloc(), link, SystemClock::new(rt.clone()?));
+    let clock = rt.clone()?;
+    let listener = TcpListener::bind(&rt, "127.0.0.1:0")?;
+    let port = listener.local_addr()?.port();
+    let server = thread::spawn(&rt, move || drip(&clock, listener))?;
+    let fetched = fetched_soon(rt.alloc(), &mut fetch, port)?;
+    assert!(rt; matches!(fetched.reply, Reply::Lost));
+    assert!(rt;
+        50 <= fetched.took && fetched.took < 2000,
+        "{}",
+        fetched.took
+    );
+    let _ = server.join(&rt);
     Ok(())
 }
