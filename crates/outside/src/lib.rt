@@ -18,7 +18,6 @@ pub mod objects;
 pub mod replies;
 pub mod requests;
 pub mod sizes;
-pub mod sockets;
 pub mod sources;
 pub mod streams;
 
@@ -33,6 +32,5 @@ pub use objects::{CallList, FileList, Shelf, ShelfError, Sink, SinkFault, Stored
 pub use replies::Reply;
 pub use requests::{Fetched, Request, Scheme, is_scheme, scheme_of, scheme_text};
 pub use sizes::{MOST_BODY_BYTES, MOST_NAME_BYTES, MOST_TEXT_BYTES};
-pub use sockets::TcpLink;
 pub use sources::{MemSource, Source, SourceFault, SureSource};
-pub use streams::{FileSink, StdSource, SystemClock};
+pub use streams::{FileSink, SystemClock};

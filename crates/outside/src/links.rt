@@ -16,7 +16,7 @@ pub trait Link: Drop {
     /// What contracts see of it: whether it is dialled, what was sent and what is left, where it tells that, and its count.
     ghost seen: { Self → LinkSeen };
 
-    /// Connects to a port of a host. The dial, and each call after it, is to take at most so many milliseconds.
+    /// Connects to a port of a host. The dial and all calls after it are to be over so many milliseconds from now.
     fn dial(&mut self, host: &str, port: u16, timeout: i64) -> Result<(), LinkFault>
         ensures dialled { OnOk result (WasDialled (used (seen self.old) (seen self.new))) }
         ensures failed { OnErr result (Broke (used (seen self.old) (seen self.new))) };

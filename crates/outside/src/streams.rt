@@ -1,12 +1,11 @@
-//! Adapters over a file that is written, an input of the standard library, and the system's clock.
+//! Adapters over a file that is written, and the system's clock.
 ghost use Rattle.std.specs.Prelude.{◌≡◌, ◌≤◌, ◌<◌, ◌^◌, None, pos, length};
 ghost use Rattle.outside.specs.Clocks.{IsReading};
 
 use crate::clocks::Clock;
 use crate::objects::{Sink, SinkFault};
-use crate::sources::{Source, SourceFault};
 use label_set::Name;
-use std::io::{Read, Write};
+use std::io::Write;
 use std::marker::Model;
 use std::rt::Files;
 use std::time::{Duration, SystemTime};
@@ -72,51 +71,6 @@ fn write_into<R: Files>(
     made.flush()?;
     *file = Some(made);
     Ok(())
-}
-
-/// The standard input, or another reader of the standard library.
-#[derive(Drop)]
-pub struct StdSource<R: Read + Drop> {
-    reader: R,
-    given: u64,
-    faults: u64,
-}
-
-impl<R: Read + Drop> Model for StdSource<R> {
-    ghost use Rattle.std.specs.Prelude.{None};
-    ghost use Rattle.outside.specs.Sources.{SourceSeen};
-
-    ghost Value = { SourceSeen };
-
-    ghost view = { λ s. record { left = None; given = s.given; faults = s.faults } };
-}
-
-impl<R: Read + Drop> StdSource<R> {
-    /// A source over the reader.
-    pub fn new(reader: R) -> StdSource<R>
-        ensures { result ≡ record { left = None; given = 0; faults = 0 } }
-    {
-        StdSource {
-            reader,
-            given: 0,
-            faults: 0,
-        }
-    }
-}
-
-impl<R: Read + Drop> Source for StdSource<R> {
-    ghost seen = { λ s. s };
-
-    fn read(&mut self, room: &mut [u8]) -> Result<usize, SourceFault> {
-        if let Ok(count) = self.reader.read(room) {
-            if let Some(given) = self.given.checked_add(count as u64) {
-                self.given = given;
-                return Ok(count);
-            }
-        }
-        self.faults = self.faults.saturating_add(1);
-        Err(SourceFault)
-    }
 }
 
 /// The clock of the operating system. Where it can't be read its reading is 0.
