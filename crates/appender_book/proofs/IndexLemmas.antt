@@ -1,23 +1,22 @@
 -- The index of no entries, and of one more.
-use Rattle.std.proofs.Common.{◌≡◌, ◌⊎◌, inl, inr, ℕ, zero, suc, ◌+◌, ◌<◌, ◌≤◌, Bool, true, false, ◌&&◌, List, [], ◌∷◌, ◌++◌, length, take, reverse, set, get_or, nat_eq, if◌then◌else◌, slice_get, Some, None, Option, option_map, unwrap_or, refl, sym, ap, ap₂, ◌∙◌, subst, subst₂, true≢false, arith}
-use Rattle.std.proofs.lemmas.List.{take-append-le, length-set, length-map, get_or-set_same, get_or-set_other}
+use Rattle.std.proofs.Common.{◌≡◌, ◌⊎◌, inl, inr, ℕ, zero, suc, ◌+◌, ◌<◌, ◌≤◌, Bool, true, false, ◌&&◌, List, [], ◌∷◌, ◌++◌, length, map, take, reverse, nat_eq, if◌then◌else◌, slice_get, Some, None, Option, option_map, unwrap_or, refl, sym, ap, ap₂, ◌∙◌, subst, true≢false, arith}
+use Rattle.std.proofs.lemmas.List.{take-append-le}
 use Rattle.std.proofs.Math.Seq.{take-append_seam}
-use Rattle.std.proofs.lemmas.Option.{slice_get_past, unwrap_or-slice_get, slice_get-get_or, same_Some}
+use Rattle.std.proofs.lemmas.Option.{slice_get_past}
 use Rattle.std.specs.HashMap.{IsEmpty}
 use Rattle.std.specs.Map.{lookup}
 use Rattle.std.specs.declared.hash.DefaultHasher.{DefaultHasher}
-use Rattle.label_set.specs.Same.{sets_decide}
 use Rattle.label_set.specs.declared.texts.Pair.{Pair}
 use Rattle.report_samples.specs.declared.entries.Entry.{Entry}
 use Rattle.appender_book.specs.declared.verdicts.Verdict.{Verdict}
 use Rattle.appender_book.specs.declared.verdicts.Verdict.TheVariants.{Kept}
 use Rattle.appender_book.specs.declared.index.Index.{Index}
 use Rattle.appender_book.specs.declared.index.Found.{Found}
-use Rattle.appender_book.specs.declared.index.Found.TheVariants.{Known, New}
-use Rattle.appender_book.specs.Index.{HasSeriesRoom, IsIndex, IsNoted, IsSameIndex, end_of, entry_at, entry_before, entry_of_end, has_hash, hash_at, hash_in, hash_of, is_kept_one, is_kept_with, is_of_set, is_series, kept_end, number_in, number_of, number_of_hash, passes_at, sets_of, set_before}
+use Rattle.appender_book.specs.Index.{HasSeriesRoom, IsIndex, IsNoted, IsSameIndex, end_of, entry_at, entry_before, entry_of_end, has_hash, hash_at, is_kept_one, is_kept_with, is_of_set, is_series, kept_end, number_in, number_of, passes_at, sets_of}
+use Rattle.appender_book.specs.Series.{series_of}
 use Rattle.appender_book.specs.Verdicts.{verdict_at, verdict_after, verdict_behind, is_kept, last_kept}
-use Rattle.appender_book.proofs.EndLemmas.{end_alike, end_within}
-use Rattle.appender_book.proofs.SeriesLemmas.{slice_get_left, slice_get_end, length_more, sets_stay, sets_renewed, sets_begun, set_there, passes_there, number_passes, number_within, passes_left, passes_end, passes_past, number_stays, number_more}
+use Rattle.appender_book.proofs.EndLemmas.{end_alike}
+use Rattle.appender_book.proofs.SeriesLemmas.{slice_get_left, slice_get_end, length_more, passes_past}
 use Rattle.appender_book.proofs.VerdictLemmas.{verdict_here, found_of_all}
 
 -- there is no verdict where there is no entry
@@ -25,15 +24,22 @@ no_verdict : (place : ℕ) → verdict_at [] place ≡ None
 unfolding verdict_at
 no_verdict place = refl
 
+no_series : sets_of [] [] ≡ map Some (series_of [])
+unfolding series_of
+no_series = refl
+
 none_passes : (ends : List ℕ) (test : List Pair → Bool) (place : ℕ) → ends ≡ [] → passes_at (sets_of [] ends) test place ≡ false
 none_passes ends test place e = passes_past (sets_of [] ends) test place (let l : length (sets_of [] ends) ≡ 0 = ap (λ (ns : List ℕ). length (sets_of [] ns)) e in omega arith)
 
-pub no_entries : (index : Index) → index.verdicts.items ≡ [] → index.ends.items ≡ [] → index.earlier.items ≡ [] → IsEmpty index.last → IsIndex [] index
-no_entries index v e b m =
+pub no_entries : (index : Index) → index.verdicts.items ≡ [] → index.places.items ≡ [] → index.ends.items ≡ [] → index.earlier.items ≡ [] → IsEmpty index.last → IsIndex [] index
+no_entries index v p e b m =
     let none : length index.ends.items ≡ 0 = ap length e in
     record {
       judged = ap length v;
       verdicts = λ place. ap (λ (vs : List Verdict). slice_get vs place) v ∙ sym (no_verdict place);
+      placed = ap length p;
+      places = λ place series at. absurd (true≢false (ap is_there (sym at ∙ ap (λ (ns : List ℕ). slice_get ns place) p)));
+      series = ap (sets_of []) e ∙ no_series;
       counted = ap length b ∙ sym none;
       within = λ place end at. absurd (true≢false (ap is_there (sym at ∙ ap (λ (ns : List ℕ). slice_get ns place) e)));
       ends = λ series. ap (λ (ns : List ℕ). end_of ns (number_of [] ns series)) e;
@@ -125,6 +131,10 @@ pub same_index : (es : List Entry) (old new : Index) → IsIndex es old → IsSa
 same_index es old new is same = record {
   judged = ap length same.verdicts ∙ is.judged;
   verdicts = λ i. ap (λ (vs : List Verdict). slice_get vs i) same.verdicts ∙ is.verdicts i;
+  placed = ap length same.places ∙ is.placed;
+  places = λ place series at.
+      ap (λ (ns : List ℕ). slice_get (sets_of es ns) series) same.ends ∙ is.places place series (ap (λ (ns : List ℕ). slice_get ns place) (sym same.places) ∙ at);
+  series = ap (sets_of es) same.ends ∙ is.series;
   counted = ap length same.earlier ∙ is.counted ∙ ap length (sym same.ends);
   within = λ place end at. is.within place end (ap (λ (ns : List ℕ). slice_get ns place) (sym same.ends) ∙ at);
   ends = λ series. ap (λ (ns : List ℕ). end_of ns (number_of es ns series)) same.ends ∙ is.ends series;
@@ -142,5 +152,6 @@ less_room n index room =
     let ends = room.ends in
     let earlier = room.earlier in
     let next = room.next in
+    let few = room.few in
     let last = room.last in
-    record { ends = omega arith; earlier = omega arith; next = omega arith; last = omega arith }
+    record { ends = omega arith; earlier = omega arith; next = omega arith; few = omega arith; last = omega arith }

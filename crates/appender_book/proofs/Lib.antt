@@ -3,6 +3,7 @@ pub mod WalkLemmas
 pub mod VerdictLemmas
 pub mod SeriesLemmas
 pub mod IndexLemmas
+pub mod NumberLemmas
 pub mod MoreLemmas
 pub mod LawLemmas
 pub mod SharingLemmas

@@ -1,7 +1,7 @@
 -- The index of one entry more, of a series that is known or a new one.
-use Rattle.std.proofs.Common.{◌≡◌, ◌≢◌, ◌⊎◌, inl, inr, ℕ, zero, suc, ◌+◌, ◌<◌, ◌≤◌, Bool, true, false, ◌&&◌, List, [], ◌∷◌, ◌++◌, length, reverse, set, get_or, nat_eq, if◌then◌else◌, slice_get, Some, None, Option, unwrap_or, refl, sym, ap, ap₂, ◌∙◌, subst, true≢false, arith}
-use Rattle.std.proofs.lemmas.List.{length-set, length-map, get_or-set_same, get_or-set_other}
-use Rattle.std.proofs.lemmas.Option.{unwrap_or-slice_get, slice_get-get_or, slice_get_within, same_Some}
+use Rattle.std.proofs.Common.{◌≡◌, ◌≢◌, ◌⊎◌, inl, inr, ℕ, zero, suc, ◌+◌, ◌<◌, ◌≤◌, Bool, true, false, ◌&&◌, List, [], ◌∷◌, ◌++◌, length, map, reverse, set, nat_eq, if◌then◌else◌, slice_get, Some, Option, unwrap_or, refl, sym, ap, ap₂, ◌∙◌, subst, true≢false, arith}
+use Rattle.std.proofs.lemmas.List.{map-append, length-set, length-map, get_or-set_same, get_or-set_other}
+use Rattle.std.proofs.lemmas.Option.{unwrap_or-slice_get, same_Some}
 use Rattle.std.specs.declared.hash.DefaultHasher.{DefaultHasher}
 use Rattle.label_set.specs.Same.{sets_decide}
 use Rattle.label_set.specs.declared.texts.Pair.{Pair}
@@ -11,8 +11,10 @@ use Rattle.appender_book.specs.declared.index.Index.{Index}
 use Rattle.appender_book.specs.declared.index.Found.{Found}
 use Rattle.appender_book.specs.declared.index.Found.TheVariants.{Known, New}
 use Rattle.appender_book.specs.Index.{IsIndex, IsNoted, IsFound, end_of, has_hash, hash_at, hash_in, hash_of, is_series, kept_end, number_in, number_of, number_of_hash, passes_at, set_before, sets_of}
+use Rattle.appender_book.specs.Series.{series_of}
 use Rattle.appender_book.specs.Verdicts.{verdict_behind, is_kept}
 use Rattle.appender_book.proofs.EndLemmas.{end_within}
+use Rattle.appender_book.proofs.NumberLemmas.{places_more, places_left, series_known, series_begun, stands_nowhere}
 use Rattle.appender_book.proofs.IndexLemmas.{three, kept_more, verdicts_more, new_kept}
 use Rattle.appender_book.proofs.SeriesLemmas.{slice_get_left, slice_get_end, length_more, sets_stay, sets_renewed, sets_begun, set_there, passes_there, number_passes, number_within, passes_left, passes_end, passes_past, number_stays, number_more}
 
@@ -107,6 +109,11 @@ known_more es e old new place verdict is judged found noted =
     record {
       judged = ap length noted.verdicts ∙ length_more old.verdicts.items verdict ∙ ap suc is.judged ∙ sym (length_more es e);
       verdicts = verdicts_more es e old new (suc (length es)) (Known place) verdict is judged noted;
+      placed = ap length noted.places ∙ length_more old.places.items place ∙ ap suc is.placed ∙ sym (length_more es e);
+      places = λ p n at.
+          ap (λ (ss : List (Option (List Pair))). slice_get ss n) sets_new
+          ∙ places_more es e sets old.places.items place is.placed is.places here p n (ap (λ (ns : List ℕ). slice_get ns p) (sym noted.places) ∙ at);
+      series = sets_new ∙ is.series ∙ ap (map Some) (sym (series_known es e sets place is.series here));
       counted = ap length noted.earlier ∙ is.counted ∙ sym count;
       within = λ p n at. within_known es e old place is (is_kept verdict) p n (ap (λ (ns : List ℕ). slice_get ns p) (sym ends) ∙ at);
       ends = λ x.
@@ -217,6 +224,15 @@ begun_more es e old new hash last verdict is judged found hashed first noted =
     record {
       judged = ap length noted.verdicts ∙ length_more old.verdicts.items verdict ∙ ap suc is.judged ∙ sym (length_more es e);
       verdicts = verdicts_more es e old new (suc (length es)) (New hash last) verdict is judged noted;
+      placed = ap length noted.places ∙ length_more old.places.items (length old.ends.items) ∙ ap suc is.placed ∙ sym (length_more es e);
+      places = λ p n at.
+          ap (λ (ss : List (Option (List Pair))). slice_get ss n) sets_new
+          ∙ places_more es e more old.places.items (length old.ends.items) is.placed (λ i m h. places_left sets (Some e.series) m _ (is.places i m h))
+          (ap (slice_get more) (sym was) ∙ slice_get_end sets (Some e.series)) p n (ap (λ (ns : List ℕ). slice_get ns p) (sym noted.places) ∙ at);
+      series =
+          sets_new ∙ ap (λ (ss : List (Option (List Pair))). ss ++ Some e.series ∷ []) is.series
+          ∙ sym (map-append Some (series_of es) (e.series ∷ []))
+          ∙ ap (map Some) (sym (series_begun es e sets is.series (stands_nowhere es old e.series is found)));
       counted = ap length noted.earlier ∙ length_more old.earlier.items last ∙ ap suc is.counted ∙ sym count;
       within = λ p n at.
           within_by es e n (either (is.within p n) (more_read old.ends.items (suc (length es)) p n (ap (λ (ns : List ℕ). slice_get ns p) (sym noted.ends) ∙ at)));

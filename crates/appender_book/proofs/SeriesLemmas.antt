@@ -1,5 +1,5 @@
 -- The sets of the series of a book, and the numbers of series.
-use Rattle.std.proofs.Common.{◌≡◌, ℕ, zero, suc, ◌<◌, ◌≤◌, Bool, true, false, List, [], ◌∷◌, ◌++◌, length, map, set, get_or, slice_get, if◌then◌else◌, refl, sym, ap, ap₂, ◌∙◌, true≢false, arith, Some, None, Option, option_map}
+use Rattle.std.proofs.Common.{◌≡◌, ℕ, zero, suc, ◌<◌, ◌≤◌, Bool, true, false, List, [], ◌∷◌, ◌++◌, length, set, slice_get, if◌then◌else◌, refl, sym, ap, ap₂, ◌∙◌, true≢false, arith, Some, None, Option, option_map}
 use Rattle.std.proofs.lemmas.List.{map-append, map-set, set-get_or}
 use Rattle.std.proofs.lemmas.Option.{slice_get_past, slice_get-map, get_or_from_slice_get}
 use Rattle.label_set.specs.Same.{sets_decide}

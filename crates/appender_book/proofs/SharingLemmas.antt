@@ -22,13 +22,13 @@ pub index_sync : IsSync Index.the_row
 index_sync = search (verdict_send, verdict_sync, maps.crosses, sendable, crosses) depth 60 fits 10000
 
 inside_book_send : IsSend BookInside.the_row
-inside_book_send = declared_send BookInside.the_type (search (entry_send, sendable, crosses) depth 40, (index_send, (search sendable depth 20, tt)))
+inside_book_send = declared_send BookInside.the_type (search (entry_send, sendable, crosses) depth 40, (index_send, (search sendable depth 20, (search sendable depth 20, tt))))
 
 pub book_send : IsSend Book.the_row
 book_send = search (inside_book_send, sendable) depth 10
 
 inside_book_sync : IsSync BookInside.the_row
-inside_book_sync = declared_sync BookInside.the_type (search (entry_sync, sendable, crosses) depth 40, (index_sync, (search sendable depth 20, tt)))
+inside_book_sync = declared_sync BookInside.the_type (search (entry_sync, sendable, crosses) depth 40, (index_sync, (search sendable depth 20, (search sendable depth 20, tt))))
 
 pub book_sync : IsSync Book.the_row
 book_sync = search (inside_book_sync, sendable) depth 10

@@ -1,5 +1,5 @@
 -- Going back over the series of one hash finds the one with a set.
-use Rattle.std.proofs.Common.{◌≡◌, ℕ, zero, suc, ◌<◌, ◌≤◌, Bool, true, false, List, length, refl, sym, ap, ◌∙◌, true≢false, arith, eq-eqb, eqb-true, slice_get, Some, None, Option, subst}
+use Rattle.std.proofs.Common.{◌≡◌, ℕ, suc, ◌<◌, ◌≤◌, true, false, List, length, sym, ap, ◌∙◌, true≢false, arith, eq-eqb, eqb-true, slice_get, Some, None, Option, subst}
 use Rattle.std.proofs.lemmas.Option.{same_Some}
 use Rattle.std.specs.declared.hash.DefaultHasher.{DefaultHasher}
 use Rattle.label_set.specs.Same.{sets_decide}

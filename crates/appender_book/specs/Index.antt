@@ -1,6 +1,6 @@
 -- How a book finds the last kept entry of a series. Series have places in the order in which they first came, and numbers, one more than their places.
 -- The number of a series is found by what is expected next, or else by the hash of its set, and from there back over the series of the same hash.
-use Rattle.std.specs.Prelude.{◌≡◌, ℕ, zero, suc, ◌+◌, ◌<◌, ◌≤◌, Bool, true, false, ◌&&◌, List, [], ◌∷◌, ◌++◌, map, length, if◌then◌else◌, slice_get, slice_set, nat_eq, unwrap_or, vec_len, vec_capacity}
+use Rattle.std.specs.Prelude.{◌≡◌, ℕ, zero, suc, ◌+◌, ◌<◌, ◌≤◌, ◌^◌, ⊤, Bool, true, false, ◌&&◌, List, [], ◌∷◌, ◌++◌, map, length, if◌then◌else◌, slice_get, slice_set, nat_eq, unwrap_or, vec_len, vec_capacity}
 use Rattle.std.specs.List.{fold}
 use Rattle.std.specs.Option.{option_map}
 use Rattle.std.specs.declared.option.Option.{Option}
@@ -18,6 +18,7 @@ use Rattle.appender_book.specs.declared.index.Index.{Index}
 use Rattle.appender_book.specs.declared.index.Found.{Found}
 use Rattle.appender_book.specs.declared.index.Found.TheVariants.{Known, New}
 use Rattle.appender_book.specs.Verdicts.{is_kept, verdict_at}
+use Rattle.appender_book.specs.Series.{series_of}
 
 -- the hash of a set, begun with this hasher
 unfoldable pub hash_of : DefaultHasher → List Pair → ℕ
@@ -112,6 +113,10 @@ number_of_hash index hash = unwrap_or (get nat_eq index.last hash) 0
 pub record IsIndex (entries : List Entry) (index : Index) : Type 0 where
   pub judged : length index.verdicts.items ≡ length entries
   pub verdicts : (place : ℕ) → slice_get index.verdicts.items place ≡ verdict_at entries place
+  pub placed : length index.places.items ≡ length entries
+  pub places : (place series : ℕ) → slice_get index.places.items place ≡ Some series →
+      slice_get (sets_of entries index.ends.items) series ≡ Some (option_map (λ (e : Entry). e.series) (slice_get entries place))
+  pub series : sets_of entries index.ends.items ≡ map Some (series_of entries)
   pub counted : length index.earlier.items ≡ length index.ends.items
   pub within : (place end : ℕ) → slice_get index.ends.items place ≡ Some end → end ≤ length entries
   pub ends : (series : List Pair) → end_of index.ends.items (number_of entries index.ends.items series) ≡ kept_end entries (is_series series) (length entries)
@@ -132,16 +137,19 @@ pub record HasSeriesRoom (n : ℕ) (index : Index) : Type 0 where
   pub ends : vec_len index.ends + n ≤ vec_capacity index.ends
   pub earlier : vec_len index.earlier + n ≤ vec_capacity index.earlier
   pub next : vec_len index.next + n ≤ vec_capacity index.next
+  pub few : vec_len index.ends + n ≤ 2 ^ 32
   pub last : n ≤ spare index.last
 
 -- the index has room for n more entries
 pub record HasRoom (n : ℕ) (index : Index) : Type 0 where
   pub verdicts : vec_len index.verdicts + n ≤ vec_capacity index.verdicts
+  pub places : vec_len index.places + n ≤ vec_capacity index.places
   pub series : HasSeriesRoom n index
 
 -- the same is noted
 pub record IsSameIndex (old new : Index) : Type 0 where
   pub verdicts : new.verdicts.items ≡ old.verdicts.items
+  pub places : new.places.items ≡ old.places.items
   pub ends : new.ends.items ≡ old.ends.items
   pub earlier : new.earlier.items ≡ old.earlier.items
   pub hasher : new.hasher ≡ old.hasher
@@ -164,9 +172,20 @@ abbrev pub last_after : Index → ℕ → Found → ℕ
 last_after index h (Known place) = number_of_hash index h
 last_after index h (New hash last) = if nat_eq h hash then length index.ends.items + 1 else number_of_hash index h
 
+-- the place of a series of which this was found
+abbrev pub place_of : Index → Found → ℕ
+place_of index (Known place) = place
+place_of index (New hash last) = length index.ends.items
+
+-- the index has the place that was found
+abbrev pub IsWithin : Found → Index → Type 0
+IsWithin (Known place) index = place < length index.ends.items
+IsWithin (New hash last) index = ⊤
+
 -- an entry with an end is noted as well, of which this was found, and of this verdict
 pub record IsNoted (old new : Index) (end : ℕ) (found : Found) (verdict : Verdict) : Type 0 where
   pub verdicts : new.verdicts.items ≡ old.verdicts.items ++ verdict ∷ []
+  pub places : new.places.items ≡ old.places.items ++ place_of old found ∷ []
   pub ends : new.ends.items ≡ ends_after old.ends.items end (is_kept verdict) found
   pub earlier : new.earlier.items ≡ earlier_after old.earlier.items found
   pub hasher : new.hasher ≡ old.hasher

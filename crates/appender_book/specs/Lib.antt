@@ -1,4 +1,5 @@
 pub mod Books
 pub mod Verdicts
+pub mod Series
 pub mod Index
 pub mod Laws

@@ -1,6 +1,8 @@
 //! The book: what was appended, entry by entry.
-ghost use Rattle.std.specs.Prelude.{◌≡◌, ◌+◌, ◌≤◌, ◌<◌, ◌++◌, [], ◌∷◌, ℕ, length, reverse, slice_get, vec_len, vec_capacity, IfOk, OnOk, OnErr, option_copied};
+ghost use Rattle.std.specs.Prelude.{◌≡◌, ◌+◌, ◌≤◌, ◌<◌, ◌++◌, [], ◌∷◌, ℕ, length, reverse, slice_get, vec_len, vec_capacity, is_some, IfSome, IfOk, OnOk, OnErr, option_copied};
+ghost use Rattle.std.specs.Option.{option_map};
 ghost use Rattle.appender_book.specs.Index as spec;
+ghost use Rattle.appender_book.specs.Series as series_words;
 ghost use Rattle.appender_book.specs.Verdicts.{verdict_at};
 
 use crate::index::Index;
@@ -10,6 +12,7 @@ use report_samples::{Entry, EntryList};
 use std::alloc::Global;
 use std::hash::{BuildHasher, DefaultHasher, RandomState};
 use std::marker::Model;
+use value_text::ValueText;
 
 /// Entries that are only ever appended, with their verdicts. Contracts see the entries, and the spare room.
 #[derive(Drop)]
@@ -18,18 +21,30 @@ pub struct Book {
     index: Index,
     /// For how many more entries room was made, in all lists.
     room: usize,
+    /// How many bytes the longest value has.
+    longest: usize,
 }
 
 impl Model for Book {
     ghost use Rattle.std.specs.Prelude.{◌+◌, ◌≤◌, vec_capacity, vec_len};
     ghost use Rattle.appender_book.specs.Books.{BookView};
     ghost use Rattle.appender_book.specs.Index.{IsIndex, HasRoom};
+    ghost use Rattle.appender_book.specs.Series.{AreShort};
 
     ghost Value = { BookView };
 
     ghost view = { λ b. record { entries = b.entries.items; spare = b.room } };
 
-    ghost invariant = { λ b. IsIndex b.entries.items b.index × (vec_len b.entries + b.room ≤ vec_capacity b.entries) × HasRoom b.room b.index };
+    ghost invariant = { λ b. IsIndex b.entries.items b.index × (vec_len b.entries + b.room ≤ vec_capacity b.entries) × HasRoom b.room b.index × AreShort b.longest b.entries.items };
+}
+
+fn value_len(value: &Option<ValueText>) -> usize
+    ensures { result ≡ series_words.value_len value.now }
+{
+    match value {
+        None => 0,
+        Some(value) => value.bytes().len(),
+    }
 }
 
 /// Makes room for so many more entries in both.
@@ -87,6 +102,7 @@ impl Book {
             entries: Vec::new(alloc),
             index: Index::new(alloc, hasher),
             room: 0,
+            longest: 0,
         }
     }
 
@@ -115,6 +131,7 @@ impl Book {
         ensures entries { self.new.entries ≡ self.old.entries ++ entry ∷ [] }
         ensures spare { self.old.spare ≤ self.new.spare + 1 }
     {
+        self.longest = self.longest.max(value_len(&entry.value));
         push(&mut self.entries, &mut self.index, entry);
         self.room -= 1;
     }
@@ -153,5 +170,34 @@ impl Book {
         ensures { result ≡ verdict_at self.now.entries place }
     {
         self.index.verdict(place)
+    }
+
+    /// The number of the series of the entry at a place: entries of one number have one label set. `None` exactly at or past the end.
+    pub fn series_at(&self, place: usize) -> Option<usize>
+        ensures some { is_some result ≡ is_some (slice_get self.now.entries place) }
+        ensures set { IfSome result (λ n. slice_get (series_words.series_of self.now.entries) n ≡ option_map (λ e. e.series) (slice_get self.now.entries place)) }
+    {
+        self.index.series_at(place)
+    }
+
+    /// How many series there are. Their numbers run from 0, in the order in which they first came.
+    pub fn series_count(&self) -> usize
+        ensures { result ≡ length (series_words.series_of self.now.entries) }
+    {
+        self.index.series_count()
+    }
+
+    /// An entry of the series with a number; `None` exactly where there is none.
+    pub fn entry_of(&self, number: usize) -> Option<&Entry>
+        ensures { option_map (λ e. e.series) (option_copied result) ≡ slice_get (series_words.series_of self.now.entries) number }
+    {
+        self.index.entry_at(&self.entries, number)
+    }
+
+    /// No value has more bytes.
+    pub fn longest_value(&self) -> usize
+        ensures { series_words.AreShort result self.now.entries }
+    {
+        self.longest
     }
 }

@@ -12,12 +12,17 @@ use std::alloc::Global;
 use std::collections::HashMap;
 use std::hash::{DefaultHasher, Hash, Hasher};
 
+/// So many series have places of four bytes.
+const SERIES: usize = 1 << 32;
+
 /// What is noted beside the entries of a book. Series have places in the order in which they first came; a number is one more than a place, and
 /// 0 where there is no series. An end is one more than the place of an entry, and 0 where there is no entry.
 #[derive(Drop)]
 pub struct Index {
     /// The verdict of each entry.
     verdicts: Vec<Verdict>,
+    /// The place of the series of each entry.
+    places: Vec<u32>,
     /// For each series, the end of its last kept entry.
     ends: Vec<usize>,
     /// For each series, the number of the last one before it whose set has the same hash.
@@ -44,10 +49,12 @@ pub enum Found {
 impl Index {
     /// The index of no entries.
     pub(crate) fn new(alloc: Global, hasher: DefaultHasher) -> Index
-        ensures { spec.IsIndex [] result }
+        ensures index { spec.IsIndex [] result }
+        ensures room { spec.HasRoom 0 result }
     {
         Index {
             verdicts: Vec::new(alloc),
+            places: Vec::new(alloc),
             ends: Vec::new(alloc),
             earlier: Vec::new(alloc),
             next: Vec::new(alloc),
@@ -62,13 +69,17 @@ impl Index {
         self.hasher
     }
 
-    /// Makes room for so many more entries.
+    /// Makes room for so many more entries. There is none for a series whose place has more than four bytes.
     pub(crate) fn reserve(&mut self, more: usize) -> Result<(), NoMemory>
         ensures room { OnOk result (spec.HasRoom more self.new) }
         ensures kept { (n : ℕ) → spec.HasRoom n self.old → spec.HasRoom n self.new }
         ensures same { spec.IsSameIndex self.old self.new }
     {
+        if more > SERIES || self.ends.len() > SERIES - more {
+            return Err(NoMemory);
+        }
         self.verdicts.reserve(more)?;
+        self.places.reserve(more)?;
         self.ends.reserve(more)?;
         self.earlier.reserve(more)?;
         self.next.reserve(more)?;
@@ -93,7 +104,7 @@ impl Index {
     }
 
     /// The last kept entry of the series at a place.
-    fn entry_at<'a>(&self, entries: &'a [Entry], place: usize) -> Option<&'a Entry>
+    pub(crate) fn entry_at<'a>(&self, entries: &'a [Entry], place: usize) -> Option<&'a Entry>
         ensures { option_map (λ e. e.now) result ≡ spec.entry_at entries.now self.now.ends.items place }
     {
         match self.ends.get(place) {
@@ -210,6 +221,7 @@ impl Index {
         ensures earlier { self.new.earlier.items ≡ self.old.earlier.items ++ last ∷ [] }
         ensures last { (h : ℕ) → spec.number_of_hash self.new h ≡ (if nat_eq h hash then length self.old.ends.items + 1 else spec.number_of_hash self.old h) }
         ensures verdicts { self.new.verdicts ≡ self.old.verdicts }
+        ensures places { self.new.places ≡ self.old.places }
         ensures hasher { self.new.hasher ≡ self.old.hasher }
         ensures room { (n : ℕ) → spec.HasSeriesRoom (n + 1) self.old → spec.HasSeriesRoom n self.new }
     {
@@ -223,10 +235,12 @@ impl Index {
     /// Notes the end of an entry with its series; the answer is the place of that.
     fn enter(&mut self, end: usize, found: Found, verdict: Verdict) -> usize
         requires { spec.HasSeriesRoom 1 self.old }
+        ensures place { result ≡ spec.place_of self.old found }
         ensures ends { self.new.ends.items ≡ spec.ends_after self.old.ends.items end (verdict_words.is_kept verdict) found }
         ensures earlier { self.new.earlier.items ≡ spec.earlier_after self.old.earlier.items found }
         ensures last { (h : ℕ) → spec.number_of_hash self.new h ≡ spec.last_after self.old h found }
         ensures verdicts { self.new.verdicts ≡ self.old.verdicts }
+        ensures places { self.new.places ≡ self.old.places }
         ensures hasher { self.new.hasher ≡ self.old.hasher }
         ensures room { (n : ℕ) → spec.HasSeriesRoom (n + 1) self.old → spec.HasSeriesRoom n self.new }
     {
@@ -246,11 +260,13 @@ impl Index {
     /// Notes an entry with this end and verdict, where this was found of its series; `follows` says that it isn't a marker.
     pub(crate) fn note(&mut self, end: usize, found: Found, verdict: Verdict, follows: bool)
         requires room { spec.HasRoom 1 self.old }
+        requires known { spec.IsWithin found self.old }
         ensures noted { spec.IsNoted self.old self.new end found verdict }
         ensures room { (n : ℕ) → spec.HasRoom (n + 1) self.old → spec.HasRoom n self.new }
     {
         let place = self.enter(end, found, verdict);
         self.verdicts.push_reserved(verdict);
+        self.places.push_reserved(place as u32);
         if follows {
             self.follow(place);
         }
@@ -261,6 +277,23 @@ impl Index {
         ensures { result ≡ slice_get self.now.verdicts.items place }
     {
         self.verdicts.get(place).copied()
+    }
+
+    /// The place of the series of the entry at a place.
+    pub(crate) fn series_at(&self, place: usize) -> Option<usize>
+        ensures { result ≡ slice_get self.now.places.items place }
+    {
+        match self.places.get(place) {
+            None => None,
+            Some(series) => Some(*series as usize),
+        }
+    }
+
+    /// How many series there are.
+    pub(crate) fn series_count(&self) -> usize
+        ensures { result ≡ length self.now.ends.items }
+    {
+        self.ends.len()
     }
 }
 

@@ -100,32 +100,32 @@ fn a_book_with_a_seed_judges_alike(rt: HostRuntime) -> Result<(), Fail> {
     Ok(())
 }
 
-/// Series that come back in their order, with one left out, one more, and in another order; and whether each is new.
-const SERIES: [(&str, bool); 20] = [
-    ("a", true),
-    ("b", true),
-    ("c", true),
-    ("d", true),
-    ("a", false),
-    ("b", false),
-    ("c", false),
-    ("d", false),
-    ("a", false),
-    ("c", false),
-    ("d", false),
-    ("a", false),
-    ("b", false),
-    ("x", true),
-    ("c", false),
-    ("d", false),
-    ("d", false),
-    ("b", false),
-    ("a", false),
-    ("x", false),
+/// Series that come back in their order, with one left out, one more, and in another order; whether each is new, and its number.
+const SERIES: [(&str, bool, usize); 20] = [
+    ("a", true, 0),
+    ("b", true, 1),
+    ("c", true, 2),
+    ("d", true, 3),
+    ("a", false, 0),
+    ("b", false, 1),
+    ("c", false, 2),
+    ("d", false, 3),
+    ("a", false, 0),
+    ("c", false, 2),
+    ("d", false, 3),
+    ("a", false, 0),
+    ("b", false, 1),
+    ("x", true, 4),
+    ("c", false, 2),
+    ("d", false, 3),
+    ("d", false, 3),
+    ("b", false, 1),
+    ("a", false, 0),
+    ("x", false, 4),
 ];
 
 fn append_series(alloc: Global, book: &mut Book) -> Result<(), NoMemory> {
-    for &(name, _) in &SERIES {
+    for &(name, _, _) in &SERIES {
         book.reserve(1)?;
         book.append(sample(alloc, name, 1, 1)?);
     }
@@ -140,5 +140,18 @@ fn a_series_is_found_in_any_order(rt: HostRuntime) -> Result<(), Fail> {
         let verdict = if row.1 { Verdict::Kept } else { Verdict::Same };
         assert_eq!(rt; book.verdict(place), Some(verdict), "{place}");
     }
+    Ok(())
+}
+
+#[test]
+fn a_series_keeps_its_number(rt: HostRuntime) -> Result<(), Fail> {
+    let mut book = Book::new(rt.alloc())?;
+    append_series(rt.alloc(), &mut book)?;
+    for (place, row) in SERIES.iter().enumerate() {
+        assert_eq!(rt; book.series_at(place), Some(row.2));
+    }
+    assert!(rt; book.series_at(20).is_none() && book.series_count() == 5);
+    assert!(rt; book.entry_of(4).is_some() && book.entry_of(5).is_none());
+    assert_eq!(rt; book.longest_value(), 1);
     Ok(())
 }

@@ -1,7 +1,7 @@
-use Rattle.std.proofs.Common.{◌≡◌, suc, ◌-◌, ◌<◌, ◌≤◌, length, arith, subst, sym, refl, ap, ◌∙◌}
+use Rattle.std.proofs.Common.{◌≡◌, suc, ◌-◌, ◌<◌, ◌≤◌, length, arith, subst, sym, ◌∙◌}
 use Rattle.std.proofs.lemmas.Option.{slice_get_read}
-use Rattle.appender_book.specs.Index.{is_series, passes_at, sets_of}
-use Rattle.appender_book.proofs.WalkLemmas.{IsOnWay, way_begins, way_goes, way_ends, way_done, earlier_within}
+use Rattle.appender_book.specs.Index.{sets_of}
+use Rattle.appender_book.proofs.WalkLemmas.{IsOnWay, way_begins, way_goes, earlier_within}
 use Rattle.appender_book.proofs.index.Index.hashed.Goals as goal
 
 pub loop-number-init : goal.loop-number-init

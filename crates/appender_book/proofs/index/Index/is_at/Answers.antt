@@ -1,5 +1,4 @@
-use Rattle.std.proofs.Common.{sym, ap, ◌∙◌, Option}
-use Rattle.report_samples.specs.declared.entries.Entry.{Entry}
+use Rattle.std.proofs.Common.{sym, ap, ◌∙◌}
 use Rattle.appender_book.specs.Index.{is_of_set, is_series}
 use Rattle.appender_book.proofs.SeriesLemmas.{passes_as}
 use Rattle.appender_book.proofs.index.Index.is_at.Goals as goal

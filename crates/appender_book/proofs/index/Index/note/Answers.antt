@@ -1,4 +1,4 @@
-use Rattle.std.proofs.Common.{◌+◌, ◌≤◌, vec_len, vec_capacity, arith, ap}
+use Rattle.std.proofs.Common.{vec_len, vec_capacity, arith, ap}
 use Rattle.appender_book.proofs.index.Index.note.Goals as goal
 
 pub returns-then-follows-clause-room : goal.returns-then-follows-clause-room
@@ -10,9 +10,16 @@ returns-then-follows-clause-room c = λ n room. c.follow.ensures.room n (record 
       let len = c.push_reserved.ensures.len in
       let capacity = c.push_reserved.ensures.capacity in
       omega arith;
+  places =
+      let had = room.places in
+      let same = ap vec_len c.enter-place.ensures.places in
+      let kept = ap vec_capacity c.enter-place.ensures.places in
+      let len = c.push_reserved-2.ensures.len in
+      let capacity = c.push_reserved-2.ensures.capacity in
+      omega arith;
   series =
       let left = c.enter-place.ensures.room n room.series in
-      record { ends = left.ends; earlier = left.earlier; next = left.next; last = left.last };
+      record { ends = left.ends; earlier = left.earlier; next = left.next; few = left.few; last = left.last };
 })
 
 pub returns-else-follows-clause-room : goal.returns-else-follows-clause-room
@@ -24,7 +31,14 @@ returns-else-follows-clause-room c = λ n room. record {
       let len = c.push_reserved.ensures.len in
       let capacity = c.push_reserved.ensures.capacity in
       omega arith;
+  places =
+      let had = room.places in
+      let same = ap vec_len c.enter-place.ensures.places in
+      let kept = ap vec_capacity c.enter-place.ensures.places in
+      let len = c.push_reserved-2.ensures.len in
+      let capacity = c.push_reserved-2.ensures.capacity in
+      omega arith;
   series =
       let left = c.enter-place.ensures.room n room.series in
-      record { ends = left.ends; earlier = left.earlier; next = left.next; last = left.last };
+      record { ends = left.ends; earlier = left.earlier; next = left.next; few = left.few; last = left.last };
 }
