@@ -1,19 +1,17 @@
 -- The text of a book, line by line.
-use Rattle.std.proofs.Common.{◌≡◌, ℕ, Bool, true, false, ◌+◌, ◌<◌, ◌≤◌, List, [], ◌∷◌, ◌++◌, length, take, drop, reverse, get_or, subst, refl, sym, ap, ◌∙◌, arith, append_assoc, append-nil}
+use Rattle.std.proofs.Common.{◌≡◌, ℕ, Bool, true, false, ◌+◌, ◌<◌, ◌≤◌, List, [], ◌∷◌, ◌++◌, length, take, drop, reverse, subst, refl, sym, ap, ◌∙◌, append_assoc, append-nil}
 use Rattle.std.specs.Prelude.{Option, Some, None, slice_get}
-use Rattle.std.specs.List.{flat_map}
 use Rattle.std.specs.Option.{option_map, option_map_or}
-use Rattle.std.proofs.lemmas.List.{take_more, take-append-drop, take_all, reverse-append}
-use Rattle.std.proofs.lemmas.Option.{slice_get-get_or, slice_get_within, get_or_from_slice_get}
+use Rattle.std.proofs.lemmas.List.{take-append-drop, take_all, reverse-append}
 use Rattle.std.proofs.lemmas.Grind.{flat_map-append}
 use Rattle.report_samples.specs.declared.entries.Entry.{Entry}
 use Rattle.appender_book.specs.Verdicts.{verdict_at, verdict_behind}
 use Rattle.appender_book.specs.declared.verdicts.Verdict.{Verdict}
-use Rattle.outside.specs.Objects.{SinkSeen, Use, used, Took, Cut}
-use Rattle.book_text.specs.Texts.{entry_line, book_text, kept_text, kept_line, kept_behind, printed, mark_at, verdict_mark}
+use Rattle.outside.specs.Objects.{SinkSeen, used, Took, Cut}
+use Rattle.book_text.specs.Texts.{entry_line, book_text, kept_text, kept_line, kept_behind, line_at, printed, mark_at, verdict_mark}
 use Rattle.book_text.specs.Flows.{Flows, Stops}
-use Rattle.book_text.proofs.PlaceLemmas.{one_more}
-use Rattle.book_text.proofs.FlowLemmas.{flows_none, flows_more, flows_took, stops_after, stops_more, stops_cut}
+use Rattle.book_text.proofs.PlaceLemmas.{none_past, one_more}
+use Rattle.book_text.proofs.FlowLemmas.{flows_none, flows_more, flows_page, flows_took, stops_after, stops_more, stops_cut}
 
 turned : (xs : List Entry) (x : Entry) (earlier : List Entry) → reverse xs ++ x ∷ earlier ≡ reverse (x ∷ xs) ++ earlier
 turned xs x earlier = sym (ap (λ z. z ++ earlier) (reverse-append (x ∷ []) xs) ∙ append_assoc (reverse xs) (x ∷ []) earlier)
@@ -65,9 +63,12 @@ book_rest false xs n = sym (flat_map-append entry_line (take n xs) (drop n xs)) 
 book_rest true xs n = sym (kept_more [] (take n xs) (drop n xs)) ∙ ap kept_text (take-append-drop n xs)
 
 module _ (kept : Bool) (xs : List Entry) where
-  pub book_more : (i : ℕ) (e : Entry) (mark : List ℕ) → slice_get xs i ≡ Some e → mark ≡ mark_at kept xs i →
-      printed kept (take (i + 1) xs) ≡ printed kept (take i xs) ++ (mark ++ entry_line e)
-  book_more i e mark at is = line_more kept xs i e at ∙ ap (λ z. printed kept (take i xs) ++ (z ++ entry_line e)) (sym is)
+  book_more : (i : ℕ) (mark : List ℕ) → i < length xs → mark ≡ mark_at kept xs i → printed kept (take (i + 1) xs) ≡ printed kept (take i xs) ++ (mark ++ line_at xs i)
+  book_more i mark lt is = by (slice_get xs i) refl
+    where
+      by : (o : Option Entry) → slice_get xs i ≡ o → printed kept (take (i + 1) xs) ≡ printed kept (take i xs) ++ (mark ++ option_map_or entry_line o [])
+      by None at = absurd (none_past xs i at lt)
+      by (Some e) at = line_more kept xs i e at ∙ ap (λ z. printed kept (take i xs) ++ (z ++ entry_line e)) (sym is)
 
   -- nothing stands on the page, and nothing was put
   pub flows_start : (page : List ℕ) (s : SinkSeen) → page ≡ [] → Flows (printed kept []) [] page (used s s)
@@ -75,22 +76,14 @@ module _ (kept : Bool) (xs : List Entry) where
       subst (λ (z : List ℕ). Flows (printed kept []) [] z (used s s)) (sym blank)
       (subst (λ (z : List ℕ). Flows z [] [] (used s s)) (sym (printed_none kept)) (flows_none [] s))
 
-  -- a put that fails within the text of a book
-  pub cut_book : (i : ℕ) (e : Entry) (mark b : List ℕ) (s t u : SinkSeen) → slice_get xs i ≡ Some e → mark ≡ mark_at kept xs i →
-      Flows (printed kept (take i xs)) [] b (used s t) → Stops (mark ++ entry_line e) b (used t u) → Cut (printed kept xs) (used s u)
-  cut_book i e mark b s t u at is f g =
-      let one : Stops (printed kept (take i xs) ++ (mark ++ entry_line e)) [] (used s u) = stops_after (printed kept (take i xs)) (mark ++ entry_line e) [] b s t u f g in
+  -- a put that fails behind so many lines
+  pub cut_book : (i : ℕ) (b : List ℕ) (s t u : SinkSeen) → Flows (printed kept (take i xs)) [] b (used s t) → Stops [] b (used t u) → Cut (printed kept xs) (used s u)
+  cut_book i b s t u f g =
       let P : List ℕ → Type 0 = λ z. Stops z [] (used s u) in
+      let p : List ℕ = printed kept (take i xs) in
+      let one : Stops (p ++ []) [] (used s u) = stops_after p [] [] b s t u f g in
       stops_cut (printed kept xs) s u
-      (subst P (book_rest kept xs (i + 1)) (stops_more (printed kept (take (i + 1) xs)) (text_behind kept xs (i + 1)) [] s u (subst P (sym (book_more i e mark at is)) one)))
-
-  -- a put that fails behind the last line
-  pub cut_end : (n : ℕ) (b : List ℕ) (s t u : SinkSeen) → length xs ≤ n →
-      Flows (printed kept (take n xs)) [] b (used s t) → Stops [] b (used t u) → Cut (printed kept xs) (used s u)
-  cut_end n b s t u h f g =
-      let P : List ℕ → Type 0 = λ z. Stops z [] (used s u) in
-      let one : Stops (printed kept (take n xs) ++ []) [] (used s u) = stops_after (printed kept (take n xs)) [] [] b s t u f g in
-      stops_cut (printed kept xs) s u (subst P (append-nil (printed kept (take n xs)) ∙ ap (printed kept) (take_all n xs h)) one)
+      (subst P (ap (λ z. z ++ text_behind kept xs i) (append-nil p) ∙ book_rest kept xs i) (stops_more (p ++ []) (text_behind kept xs i) [] s u one))
 
   -- all was put behind the last line
   pub took_end : (n : ℕ) (b d : List ℕ) (s t u : SinkSeen) → length xs ≤ n →
@@ -100,9 +93,11 @@ module _ (kept : Bool) (xs : List Entry) where
       subst (λ (z : List ℕ). Took z (used s u)) (append-nil (printed kept (take n xs)) ∙ ap (printed kept) (take_all n xs h))
       (flows_took (printed kept (take n xs) ++ []) s u (flows_more (printed kept (take n xs)) [] [] b [] s t u f g))
 
-  -- one more entry
-  pub flows_entry : (i : ℕ) (e : Entry) (mark b c : List ℕ) (s t u : SinkSeen) → slice_get xs i ≡ Some e → mark ≡ mark_at kept xs i →
-      Flows (printed kept (take i xs)) [] b (used s t) → Flows (mark ++ entry_line e) b c (used t u) → Flows (printed kept (take (i + 1) xs)) [] c (used s u)
-  flows_entry i e mark b c s t u at is f g =
-      let P : List ℕ → Type 0 = λ z. Flows z [] c (used s u) in
-      subst P (sym (book_more i e mark at is)) (flows_more (printed kept (take i xs)) (mark ++ entry_line e) [] b c s t u f g)
+  -- one more line, behind a page that was put where it was full
+  pub flows_line : (i : ℕ) (mark b c d : List ℕ) (s t u : SinkSeen) → i < length xs → mark ≡ mark_at kept xs i →
+      Flows (printed kept (take i xs)) [] b (used s t) → Flows [] b c (used t u) → d ≡ c ++ (mark ++ line_at xs i) → Flows (printed kept (take (i + 1) xs)) [] d (used s u)
+  flows_line i mark b c d s t u lt is f g e =
+      let line : List ℕ = mark ++ line_at xs i in
+      let P : List ℕ → Type 0 = λ z. Flows z [] d (used s u) in
+      let on : Flows line b d (used t u) = flows_more [] line b c d t u u g (flows_page line c d u e) in
+      subst P (sym (book_more i mark lt is)) (flows_more (printed kept (take i xs)) line [] b d s t u f on)

@@ -1,5 +1,5 @@
 -- Text that goes on behind text.
-use Rattle.std.proofs.Common.{◌≡◌, ℕ, List, [], ◌++◌, subst, refl, sym, ap, ◌∙◌, arith, append_assoc, append-nil}
+use Rattle.std.proofs.Common.{◌≡◌, ℕ, List, [], ◌++◌, subst, refl, sym, ap, ◌∙◌, append_assoc, append-nil}
 use Rattle.std.specs.Prelude.{Option, Some, None, IfSome, Result, Ok, Err, OnOk, OnErr}
 use Rattle.outside.specs.Objects.{SinkSeen, Use, used, Adds, Took, Cut, Rose}
 use Rattle.book_text.specs.Flows.{Flows, Stops}

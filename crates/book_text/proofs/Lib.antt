@@ -3,3 +3,4 @@ pub mod FlowLemmas
 pub mod BookLemmas
 pub mod RoomLemmas
 pub mod SummaryLemmas
+pub mod KeptLemmas

@@ -1,6 +1,6 @@
 -- The line of an entry is no longer than the room for it.
-use Rattle.std.proofs.Common.{◌≡◌, ◌≤◌, ◌<◌, ◌+◌, ◌^◌, ◌*◌, ◌-◌, ℕ, ℤ, Bool, true, false, List, [], ◌∷◌, ◌++◌, length, drop, refl, sym, ap, subst, ◌∙◌, arith, codes, pos, negsuc, suc, w64, FitsSigned}
-use Rattle.std.specs.Prelude.{Option, Some, None, sum_by, filter, not, find, flat_map, if◌then◌else◌, ◌==◌, cond}
+use Rattle.std.proofs.Common.{◌≡◌, ◌≤◌, ◌<◌, ◌+◌, ◌^◌, ℕ, ℤ, Bool, true, false, List, [], ◌∷◌, ◌++◌, length, drop, refl, ap, ◌∙◌, arith, codes, pos, negsuc, suc, w64, FitsSigned}
+use Rattle.std.specs.Prelude.{Option, Some, None, sum_by, not, find, if◌then◌else◌, ◌==◌, cond}
 use Rattle.std.specs.Option.{option_map, option_map_or}
 use Rattle.std.specs.Fmt.{decimal, signed_decimal}
 use Rattle.std.specs.Str.{bytes_eq}
@@ -15,8 +15,9 @@ use Rattle.label_set.specs.declared.texts.Pair.{Pair}
 use Rattle.report_samples.specs.declared.entries.Entry.{Entry}
 use Rattle.report_samples.specs.declared.entries.Kind.{Kind}
 use Rattle.report_samples.specs.declared.entries.Kind.TheVariants.{Scraped, Stale, Report, ReportStale}
-use Rattle.book_text.specs.Rooms.{label_room, value_len}
-use Rattle.book_text.specs.Texts.{kind_word, value_after, entry_head, entry_tail, entry_line}
+use Rattle.appender_book.specs.Series.{value_len}
+use Rattle.book_text.specs.Rooms.{label_room}
+use Rattle.book_text.specs.Texts.{kind_word, value_after, head_text, entry_head, entry_tail, entry_line}
 
 -- an escape has two bytes at most
 escape_by : (b : ℕ) (x y z : Bool) → length (if x then codes "\\\\" else if y then codes "\\\"" else if z then codes "\\n" else b ∷ []) ≤ 2
@@ -96,7 +97,7 @@ set_by ps None e = omega (arith, others_len ps, braces_len (labels_after (other_
 set_by ps (Some name) e =
     omega (arith, named_len ps name e, text_by name (labels_after (other_labels ps)) (is_metric_name name))
 
-set_len : (ps : List Pair) → length (set_text ps) ≤ sum_by label_room ps + 4
+pub set_len : (ps : List Pair) → length (set_text ps) ≤ sum_by label_room ps + 4
 set_len ps = set_by ps (value_of ps metric_label) refl
 
 word_len : (k : Kind) → length (kind_word k) ≤ 12
@@ -116,19 +117,19 @@ signed_len (negsuc n) h = let fits = h.sfits in omega (arith, length_wide (suc n
 pub numbers_len : (moment : ℤ) (life : ℕ) → FitsSigned w64 moment → life < 2 ^ 64 → length (signed_decimal moment) + length (decimal life) ≤ 79
 numbers_len moment life m l = omega (arith, signed_len moment m, length_wide life (omega arith))
 
-head_len : (e : Entry) → length (entry_head e) ≤ length (signed_decimal e.moment) + length (decimal e.life) + 15
-head_len e =
-    let word : length (kind_word e.kind ++ codes " ") ≡ length (kind_word e.kind) + 1 = length-append (kind_word e.kind) (codes " ") in
-    let number : length (decimal e.life ++ (codes " " ++ (kind_word e.kind ++ codes " "))) ≡ length (decimal e.life) + length (codes " " ++ (kind_word e.kind ++ codes " ")) =
-    length-append (decimal e.life) (codes " " ++ (kind_word e.kind ++ codes " ")) in
-    let whole : length (entry_head e) ≡ length (signed_decimal e.moment) + length (codes " " ++ (decimal e.life ++ (codes " " ++ (kind_word e.kind ++ codes " ")))) =
-    length-append (signed_decimal e.moment) (codes " " ++ (decimal e.life ++ (codes " " ++ (kind_word e.kind ++ codes " ")))) in
-    omega (arith, word, number, whole, word_len e.kind)
+pub head_len : (moment : ℤ) (life : ℕ) (kind : Kind) → length (head_text moment life kind) ≤ length (signed_decimal moment) + length (decimal life) + 15
+head_len moment life kind =
+    let word : length (kind_word kind ++ codes " ") ≡ length (kind_word kind) + 1 = length-append (kind_word kind) (codes " ") in
+    let number : length (decimal life ++ (codes " " ++ (kind_word kind ++ codes " "))) ≡ length (decimal life) + length (codes " " ++ (kind_word kind ++ codes " ")) =
+    length-append (decimal life) (codes " " ++ (kind_word kind ++ codes " ")) in
+    let whole : length (head_text moment life kind) ≡ length (signed_decimal moment) + length (codes " " ++ (decimal life ++ (codes " " ++ (kind_word kind ++ codes " ")))) =
+    length-append (signed_decimal moment) (codes " " ++ (decimal life ++ (codes " " ++ (kind_word kind ++ codes " ")))) in
+    omega (arith, word, number, whole, word_len kind)
 
-pub line_len : (e : Entry) (numbers : ℕ) → length (signed_decimal e.moment) + length (decimal e.life) ≤ numbers →
-    length (entry_line e) ≤ sum_by label_room e.series + value_len e.value + (numbers + 21)
+pub line_len : (e : Entry) (longest value : ℕ) → length (set_text e.series) ≤ longest → value_len e.value ≤ value →
+    length (signed_decimal e.moment) + length (decimal e.life) ≤ 79 → length (entry_line e) ≤ longest + value + 100
 unfolding entry_line
-line_len e numbers few =
+line_len e longest value set short few =
     let tail : length (value_after e.value ++ codes "\n") ≡ length (value_after e.value) + 1 = length-append (value_after e.value) (codes "\n") in
     let whole : length (entry_tail e) ≡ length (set_text e.series) + length (value_after e.value ++ codes "\n") = length-append (set_text e.series) (value_after e.value ++ codes "\n") in
-    omega (arith, few, tail, whole, length-append (entry_head e) (entry_tail e), head_len e, set_len e.series, after_len e.value)
+    omega (arith, set, short, few, tail, whole, length-append (entry_head e) (entry_tail e), head_len e.moment e.life e.kind, after_len e.value)

@@ -1,16 +1,15 @@
 -- Counts and text of the entries that are taken, one more at a time.
-use Rattle.std.proofs.Common.{◌≡◌, ℕ, ◌+◌, ◌<◌, ◌≤◌, ◌^◌, Bool, true, false, List, [], ◌∷◌, ◌++◌, length, take, refl, sym, ap, ◌∙◌, arith, append-nil, append_assoc}
-use Rattle.std.specs.Prelude.{Some, slice_get, cond, count_by, sum_by}
-use Rattle.std.specs.List.{flat_map}
-use Rattle.std.proofs.lemmas.List.{take_more, length-take-le}
+use Rattle.std.proofs.Common.{◌≡◌, ℕ, ◌+◌, ◌<◌, ◌≤◌, ◌^◌, List, [], ◌∷◌, ◌++◌, length, take, refl, sym, ap, ◌∙◌, arith, append-nil, append_assoc}
+use Rattle.std.specs.Prelude.{Option, Some, slice_get, cond, sum_by}
+use Rattle.std.specs.Option.{option_map_or}
+use Rattle.std.proofs.lemmas.List.{length-take-le}
 use Rattle.std.proofs.lemmas.List.Sums.{sum_by-append, count_by-le-length}
-use Rattle.std.proofs.lemmas.Option.{slice_get_within, get_or_from_slice_get}
 use Rattle.std.proofs.lemmas.Grind.{flat_map-append}
 use Rattle.report_samples.specs.declared.entries.Kind.{Kind}
 use Rattle.report_samples.specs.declared.entries.Kind.TheVariants.{Scraped, Stale, Report, ReportStale}
 use Rattle.report_samples.specs.declared.entries.Entry.{Entry}
 use Rattle.book_text.specs.Summaries.{is_kind, count_in, count_of, kind_lines}
-use Rattle.book_text.specs.Texts.{entry_line, book_text}
+use Rattle.book_text.specs.Texts.{entry_line, line_at, book_text}
 use Rattle.book_text.proofs.PlaceLemmas.{one_more}
 
 pub count_more : (xs : List Entry) (i : ℕ) (e : Entry) (k : Kind) → slice_get xs i ≡ Some e → count_of k (take (i + 1) xs) ≡ count_of k (take i xs) + cond (is_kind k e.kind) 1 0
@@ -28,9 +27,10 @@ count_few xs i k within small =
     let taken = length-take-le i xs within in
     omega (arith, small, counted, taken)
 
-pub text_more : (xs : List Entry) (i : ℕ) (e : Entry) → slice_get xs i ≡ Some e → book_text (take (i + 1) xs) ≡ book_text (take i xs) ++ entry_line e
+pub text_more : (xs : List Entry) (i : ℕ) (e : Entry) → slice_get xs i ≡ Some e → book_text (take (i + 1) xs) ≡ book_text (take i xs) ++ line_at xs i
 text_more xs i e at =
-    ap book_text (one_more xs i e at) ∙ flat_map-append entry_line (take i xs) (e ∷ []) ∙ ap (λ z. book_text (take i xs) ++ z) (append-nil (entry_line e))
+    ap book_text (one_more xs i e at) ∙ flat_map-append entry_line (take i xs) (e ∷ [])
+    ∙ ap (λ z. book_text (take i xs) ++ z) (append-nil (entry_line e) ∙ sym (ap (λ (o : Option Entry). option_map_or entry_line o []) at))
 
 -- the lines of two counts that are one
 pub lines_same : (f g : Kind → ℕ) → ((k : Kind) → f k ≡ g k) → kind_lines f ≡ kind_lines g

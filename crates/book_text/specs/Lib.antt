@@ -2,3 +2,4 @@ pub mod Texts
 pub mod Flows
 pub mod Rooms
 pub mod Summaries
+pub mod Kept

@@ -1,11 +1,7 @@
 -- How much room the parts of a line take at most.
-use Rattle.std.specs.Prelude.{ℕ, ◌+◌, List, length, Option, Some, None}
+use Rattle.std.specs.Prelude.{ℕ, ◌+◌, length}
 use Rattle.label_set.specs.declared.texts.Pair.{Pair}
 
 -- a label with a comma, an equals sign and two quotes, where each byte of its value may have an escape
 abbrev pub label_room : Pair → ℕ
 label_room p = (length p.name + length p.value) + (length p.value + 4)
-
-abbrev pub value_len : Option (List ℕ) → ℕ
-value_len None = 0
-value_len (Some value) = length value

@@ -1,5 +1,5 @@
 -- The printed book: one line for each entry.
-use Rattle.std.specs.Prelude.{◌≡◌, ◌≤◌, Bool, true, false, List, [], ◌∷◌, ◌++◌, ℕ, length, flat_map, slice_get, codes, Option, Some, None}
+use Rattle.std.specs.Prelude.{Bool, true, false, List, [], ◌∷◌, ◌++◌, ℕ, ℤ, flat_map, slice_get, codes, Option, Some, None}
 use Rattle.std.specs.Fmt.{decimal, signed_decimal}
 use Rattle.std.specs.Option.{option_map_or}
 use Rattle.appender_book.specs.Verdicts.{verdict_at, verdict_behind}
@@ -23,8 +23,11 @@ value_after None = []
 value_after (Some value) = codes " " ++ value
 
 -- `<moment> <life> <word> `
+abbrev pub head_text : ℤ → ℕ → Kind → List ℕ
+head_text moment life kind = signed_decimal moment ++ (codes " " ++ (decimal life ++ (codes " " ++ (kind_word kind ++ codes " "))))
+
 abbrev pub entry_head : Entry → List ℕ
-entry_head e = signed_decimal e.moment ++ (codes " " ++ (decimal e.life ++ (codes " " ++ (kind_word e.kind ++ codes " "))))
+entry_head e = head_text e.moment e.life e.kind
 
 -- the set, the value and a line feed
 abbrev pub entry_tail : Entry → List ℕ
@@ -68,6 +71,6 @@ abbrev pub mark_at : Bool → List Entry → ℕ → List ℕ
 mark_at false entries place = []
 mark_at true entries place = option_map_or verdict_mark (verdict_at entries place) []
 
--- no line of these entries is longer than so many bytes
-abbrev pub AreWithin : ℕ → List Entry → Type 0
-AreWithin most entries = (k : ℕ) (e : Entry) → slice_get entries k ≡ Some e → length (entry_line e) ≤ most
+-- the line of the entry at a place
+abbrev pub line_at : List Entry → ℕ → List ℕ
+line_at entries place = option_map_or entry_line (slice_get entries place) []

@@ -1,105 +1,127 @@
 //! Lines of the printed book.
-ghost use Rattle.std.specs.Prelude.{◌≡◌, ◌++◌, ◌+◌, ◌<◌, ◌≤◌, length, vec_len, vec_capacity, OnOk, OnErr};
+ghost use Rattle.std.specs.Prelude.{◌≡◌, ◌++◌, ◌+◌, ◌<◌, ◌≤◌, ◌^◌, ℕ, Some, length, vec_len, vec_capacity, slice_get, IfOk, OnOk, OnErr};
+ghost use Rattle.appender_book.specs.Series.{series_of};
+ghost use Rattle.label_set.specs.SetText.{set_text};
+ghost use Rattle.report_samples.specs.declared.entries.Entry.{Entry as EntryView};
+ghost use Rattle.book_text.specs.Kept.{AreReady, IsTextOf};
 ghost use Rattle.book_text.specs.Texts as spec;
 
-use appender_book::Verdict;
-use itoa::Buffer;
-use label_set::NoMemory;
-use report_samples::{Entry, Kind};
-use value_text::ValueText;
+use crate::heads::Head;
+use crate::pieces::{push, push_value};
+use crate::rooms::numbers_room;
+use crate::texts::Texts;
+use appender_book::Book;
+use label_set::{LabelSet, NoMemory};
+use report_samples::Entry;
+use std::alloc::Global;
 
-/// Appends a piece; it fails only where there is no room for it.
-pub(crate) fn push(text: &mut Vec<u8>, piece: &[u8]) -> Result<(), NoMemory>
-    ensures written { OnOk result (text.new.items ≡ text.old.items ++ piece.now) }
-    ensures full { OnErr result (vec_capacity text.old < vec_len text.old + length piece.now) }
-    ensures capacity { vec_capacity text.old ≤ vec_capacity text.new }
-    ensures len { OnOk result (vec_len text.new ≡ vec_len text.old + length piece.now) }
-{
-    Ok(text.extend_from_slice(piece)?)
+/// What the lines of a book are written with: the texts of its series, and the head of the last line.
+#[derive(Drop)]
+pub(crate) struct Lines {
+    texts: Texts,
+    head: Head,
+    /// No line is longer.
+    most: usize,
 }
 
-/// The word of a kind.
-pub(crate) fn kind_word(kind: Kind) -> &'static str
-    ensures { result.now ≡ spec.kind_word kind }
+/// Appends the text of a series: that which is kept under its number, if one is.
+fn push_series(
+    text: &mut Vec<u8>,
+    texts: &Texts,
+    series: &LabelSet,
+    number: usize,
+) -> Result<(), NoMemory>
+    requires { IsTextOf texts.now number series.now }
+    ensures written { OnOk result (text.new.items ≡ text.old.items ++ set_text series.now) }
+    ensures full { OnErr result (vec_capacity text.old < vec_len text.old + length (set_text series.now)) }
+    ensures capacity { vec_capacity text.old ≤ vec_capacity text.new }
 {
-    match kind {
-        Kind::Scraped => "sample",
-        Kind::Stale => "stale",
-        Kind::Report => "report",
-        Kind::ReportStale => "report-stale",
+    match texts.kept(number) {
+        Some(kept) => push(text, kept),
+        None => series.append_text(text),
     }
 }
 
-/// The verdict and a blank, in front of a line.
-pub fn verdict_mark(verdict: Verdict) -> &'static str
-    ensures { result.now ≡ spec.verdict_mark verdict }
-{
-    match verdict {
-        Verdict::Kept => "kept ",
-        Verdict::OutOfOrder => "outoforder ",
-        Verdict::Duplicate => "duplicate ",
-        Verdict::Same => "same ",
-    }
-}
-
-fn push_head(text: &mut Vec<u8>, entry: &Entry) -> Result<(), NoMemory>
-    ensures written { OnOk result (text.new.items ≡ text.old.items ++ spec.entry_head entry.now) }
-    ensures full { OnErr result (vec_capacity text.old < vec_len text.old + length (spec.entry_head entry.now)) }
-    ensures capacity { vec_capacity text.old ≤ vec_capacity text.new }
-    ensures len { OnOk result (vec_len text.new ≡ vec_len text.old + length (spec.entry_head entry.now)) }
-{
-    let mut moment = Buffer::new();
-    let mut life = Buffer::new();
-    push(text, moment.format(entry.moment).as_bytes())?;
-    push(text, b" ")?;
-    push(text, life.format(entry.life).as_bytes())?;
-    push(text, b" ")?;
-    push(text, kind_word(entry.kind).as_bytes())?;
-    push(text, b" ")
-}
-
-fn push_value(text: &mut Vec<u8>, value: &Option<ValueText>) -> Result<(), NoMemory>
-    ensures written { OnOk result (text.new.items ≡ text.old.items ++ spec.value_after value.now) }
-    ensures full { OnErr result (vec_capacity text.old < vec_len text.old + length (spec.value_after value.now)) }
-    ensures capacity { vec_capacity text.old ≤ vec_capacity text.new }
-    ensures len { OnOk result (vec_len text.new ≡ vec_len text.old + length (spec.value_after value.now)) }
-{
-    match value {
-        None => Ok(()),
-        Some(value) => {
-            push(text, b" ")?;
-            push(text, value.bytes())
-        }
-    }
-}
-
-fn push_tail(text: &mut Vec<u8>, entry: &Entry) -> Result<(), NoMemory>
-    ensures written { OnOk result (text.new.items ≡ text.old.items ++ spec.entry_tail entry.now) }
-    ensures full { OnErr result (vec_capacity text.old < vec_len text.old + length (spec.entry_tail entry.now)) }
-    ensures capacity { vec_capacity text.old ≤ vec_capacity text.new }
-{
-    entry.series.append_text(text)?;
-    push_value(text, &entry.value)?;
-    push(text, b"\n")
-}
-
-/// Appends the line of an entry; it fails only where there is no room for it.
+/// Appends the line of an entry with this head, whose series has this number; it fails only where there is no room for it.
 #[tactic(auto, unfolding(crate::specs::Texts::entry_line))]
-pub fn push_line(text: &mut Vec<u8>, entry: &Entry) -> Result<(), NoMemory>
+fn push_entry(
+    text: &mut Vec<u8>,
+    head: &[u8],
+    texts: &Texts,
+    entry: &Entry,
+    number: usize,
+) -> Result<(), NoMemory>
+    requires head { head.now ≡ spec.entry_head entry.now }
+    requires series { IsTextOf texts.now number entry.now.series }
     ensures written { OnOk result (text.new.items ≡ text.old.items ++ spec.entry_line entry.now) }
     ensures full { OnErr result (vec_capacity text.old < vec_len text.old + length (spec.entry_line entry.now)) }
     ensures capacity { vec_capacity text.old ≤ vec_capacity text.new }
 {
-    push_head(text, entry)?;
-    push_tail(text, entry)
+    push(text, head)?;
+    push_series(text, texts, &entry.series, number)?;
+    push_value(text, &entry.value)?;
+    push(text, b"\n")
 }
 
-/// Appends the line of an entry behind a mark; it fails only where there is no room for both.
-pub fn push_marked(text: &mut Vec<u8>, mark: &str, entry: &Entry) -> Result<(), NoMemory>
-    ensures written { OnOk result (text.new.items ≡ text.old.items ++ (mark.now ++ spec.entry_line entry.now)) }
-    ensures full { OnErr result (vec_capacity text.old < vec_len text.old + (length mark.now + length (spec.entry_line entry.now))) }
-    ensures capacity { vec_capacity text.old ≤ vec_capacity text.new }
+/// The number of the series of the entry at a place.
+fn number_at(book: &Book, place: usize) -> usize
+    ensures { (e : EntryView) → slice_get book.now.entries place ≡ Some e → slice_get (series_of book.now.entries) result ≡ Some e.series }
 {
-    push(text, mark.as_bytes())?;
-    push_line(text, entry)
+    match book.series_at(place) {
+        Some(number) => number,
+        None => 0,
+    }
+}
+
+impl Lines {
+    /// What the lines of a book are written with.
+    pub(crate) fn of(alloc: Global, book: &Book) -> Result<Lines, NoMemory>
+        ensures ready { IfOk result (λ l. AreReady book.now.entries l) }
+        ensures small { IfOk result (λ l. l.most < 2 ^ 63) }
+    {
+        let texts = Texts::of(alloc, book)?;
+        let longest = texts.longest();
+        let value = book.longest_value();
+        if longest >= 1 << 62 || value >= 1 << 61 {
+            return Err(NoMemory);
+        }
+        Ok(Lines {
+            texts,
+            head: Head::new(alloc)?,
+            most: longest + value + 100,
+        })
+    }
+
+    /// No line is longer than so many bytes.
+    pub(crate) fn most(&self) -> usize
+        ensures { result ≡ self.now.most }
+    {
+        self.most
+    }
+
+    /// Appends the line of the entry of the book at a place; it fails only where there is no room for it.
+    pub(crate) fn push(
+        &mut self,
+        text: &mut Vec<u8>,
+        book: &Book,
+        place: usize,
+    ) -> Result<(), NoMemory>
+        requires { AreReady book.now.entries self.old }
+        ensures ready { AreReady book.now.entries self.new }
+        ensures most { self.new.most ≡ self.old.most }
+        ensures written { OnOk result (text.new.items ≡ text.old.items ++ spec.line_at book.now.entries place) }
+        ensures full { OnErr result (vec_capacity text.old < vec_len text.old + length (spec.line_at book.now.entries place)) }
+        ensures capacity { vec_capacity text.old ≤ vec_capacity text.new }
+        ensures within { length (spec.line_at book.now.entries place) ≤ self.old.most }
+    {
+        match book.entry(place) {
+            None => Ok(()),
+            Some(entry) => {
+                let _room = numbers_room(entry.moment, entry.life);
+                let number = number_at(book, place);
+                self.head.renew(entry);
+                push_entry(text, self.head.bytes(), &self.texts, entry, number)
+            }
+        }
+    }
 }

@@ -2,14 +2,14 @@
 ghost use Rattle.std.specs.Prelude.{◌≡◌, ◌++◌, ◌+◌, ◌≤◌, ◌<◌, ◌^◌, [], ℕ, length, vec_len, vec_capacity, slice_get, IfOk, IfSome, OnOk, OnErr, IsErrOf};
 ghost use Rattle.outside.specs.Objects.{used, Took, Cut, IsUntouched};
 ghost use Rattle.book_text.specs.Flows.{Flows, Stops};
+ghost use Rattle.book_text.specs.Kept.{AreReady};
 ghost use Rattle.book_text.specs.Texts as spec;
 
-use crate::lines::{push_marked, verdict_mark};
-use crate::rooms::line_room;
+use crate::lines::Lines;
+use crate::pieces::{push, verdict_mark};
 use appender_book::Book;
 use label_set::NoMemory;
 use outside::{Sink, SinkFault};
-use report_samples::Entry;
 use std::alloc::Global;
 use std::marker::Model;
 
@@ -37,20 +37,6 @@ impl From<NoMemory> for PrintError {
     fn from(_: NoMemory) -> PrintError {
         PrintError::NoMemory
     }
-}
-
-/// Room for any line of a book, told without writing one.
-fn longest(book: &Book) -> Result<usize, NoMemory>
-    ensures within { IfOk result (λ most. spec.AreWithin most book.now.entries) }
-    ensures small { IfOk result (λ most. most < 2 ^ 63) }
-{
-    let mut most: usize = 0;
-    for place in 0..book.len() {
-        if let Some(entry) = book.entry(place) {
-            most = most.max(line_room(entry)?);
-        }
-    }
-    Ok(most)
 }
 
 /// Puts the page and clears it.
@@ -93,61 +79,45 @@ fn mark_at(kept: bool, book: &Book, place: usize) -> &'static str
     }
 }
 
-/// Writes a line behind its mark on a page that has room for both.
-fn write_line(page: &mut Vec<u8>, mark: &str, entry: &Entry)
-    requires { vec_len page.old + (length mark.now + length (spec.entry_line entry.now)) ≤ vec_capacity page.old }
-    ensures written { page.new.items ≡ page.old.items ++ (mark.now ++ spec.entry_line entry.now) }
+/// Writes the line of the entry at a place behind its mark, on a page that has room for both.
+fn write_line(page: &mut Vec<u8>, lines: &mut Lines, mark: &str, book: &Book, place: usize)
+    requires ready { AreReady book.now.entries lines.old }
+    requires short { length mark.now ≤ MARK }
+    requires room { vec_len page.old + (MARK + lines.old.most) ≤ vec_capacity page.old }
+    ensures written { page.new.items ≡ page.old.items ++ (mark.now ++ spec.line_at book.now.entries place) }
     ensures capacity { vec_capacity page.old ≤ vec_capacity page.new }
+    ensures ready { AreReady book.now.entries lines.new }
+    ensures most { lines.new.most ≡ lines.old.most }
 {
-    match push_marked(page, mark, entry) {
+    match push(page, mark.as_bytes()) {
+        Ok(()) => {}
+        Err(_) => unreachable!(),
+    }
+    match lines.push(page, book, place) {
         Ok(()) => {}
         Err(_) => unreachable!(),
     }
 }
 
-/// Prints the line of an entry behind its mark: it goes on the page, which is put before where it is full.
-fn print_line<O: Sink>(
-    page: &mut Vec<u8>,
-    mark: &str,
-    entry: &Entry,
-    out: &mut O,
-) -> Result<(), SinkFault>
-    requires { PAGE + (length mark.now + length (spec.entry_line entry.now)) ≤ vec_capacity page.old }
-    ensures flows { OnOk result (Flows (mark.now ++ spec.entry_line entry.now) page.old.items page.new.items (used (O.seen out.old) (O.seen out.new))) }
-    ensures stops { OnErr result (Stops (mark.now ++ spec.entry_line entry.now) page.old.items (used (O.seen out.old) (O.seen out.new))) }
-    ensures capacity { vec_capacity page.old ≤ vec_capacity page.new }
-{
-    match make_room(page, out) {
-        Ok(()) => {
-            write_line(page, mark, entry);
-            Ok(())
-        }
-        Err(fault) => Err(fault),
-    }
-}
-
-/// Prints the lines of a book, of which none is longer than `most` without its mark.
+/// Prints the lines of a book.
 fn print_pages<O: Sink>(
     page: &mut Vec<u8>,
-    most: usize,
+    lines: &mut Lines,
     kept: bool,
     book: &Book,
     out: &mut O,
 ) -> Result<(), SinkFault>
     requires blank { page.old.items ≡ [] }
-    requires within { spec.AreWithin most book.now.entries }
-    requires room { PAGE + (MARK + most) ≤ vec_capacity page.old }
+    requires ready { AreReady book.now.entries lines.old }
+    requires room { PAGE + (MARK + lines.old.most) ≤ vec_capacity page.old }
     ensures whole { OnOk result (Took (spec.printed kept book.now.entries) (used (O.seen out.old) (O.seen out.new))) }
     ensures cut { OnErr result (Cut (spec.printed kept book.now.entries) (used (O.seen out.old) (O.seen out.new))) }
 {
-    let _most = most;
     for place in 0..book.len() {
-        if let Some(entry) = book.entry(place) {
-            let mark = mark_at(kept, book, place);
-            match print_line(page, mark, entry, out) {
-                Ok(()) => {}
-                Err(fault) => return Err(fault),
-            }
+        let mark = mark_at(kept, book, place);
+        match make_room(page, out) {
+            Ok(()) => write_line(page, lines, mark, book, place),
+            Err(fault) => return Err(fault),
         }
     }
     put_page(page, out)
@@ -157,7 +127,7 @@ fn print_pages<O: Sink>(
 #[derive(Drop)]
 pub struct Printer<'b> {
     page: Vec<u8>,
-    most: usize,
+    lines: Lines,
     book: &'b Book,
 }
 
@@ -168,11 +138,22 @@ impl<'b> Model for Printer<'b> {
     ghost Value = { List EntryView };
 
     ghost use Rattle.std.specs.Prelude.{◌≡◌, ◌≤◌, ◌+◌, [], vec_capacity};
-    ghost use Rattle.book_text.specs.Texts.{AreWithin};
+    ghost use Rattle.book_text.specs.Kept.{AreReady};
 
     ghost view = { λ p. p.book.now.entries };
 
-    ghost invariant = { λ p. (p.page.items ≡ []) × AreWithin p.most p.book.now.entries × (65536 + (11 + p.most) ≤ vec_capacity p.page) };
+    ghost invariant = { λ p. (p.page.items ≡ []) × AreReady p.book.now.entries p.lines × (65536 + (11 + p.lines.most) ≤ vec_capacity p.page) };
+}
+
+/// A page with room for lines of so many bytes.
+fn page_for(alloc: Global, most: usize) -> Result<Vec<u8>, NoMemory>
+    requires { most < 2 ^ 63 }
+    ensures blank { IfOk result (λ page. page.items ≡ []) }
+    ensures room { IfOk result (λ page. PAGE + (MARK + most) ≤ vec_capacity page) }
+{
+    let mut page = Vec::new(alloc);
+    page.reserve(PAGE + (MARK + most)).map_err(NoMemory::from)?;
+    Ok(page)
 }
 
 impl<'b> Printer<'b> {
@@ -180,10 +161,9 @@ impl<'b> Printer<'b> {
     pub fn open(alloc: Global, book: &'b Book) -> Result<Printer<'b>, NoMemory>
         ensures { IfOk result (λ p. p ≡ book.now.entries) }
     {
-        let most = longest(book)?;
-        let mut page = Vec::new(alloc);
-        page.reserve(PAGE + (MARK + most)).map_err(NoMemory::from)?;
-        Ok(Printer { page, most, book })
+        let lines = Lines::of(alloc, book)?;
+        let page = page_for(alloc, lines.most())?;
+        Ok(Printer { page, lines, book })
     }
 
     /// Prints the book, each line with its verdict in front where that is wanted. No memory.
@@ -192,7 +172,8 @@ impl<'b> Printer<'b> {
         ensures cut { OnErr result (Cut (spec.printed kept self.entry) (used (O.seen out.old) (O.seen out.new))) }
     {
         let mut page = self.page;
-        print_pages(&mut page, self.most, kept, self.book, out)
+        let mut lines = self.lines;
+        print_pages(&mut page, &mut lines, kept, self.book, out)
     }
 }
 

@@ -2,15 +2,17 @@
 ghost use Rattle.std.specs.Prelude.{◌≡◌, ◌<◌, ◌≤◌, ◌+◌, ◌^◌, ◌++◌, [], ℕ, List, IfOk, OnOk, cond};
 ghost use Rattle.md5.specs.Md5.{md5, Holds};
 ghost use Rattle.report_samples.specs.declared.entries.Kind.{Kind};
+ghost use Rattle.book_text.specs.Kept.{AreReady};
 ghost use Rattle.book_text.specs.Summaries as spec;
-ghost use Rattle.book_text.specs.Texts.{book_text, entry_line, kind_word};
+ghost use Rattle.book_text.specs.Texts.{book_text, line_at, kind_word};
 
-use crate::lines::{kind_word, push, push_line};
+use crate::lines::Lines;
+use crate::pieces::{kind_word, push};
 use appender_book::Book;
 use itoa::Buffer;
 use label_set::NoMemory;
 use md5::{Digest, Md5};
-use report_samples::{Entry, Kind};
+use report_samples::Kind;
 use std::alloc::Global;
 
 /// How many entries there are of each kind.
@@ -54,12 +56,20 @@ struct Summary {
     digest: [u8; 16],
 }
 
-/// Adds the line of an entry to what is digested.
-fn digest_line(hasher: &mut Md5, line: &mut Vec<u8>, entry: &Entry) -> Result<(), NoMemory>
-    ensures { OnOk result ((m : List ℕ) → Holds hasher.old m → Holds hasher.new (m ++ entry_line entry.now)) }
+/// Adds the line of the entry at a place to what is digested.
+fn digest_line(
+    hasher: &mut Md5,
+    line: &mut Vec<u8>,
+    lines: &mut Lines,
+    book: &Book,
+    place: usize,
+) -> Result<(), NoMemory>
+    requires { AreReady book.now.entries lines.old }
+    ensures ready { AreReady book.now.entries lines.new }
+    ensures digest { OnOk result ((m : List ℕ) → Holds hasher.old m → Holds hasher.new (m ++ line_at book.now.entries place)) }
 {
     line.clear();
-    push_line(line, entry)?;
+    lines.push(line, book, place)?;
     hasher.update(line.as_slice());
     Ok(())
 }
@@ -69,6 +79,7 @@ fn summed(alloc: Global, book: &Book) -> Result<Summary, NoMemory>
     ensures counts { IfOk result (λ s. (k : Kind) → spec.count_in s.counts k ≡ spec.count_of k book.now.entries) }
     ensures digest { IfOk result (λ s. s.digest ≡ md5 (book_text book.now.entries)) }
 {
+    let mut lines = Lines::of(alloc, book)?;
     let mut line = Vec::new(alloc);
     let mut hasher = Md5::new();
     let mut counts = Counts {
@@ -80,7 +91,7 @@ fn summed(alloc: Global, book: &Book) -> Result<Summary, NoMemory>
     for place in 0..book.len() {
         if let Some(entry) = book.entry(place) {
             counts = count(counts, entry.kind);
-            digest_line(&mut hasher, &mut line, entry)?;
+            digest_line(&mut hasher, &mut line, &mut lines, book, place)?;
         }
     }
     Ok(Summary {

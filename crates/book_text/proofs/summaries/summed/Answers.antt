@@ -9,7 +9,7 @@ use Rattle.book_text.proofs.summaries.summed.Goals.{in-Some+in_ok-digest_line, i
 use Rattle.book_text.proofs.summaries.summed.Goals as goal
 
 pub loop-place-init : goal.loop-place-init
-loop-place-init c = record { counts = count_none; digest = c.new-hasher.ensures }
+loop-place-init c = record { counts = count_none; ready = c.in_ok-lines.ensures.ready; digest = c.new-hasher.ensures }
 
 pub count-counts-requires : goal.count-counts-requires
 count-counts-requires c =
@@ -27,7 +27,8 @@ loop-place-preserved c =
           record {
             counts = λ k. rw w.counts-is
                 (w.count-counts.ensures k ∙ ap (λ n. n + cond (is_kind k e.kind) 1 0) (c.loop-place.invariant.counts k) ∙ sym (count_more entries place e k at));
-            digest = rw (w.hasher-is, text_more entries place e at) (w.in_ok-digest_line.ensures (book_text (take place entries)) c.loop-place.invariant.digest);
+            ready = rw w.lines-is w.in_ok-digest_line.ensures.ready;
+            digest = rw (w.hasher-is, text_more entries place e at) (w.in_ok-digest_line.ensures.digest (book_text (take place entries)) c.loop-place.invariant.digest);
           }
       | in_default w ↦ absurd (none_past entries place (sym c.entry.ensures ∙ ap option_copied w.in_default.is) (omega arith))
     ]
