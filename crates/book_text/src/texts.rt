@@ -28,8 +28,19 @@ pub(crate) struct Span {
 pub(crate) struct Texts {
     bytes: Vec<u8>,
     spans: Vec<Span>,
+    /// So many series may have theirs kept.
+    limit: usize,
     /// No text of a series is longer, kept or not.
     longest: usize,
+}
+
+/// How many series of a book have their texts kept: none where most come only once, since nothing would be copied.
+fn limit_of(book: &Book) -> usize {
+    let series = book.series_count();
+    if series > book.len() - book.len() / 8 {
+        return 0;
+    }
+    series.min(TEXTS)
 }
 
 /// Makes room for so many more bytes, and for as many again as there are, within what may be kept.
@@ -67,8 +78,9 @@ impl Texts {
         ensures { OnOk result ((series : List (List Pair)) → spec.AreTexts number series self.old → slice_get series number ≡ Some set.now → spec.AreTexts (number + 1) series self.new) }
     {
         let room = text_room(set)?;
+        let limit = self.limit;
         self.longest = self.longest.max(room);
-        if number < TEXTS && self.spans.len() == number {
+        if number < limit && self.spans.len() == number {
             let span = push_text(&mut self.bytes, set, room)?;
             self.spans.push(span)?;
         }
@@ -90,12 +102,14 @@ impl Texts {
     pub(crate) fn of(alloc: Global, book: &Book) -> Result<Texts, NoMemory>
         ensures { IfOk result (λ t. spec.AreTexts (length (series_of book.now.entries)) (series_of book.now.entries) t) }
     {
+        let limit = limit_of(book);
         let mut texts = Texts {
             bytes: Vec::new(alloc),
             spans: Vec::new(alloc),
+            limit,
             longest: 0,
         };
-        texts.spans.reserve_exact(book.series_count().min(TEXTS))?;
+        texts.spans.reserve_exact(limit)?;
         for number in 0..book.series_count() {
             texts.keep_of(book, number)?;
         }
