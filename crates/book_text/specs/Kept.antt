@@ -11,9 +11,6 @@ use Rattle.book_text.specs.declared.texts.Texts.{Texts}
 use Rattle.book_text.specs.declared.heads.Head.{Head}
 use Rattle.book_text.specs.declared.lines.Lines.{Lines}
 
-abbrev pub SpanOf : Type 0
-SpanOf = Span
-
 -- what stands between bounds that have their order is the text of a set
 abbrev pub IsKept : List ℕ → List Pair → Span → Type 0
 IsKept bytes set span = span.start ≤ span.end → (span.end ≤ length bytes) × (slice_range bytes span.start span.end ≡ set_text set)

@@ -4,6 +4,7 @@ ghost use Rattle.appender_book.specs.Series.{series_of};
 ghost use Rattle.label_set.specs.SetText.{set_text};
 ghost use Rattle.label_set.specs.declared.texts.Pair.{Pair};
 ghost use Rattle.book_text.specs.Kept as spec;
+ghost use Rattle.book_text.specs.declared.texts.Span.{Span as SpanView};
 
 use crate::rooms::text_room;
 use appender_book::Book;
@@ -58,7 +59,7 @@ fn make_room(bytes: &mut Vec<u8>, room: usize) -> Result<(), NoMemory>
 fn push_text(bytes: &mut Vec<u8>, set: &LabelSet, room: usize) -> Result<Span, NoMemory>
     requires { length (set_text set.now) ≤ room }
     ensures kept { IfOk result (λ span. spec.IsKept bytes.new.items set.now span) }
-    ensures others { IfOk result (λ _. (other : List Pair) (s : spec.SpanOf) → spec.IsKept bytes.old.items other s → spec.IsKept bytes.new.items other s) }
+    ensures others { IfOk result (λ _. (other : List Pair) (s : SpanView) → spec.IsKept bytes.old.items other s → spec.IsKept bytes.new.items other s) }
 {
     let start = bytes.len();
     if room > BYTES.saturating_sub(start) {
