@@ -9,8 +9,8 @@ use Rattle.label_set.specs.declared.texts.Pair.{Pair}
 use Rattle.expo_reader.specs.declared.faults.Fault.{Fault}
 use Rattle.expo_reader.specs.declared.faults.Fault.TheVariants.{Faulty, NoMemory}
 use Rattle.expo_reader.specs.Faults.{FaultIs}
-use Rattle.expo_reader.specs.Texts.{word_in, mark_in, text_in}
-use Rattle.expo_reader.specs.Forms.{label_in, label_of, labels_in, named_label, valued_label, closed_or, label_and_more, after_label, with_first, names_differ_from, label_names}
+use Rattle.expo_reader.specs.Texts.{word_in, mark_in, text_in, text_value}
+use Rattle.expo_reader.specs.Forms.{is_exposed_name, label_in, label_of, labels_in, named_label, valued_label, closed_or, label_and_more, after_label, with_first, names_differ_from, label_names}
 
 -- a label by its parts
 pub label-no_word : (bs : List ℕ) → word_in bs ≡ None → label_in bs ≡ None
@@ -23,7 +23,7 @@ module _ (bs name rest : List ℕ) (word : word_in bs ≡ Some (name, rest)) whe
   label-no_mark e = ap named_label word ∙ rw e refl
 
   module _ (quoted : List ℕ) (mark : mark_in 61 rest ≡ Some quoted) where
-    by_text : label_in bs ≡ valued_label name (text_in quoted)
+    pub by_text : label_in bs ≡ valued_label name (text_in quoted)
     unfolding label_in
     by_text = ap named_label word ∙ rw mark refl
 
@@ -37,6 +37,22 @@ module _ (bs name rest : List ℕ) (word : word_in bs ≡ Some (name, rest)) whe
       pub label-fault : (f : Fault) → FaultIs f (label_of name text) → FaultIs f (label_in bs)
       label-fault Faulty e = by_text ∙ ap (valued_label name) is_text ∙ ap (option_map (λ (label : Pair). (label, after))) e
       label-fault NoMemory e = tt
+
+      pub label-valued : (label : Pair) → label_of name text ≡ Some label → valued_label name (text_in quoted) ≡ Some (label, after)
+      label-valued label e = ap (valued_label name) is_text ∙ ap (option_map (λ (label : Pair). (label, after))) e
+
+      pub valued-fault : (f : Fault) → FaultIs f (label_of name text) → FaultIs f (valued_label name (text_in quoted))
+      valued-fault Faulty e = ap (valued_label name) is_text ∙ ap (option_map (λ (label : Pair). (label, after))) e
+      valued-fault NoMemory e = tt
+
+    pub valued-label : (f : Fault) → FaultIs f (valued_label name (text_in quoted)) → FaultIs f (label_in bs)
+    valued-label Faulty e = by_text ∙ e
+    valued-label NoMemory e = tt
+
+pub label-made : (name text n v : List ℕ) → is_exposed_name name ≡ true → text_value text ≡ Some text → n ≡ name → v ≡ text → label_of name text ≡ Some (record { name = n; value = v })
+label-made name text n v exposed value n_is v_is =
+    let made : List ℕ → List ℕ → Pair = λ a b. record { name = a; value = b } in
+    rw exposed (ap (option_map {U = Pair} (made name)) value ∙ ap (λ a. Some (made a text)) (sym n_is) ∙ ap (λ b. Some (made n b)) (sym v_is))
 
 -- labels in front of those that are found
 abbrev pub put : List Pair → Option (List Pair × List ℕ) → Option (List Pair × List ℕ)
@@ -160,3 +176,9 @@ module _ (b : Bool) (v x : List ℕ) (seen : List (List ℕ)) (same : v ≡ x) (
   seen-keys keys k e =
       let first : list_any (bytes_eq v) seen ≡ false = not-true (list_any (bytes_eq v) seen) (sym added ∙ e) in
       k ∙ rw first (ap (λ n. seen ++ n ∷ []) same)
+
+-- labels that were added so far, and what the rest gives
+pub record HasAdded (old new : List Pair) (bs : List ℕ) (total : Option (List Pair × List ℕ)) : Type 0 where
+  pub more : List Pair
+  pub items : new ≡ old ++ more
+  pub reaches : Reaches more bs total

@@ -1,5 +1,5 @@
 -- What is read is written in the format: the parts of a line that are found make it up.
-use Rattle.std.proofs.Common.{◌≡◌, ◌≢◌, ℕ, ℤ, suc, zero, ◌+◌, ◌-◌, ◌<◌, Bool, true, false, not, ◌&&◌, List, [], ◌∷◌, ◌++◌, length, take, drop, refl, sym, ap, ap₂, ◌∙◌, arith, ◌==◌, Option, Some, None, subst, slice_index, ⊎_elim, inl, inr, append_assoc, append-nil, length-append, option_map, option_and_then, if◌then◌else◌, true≢false, nat_lt}
+use Rattle.std.proofs.Common.{◌≡◌, ◌≢◌, ℕ, ℤ, suc, zero, ◌+◌, ◌-◌, ◌<◌, Bool, true, false, not, ◌&&◌, List, [], ◌∷◌, ◌++◌, length, take, drop, refl, sym, ap, ap₂, ◌∙◌, arith, ◌==◌, Option, Some, None, subst, slice_index, ⊎_elim, inl, inr, append_assoc, append-nil, length-append, option_map, option_and_then, true≢false, nat_lt}
 use Rattle.std.specs.List.{list_all}
 use Rattle.std.proofs.Math.Seq.{take-append_seam}
 use Rattle.std.proofs.lemmas.List.{take-append-drop, nil_from_length}
@@ -14,7 +14,7 @@ use Rattle.expo_lexer.specs.Tokens.{is_blank, is_word_byte, blank_len, word_len,
 use Rattle.expo_reader.specs.declared.rows.BodyRow.{BodyRow}
 use Rattle.expo_reader.specs.Bodies.{is_skipped}
 use Rattle.expo_reader.specs.Texts.{bare, is_end, word_at, mark_at, text_at, word_in, mark_in, text_in, text_value}
-use Rattle.expo_reader.specs.Forms.{label_in, named_label, valued_label, labels_in, label_of, is_exposed_name, names_differ, stamp_in, value_in, valued, last_word, sample_in, named_row, after_name, row_of, labelled_row, differing_row, closed_or, label_and_more, after_label, with_first}
+use Rattle.expo_reader.specs.Forms.{label_in, named_label, valued_label, labels_in, label_of, is_exposed_name, names_differ, stamp_in, value_in, valued, last_word, sample_in, named_row, after_name, row_of, labelled_row, differing_row, closed_or, label_and_more, after_label}
 use Rattle.expo_reader.specs.Grammar.{IsBlanks, IsLabel, IsLabels, IsLineEnd, IsMiddle, IsSample, IsSkipped}
 use Rattle.expo_reader.proofs.FrontLemmas.{both, Stops, passes, stops-drop}
 use Rattle.expo_reader.proofs.QuoteLemmas.{is_text, text-sound as text-pieces}
@@ -26,10 +26,10 @@ use Rattle.value_text.proofs.GrammarLemmas.{value-sound as value-written}
 abbrev pub blanks : List ℕ → List ℕ
 blanks bs = take (blank_len bs) bs
 
-apart : (bs : List ℕ) → bs ≡ blanks bs ++ bare bs
+pub apart : (bs : List ℕ) → bs ≡ blanks bs ++ bare bs
 apart bs = sym (take-append-drop (blank_len bs) bs)
 
-blanks-are : (bs : List ℕ) → IsBlanks (blanks bs)
+pub blanks-are : (bs : List ℕ) → IsBlanks (blanks bs)
 blanks-are bs = passes is_blank bs
 
 -- a word
@@ -159,7 +159,7 @@ label-blanks one b label l e =
     (l.0, l.1, l.2, l.3, l.4 ++ b, l.5, l.6, l.7, list_all-append is_blank l.4 b ∙ and_from _ _ l.8 e, l.9, l.10, l.11, ap (λ s. s ++ b) l.12 ∙ simp append_assoc)
 
 -- labels and the brace behind them
-HasLabels : List ℕ → List Pair → List ℕ → Type 0
+unfoldable pub HasLabels : List ℕ → List Pair → List ℕ → Type 0
 HasLabels bs labels r = (inside : List ℕ) × IsLabels inside labels × (bs ≡ inside ++ 125 ∷ r)
 
 module _ (next_labels : List ℕ → Option (List Pair × List ℕ)) (sound : (next : List ℕ) (labels : List Pair) (r : List ℕ) → next_labels next ≡ Some (labels, r) → HasLabels next labels r)
@@ -181,7 +181,7 @@ module _ (next_labels : List ℕ → Option (List Pair × List ℕ)) (sound : (n
       let spelled : bs ≡ left ++ 125 ∷ r = whole ∙ ap (λ l. one ++ l) (brace ∙ ap (λ q. blanks rest ++ 125 ∷ q) end) ∙ simp append_assoc in
       (left, (left, label-blanks one (blanks rest) label is (blanks-are rest), inl (sym none, refl)), spelled)
 
-labels-sound : (k : ℕ) (bs : List ℕ) (labels : List Pair) (r : List ℕ) → labels_in k bs ≡ Some (labels, r) → HasLabels bs labels r
+pub labels-sound : (k : ℕ) (bs : List ℕ) (labels : List Pair) (r : List ℕ) → labels_in k bs ≡ Some (labels, r) → HasLabels bs labels r
 unfolding labels_in HasLabels
 labels-sound zero bs labels r e = absurd cc
 labels-sound (suc n) bs labels r e = by_brace (λ next ls q h. labels-sound n next ls q h) (mark_in 125 bs) refl (label_in bs) refl e
@@ -231,7 +231,7 @@ stamp-sound bs stamp s e =
     (cases_Bool (is_end bs))
 
 -- the value and the end behind it
-EndsWith : List ℕ → List ℕ → Option ℤ → Type 0
+unfoldable pub EndsWith : List ℕ → List ℕ → Option ℤ → Type 0
 EndsWith bs value stamp = (after : List ℕ) × (is_value value ≡ true) × IsLineEnd after stamp × (bs ≡ blanks bs ++ (value ++ after)) × IsWord value
 
 value-word_sound : (bs : List ℕ) (o : Option (List ℕ × List ℕ)) (value : List ℕ) (stamp : Option ℤ) → word_in bs ≡ o → valued o ≡ Some (value, stamp) → EndsWith bs value stamp
@@ -245,7 +245,7 @@ value-word_sound bs (Some (word, rest)) value stamp w e =
     let found = word-sound bs word rest w in
     (rest, ap is_value (sym same) ∙ k.0, subst (IsLineEnd rest) stamped (stamp-sound rest m.0 found.2 m.1), found.0 ∙ ap (λ v. blanks bs ++ (v ++ rest)) same, subst IsWord same found.1)
 
-value-sound : (bs value : List ℕ) (stamp : Option ℤ) → value_in bs ≡ Some (value, stamp) → EndsWith bs value stamp
+pub value-sound : (bs value : List ℕ) (stamp : Option ℤ) → value_in bs ≡ Some (value, stamp) → EndsWith bs value stamp
 unfolding value_in
 value-sound bs value stamp e = value-word_sound bs (word_in bs) value stamp refl e
 

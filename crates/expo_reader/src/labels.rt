@@ -1,14 +1,15 @@
 //! The labels of a line.
-ghost use Rattle.std.specs.Prelude.{◌≡◌, ◌<◌, ◌+◌, ◌++◌, ◌∷◌, [], length, IfNone, IfOk, IfSome, IsTrue, List, MatchResult, Some, None, codes};
+ghost use Rattle.std.specs.Prelude.{◌≡◌, ◌<◌, ◌+◌, ◌++◌, ◌∷◌, [], length, true, IfNone, IfOk, IfSome, IsTrue, List, MatchResult, Some, None, codes};
+ghost use Rattle.std.specs.List.{list_all};
 ghost use Rattle.std.specs.Str.{bytes_eq};
 ghost use Rattle.label_set.specs.declared.texts.Pair.{Pair};
 ghost use Rattle.expo_reader.specs.Faults.{FaultIs, Finds};
 ghost use Rattle.expo_reader.specs.Forms as spec;
-ghost use Rattle.expo_reader.specs.Texts.{mark_in, word_in};
+ghost use Rattle.expo_reader.specs.Texts.{is_plain_byte, mark_in, text_in, word_in};
 
 use crate::faults::Fault;
 use crate::names::is_exposed_name;
-use crate::parts::{Part, mark_in, quick_name, text_in, word_in};
+use crate::parts::{Part, mark_in, quick_name, quick_text, text_in, word_in};
 use crate::texts::{LentText, lent_text, utf8_text, whole_text};
 use label_set::{Name, NoMemory, Pair, PairList};
 use std::alloc::Global;
@@ -30,16 +31,6 @@ impl<'b> Model for LentLabel<'b> {
 }
 
 impl<'b> LentLabel<'b> {
-    /// A label that borrows from one that stands alone.
-    pub(crate) fn of(label: &'b Pair) -> LentLabel<'b>
-        ensures { result ≡ label.now }
-    {
-        LentLabel {
-            name: label.name.as_str(),
-            value: whole_text(label.value.as_str()),
-        }
-    }
-
     /// The name.
     pub fn name(&self) -> &str
         ensures { result.now ≡ self.now.name }
@@ -125,6 +116,40 @@ fn label_of<'b>(alloc: Global, name: &'b [u8], text: &'b [u8]) -> Result<LentLab
     }
 }
 
+/// A label of a name and of the text in quotes behind the blanks, and what follows it. Most are gone over once.
+fn valued<'b>(
+    alloc: Global,
+    name: &'b [u8],
+    quoted: &'b [u8],
+) -> Result<(LentLabel<'b>, &'b [u8]), Fault>
+    requires { IsTrue (spec.is_exposed_name name.now) }
+    ensures label { let said = spec.valued_label name.now (text_in quoted.now) in MatchResult result (λ r. said ≡ Some (r.0, r.1.now)) (λ f. FaultIs f said) }
+    ensures shorter { IfOk result (λ r. length r.1.now < length quoted.now) }
+{
+    if let Some(value) = quick_text(quoted) {
+        return Ok((plain_label(name, value.bytes), value.rest));
+    }
+    let Some(value) = text_in(quoted) else {
+        return Err(Fault::Faulty);
+    };
+    match label_of(alloc, name, value.bytes) {
+        Ok(label) => Ok((label, value.rest)),
+        Err(fault) => Err(fault),
+    }
+}
+
+/// A label of a name and a text of ASCII with no escape.
+fn plain_label<'b>(name: &'b [u8], text: &'b [u8]) -> LentLabel<'b>
+    requires name { IsTrue (spec.is_exposed_name name.now) }
+    requires text { list_all is_plain_byte text.now ≡ true }
+    ensures { spec.label_of name.now text.now ≡ Some result }
+{
+    LentLabel {
+        name: utf8_text(name),
+        value: whole_text(utf8_text(text)),
+    }
+}
+
 /// Adds the label behind the blanks, and gives what follows it.
 fn push_label<'b>(
     alloc: Global,
@@ -140,14 +165,11 @@ fn push_label<'b>(
     let Some(quoted) = mark_in(b'=', name.rest) else {
         return Err(Fault::Faulty);
     };
-    let Some(value) = text_in(quoted) else {
-        return Err(Fault::Faulty);
-    };
-    match label_of(alloc, name.bytes, value.bytes) {
-        Ok(label) => {
+    match valued(alloc, name.bytes, quoted) {
+        Ok((label, rest)) => {
             labels.reserve(1)?;
             labels.push_reserved(label);
-            Ok(value.rest)
+            Ok(rest)
         }
         Err(fault) => Err(fault),
     }

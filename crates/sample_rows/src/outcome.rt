@@ -9,8 +9,8 @@ ghost use Rattle.sample_rows.specs.Rows.{count_fault, first_of};
 use crate::fault::ScrapeFault;
 use crate::left::{Sifted, sift};
 use crate::scrape::{RowRules, Sample, SampleList, Scrape};
-use expo_reader::{BodyCause, LentBody, read_lent};
-use label_set::{LabelSet, NoMemory, Steps};
+use expo_reader::{BodyCause, ReadBody, read_body};
+use label_set::{Blob, LabelSet, NoMemory, Steps};
 use outside::Reply;
 use relabel::Rules;
 use scrape_limits::{Limits, body_limit, too_many};
@@ -67,7 +67,7 @@ fn of_rows<L: Ledger>(
     rules: &RowRules,
     metric: &Rules,
     target: &LabelSet,
-    body: &LentBody<'_>,
+    body: &ReadBody,
     steps: &mut Steps<L>,
 ) -> Result<Scrape, NoMemory>
     requires nameless { bears target.now metric_label ≡ false }
@@ -94,10 +94,13 @@ fn of_bytes<L: Ledger>(
     ensures steps { OnOk result (steps.new ≡ steps.old + spec.row_count (spec.or_line (reading bytes.now))) }
     ensures at_least { steps.old ≤ steps.new }
 {
-    match read_lent(alloc, bytes) {
+    let bytes = Blob::from_slice(alloc, bytes)?;
+    match read_body(alloc, bytes) {
         Ok(body) => of_rows(alloc, rules, metric, target, &body, steps),
-        Err(BodyCause::Line(line)) => Ok(failed(ScrapeFault::Line(line))),
-        Err(BodyCause::NoMemory) => Err(NoMemory),
+        Err(unread) => match unread.cause {
+            BodyCause::Line(line) => Ok(failed(ScrapeFault::Line(line))),
+            BodyCause::NoMemory => Err(NoMemory),
+        },
     }
 }
 

@@ -1,12 +1,8 @@
 //! Bodies in, rows out. Which lines are of the format, and which are faulty, the cases show.
 
-use expo_reader::{
-    BodyCause, BodyReader, BodyRow, LentBody, LentSample, ReadBody, Unread, read_body, read_lent,
-    read_rows,
-};
+use expo_reader::{BodyCause, BodyReader, BodyRow, ReadBody, SampleRow, Unread, read_body};
 use label_set::{Blob, NoMemory};
 use std::alloc::{AllocError, Global};
-use std::process::Abort;
 use std::test::Fail;
 
 /// Adds bytes and what stands behind them.
@@ -16,38 +12,10 @@ fn push_bytes(text: &mut Vec<u8>, bytes: &[u8], end: &[u8]) -> Result<(), AllocE
 }
 
 /// Adds a row: raw text, name, labels and value, and then the line and the timestamp, where there is one.
-fn push_row(alloc: Global, text: &mut Vec<u8>, row: &BodyRow) -> Result<(), AllocError> {
-    push_bytes(text, row.raw.as_slice(), b" ")?;
-    push_bytes(text, row.name.as_str().as_bytes(), b" ")?;
-    for label in row.labels.as_slice() {
-        push_bytes(text, label.name.as_str().as_bytes(), b"=[")?;
-        push_bytes(text, label.value.as_str().as_bytes(), b"] ")?;
-    }
-    push_bytes(text, row.value.bytes(), b" ")?;
-    push_bytes(text, row.line.to_string(alloc)?.as_bytes(), b" ")?;
-    if let Some(stamp) = row.stamp {
-        push_bytes(text, stamp.to_string(alloc)?.as_bytes(), b" ")?;
-    }
-    Ok(())
-}
-
-fn shown(alloc: Global, rows: &[BodyRow]) -> Result<Vec<u8>, AllocError> {
-    let mut text = Vec::new(alloc);
-    for row in rows {
-        push_row(alloc, &mut text, row)?;
-    }
-    Ok(text)
-}
-
-/// Adds a row that borrows from its body.
-fn push_sample(
-    alloc: Global,
-    text: &mut Vec<u8>,
-    row: &LentSample<'_, '_>,
-) -> Result<(), AllocError> {
+fn push_row(alloc: Global, text: &mut Vec<u8>, row: &SampleRow<'_>) -> Result<(), NoMemory> {
     push_bytes(text, row.raw(), b" ")?;
     push_bytes(text, row.name().as_bytes(), b" ")?;
-    for label in row.labels() {
+    for label in row.labels(alloc)?.as_slice() {
         push_bytes(text, label.name().as_bytes(), b"=[")?;
         push_bytes(text, label.value().as_bytes(), b"] ")?;
     }
@@ -59,20 +27,22 @@ fn push_sample(
     Ok(())
 }
 
-fn shown_lent(alloc: Global, body: &LentBody<'_>) -> Result<Vec<u8>, AllocError> {
+fn shown(alloc: Global, body: &ReadBody) -> Result<Vec<u8>, NoMemory> {
     let mut text = Vec::new(alloc);
     for place in 0..body.len() {
-        push_sample(alloc, &mut text, &body.row(place))?;
+        push_row(alloc, &mut text, &body.row(place))?;
     }
     Ok(text)
 }
 
-/// Copies of the rows, shown.
-fn shown_copies(alloc: Global, body: &LentBody<'_>) -> Result<Vec<u8>, NoMemory> {
+/// The raw texts of copies of the rows, and their labels' values.
+fn shown_copies(alloc: Global, rows: &[BodyRow]) -> Result<Vec<u8>, AllocError> {
     let mut text = Vec::new(alloc);
-    for place in 0..body.len() {
-        let row = body.row(place).copied(alloc)?;
-        push_row(alloc, &mut text, &row)?;
+    for row in rows {
+        push_bytes(&mut text, row.raw.as_slice(), b" ")?;
+        for label in row.labels.as_slice() {
+            push_bytes(&mut text, label.value.as_str().as_bytes(), b" ")?;
+        }
     }
     Ok(text)
 }
@@ -86,9 +56,12 @@ const BODY: &str =
 const ROWS: &str = "x:y \t { a = \"}, \" , b=\"\" } x:y a=[}, ] b=[] NaN 2 -9223372036854775808 \
 z{p=\"C:\\\\D\"} z p=[C:\\D] .5e+3 3 5 z z 2 4 ";
 
+/// What their copies show.
+const COPIES: &str = "x:y \t { a = \"}, \" , b=\"\" } },   z{p=\"C:\\\\D\"} C:\\D z ";
+
 /// The body of a text.
-fn body_of(alloc: Global, text: &str) -> Result<ReadBody, Unread> {
-    match Blob::from_slice(alloc, text.as_bytes()) {
+fn body_of(alloc: Global, text: &[u8]) -> Result<ReadBody, Unread> {
+    match Blob::from_slice(alloc, text) {
         Ok(bytes) => read_body(alloc, bytes),
         Err(NoMemory) => Err(Unread {
             bytes: Blob {
@@ -101,55 +74,25 @@ fn body_of(alloc: Global, text: &str) -> Result<ReadBody, Unread> {
 
 #[test]
 fn a_body_is_read(rt: HostRuntime) -> Result<(), Fail> {
-    let Ok(body) = body_of(rt.alloc(), BODY) else {
+    let Ok(body) = body_of(rt.alloc(), BODY.as_bytes()) else {
         panic!(rt; "its lines are of the format");
     };
-    assert_eq!(rt; shown(rt.alloc(), body.rows())?.as_slice(), ROWS.as_bytes());
+    assert_eq!(rt; shown(rt.alloc(), &body)?.as_slice(), ROWS.as_bytes());
+    let rows = body.rows(rt.alloc())?;
+    assert_eq!(rt;
+        shown_copies(rt.alloc(), rows.as_slice())?.as_slice(),
+        COPIES.as_bytes()
+    );
     assert_eq!(rt; body.bytes().len(), BODY.len());
     assert_eq!(rt; body.into_bytes().as_slice(), BODY.as_bytes());
-    Ok(())
-}
-
-#[test]
-fn rows_of_a_body_are_lent(rt: HostRuntime) -> Result<(), Fail> {
-    let Ok(body) = body_of(rt.alloc(), BODY) else {
-        panic!(rt; "its lines are of the format");
-    };
-    let lent = body.lent(rt.alloc())?;
-    assert_eq!(rt; shown_lent(rt.alloc(), &lent)?.as_slice(), ROWS.as_bytes());
-    Ok(())
-}
-
-#[test]
-fn rows_are_read_of_a_body_that_stays(rt: HostRuntime) -> Result<(), Fail> {
-    let Ok(rows) = read_rows(rt.alloc(), BODY.as_bytes()) else {
-        panic!(rt; "its lines are of the format");
-    };
-    assert_eq!(rt;
-        shown(rt.alloc(), rows.as_slice())?.as_slice(),
-        ROWS.as_bytes()
-    );
-    Ok(())
-}
-
-#[test]
-fn rows_that_borrow_are_copied(rt: HostRuntime) -> Result<(), Fail> {
-    let Ok(body) = read_lent(rt.alloc(), BODY.as_bytes()) else {
-        panic!(rt; "its lines are of the format");
-    };
-    assert_eq!(rt; shown_lent(rt.alloc(), &body)?.as_slice(), ROWS.as_bytes());
-    assert_eq!(rt;
-        shown_copies(rt.alloc(), &body)?.as_slice(),
-        ROWS.as_bytes()
-    );
     Ok(())
 }
 
 /// The body of two pieces.
 fn body_of_pieces(alloc: Global, first: &[u8], second: &[u8]) -> Result<ReadBody, NoMemory> {
     let mut reader = BodyReader::new(alloc)?;
-    reader.feed(alloc, first)?;
-    reader.feed(alloc, second)?;
+    reader.feed(first)?;
+    reader.feed(second)?;
     reader.finish(alloc).map_err(|_| NoMemory)
 }
 
@@ -157,7 +100,7 @@ fn body_of_pieces(alloc: Global, first: &[u8], second: &[u8]) -> Result<ReadBody
 fn shown_cut(alloc: Global, cut: usize) -> Result<Vec<u8>, NoMemory> {
     let (first, second) = BODY.as_bytes().split_at(cut.min(BODY.len()));
     let body = body_of_pieces(alloc, first, second)?;
-    Ok(shown(alloc, body.rows())?)
+    shown(alloc, &body)
 }
 
 #[test]
@@ -169,18 +112,12 @@ fn where_a_body_is_cut_makes_no_difference(rt: HostRuntime) -> Result<(), Fail> 
     Ok(())
 }
 
-/// Why bytes are not read, in one piece and as rows that borrow from them.
-fn causes(alloc: Global, bytes: &[u8]) -> (Option<BodyCause>, Option<BodyCause>) {
-    (read_rows(alloc, bytes).err(), read_lent(alloc, bytes).err())
-}
-
-#[test]
-fn the_first_faulty_line_is_named(rt: HostRuntime) {
-    let fault = Some(BodyCause::Line(4));
-    assert_eq!(rt;
-        causes(rt.alloc(), b"x 1\n\n# c\nx{,} 1\nx{"),
-        (fault, fault)
-    );
+/// Why bytes are not read.
+fn cause(alloc: Global, bytes: &[u8]) -> Option<BodyCause> {
+    match body_of(alloc, bytes) {
+        Ok(_) => None,
+        Err(unread) => Some(unread.cause),
+    }
 }
 
 /// Whether what was not read has its cause and its bytes.
@@ -189,14 +126,6 @@ fn is_handed_back(read: Result<ReadBody, Unread>, bytes: &[u8]) -> bool {
         Ok(_) => false,
         Err(unread) => { unread.cause == BodyCause::Line(1) && unread.bytes.as_slice() == bytes }
     }
-}
-
-#[test]
-fn bytes_that_are_not_read_are_handed_back(rt: HostRuntime) -> Result<(), Fail> {
-    let text = b"x{a=\"\xff\"} 1\n".as_slice();
-    let bytes = Blob::from_slice(rt.alloc(), text)?;
-    assert!(rt; is_handed_back(read_body(rt.alloc(), bytes), text));
-    Ok(())
 }
 
 /// A line with twenty labels, and one more behind them.
@@ -212,19 +141,42 @@ fn many_labels(alloc: Global, last: &str) -> Result<String, AllocError> {
     Ok(text)
 }
 
-fn labels_of_first_row(rt: &impl Abort, alloc: Global, text: &str) -> usize {
-    match read_lent(alloc, text.as_bytes()) {
-        Ok(body) if 0 < body.len() => body.row(0).labels().len(),
-        _ => panic!(rt; "no row"),
+/// How many labels the first row of a body has.
+fn first_count(alloc: Global, body: &ReadBody) -> Result<usize, NoMemory> {
+    if body.len() == 0 {
+        return Err(NoMemory);
     }
+    let row = body.row(0);
+    let labels = row.labels(alloc)?;
+    Ok(labels.len())
+}
+
+fn labels_of_first_row(alloc: Global, text: &str) -> Result<usize, NoMemory> {
+    let Ok(body) = body_of(alloc, text.as_bytes()) else {
+        return Err(NoMemory);
+    };
+    first_count(alloc, &body)
 }
 
 #[test]
-fn many_labels_are_compared(rt: HostRuntime) -> Result<(), Fail> {
-    let good = many_labels(rt.alloc(), "")?;
-    assert_eq!(rt; labels_of_first_row(&rt, rt.alloc(), good.as_str()), 20);
-    let bad = many_labels(rt.alloc(), "l3=\"\"")?;
-    let fault = Some(BodyCause::Line(1));
-    assert_eq!(rt; causes(rt.alloc(), bad.as_str().as_bytes()), (fault, fault));
+fn bytes_that_are_not_read_are_handed_back(rt: HostRuntime) -> Result<(), Fail> {
+    {
+        let text = b"x{a=\"\xff\"} 1\n".as_slice();
+        let bytes = Blob::from_slice(rt.alloc(), text)?;
+        assert!(rt; is_handed_back(read_body(rt.alloc(), bytes), text));
+        assert_eq!(rt;
+            cause(rt.alloc(), b"x 1\n\n# c\nx{,} 1\nx{"),
+            Some(BodyCause::Line(4))
+        );
+    }
+    {
+        let good = many_labels(rt.alloc(), "")?;
+        assert_eq!(rt; labels_of_first_row(rt.alloc(), good.as_str())?, 20);
+        let bad = many_labels(rt.alloc(), "l3=\"\"")?;
+        assert_eq!(rt;
+            cause(rt.alloc(), bad.as_str().as_bytes()),
+            Some(BodyCause::Line(1))
+        );
+    }
     Ok(())
 }

@@ -1,0 +1,195 @@
+//! Where the rows of a body stand in it: the one parser. Rows are offsets into the bytes, so they borrow nothing.
+ghost use Rattle.std.specs.Prelude.{◌≡◌, ◌≤◌, ◌<◌, ◌+◌, ◌++◌, ◌-◌, ◌^◌, length, drop, take, ℕ, All, IfErr, IfNone, IfOk, IfSome, IsTrue, MatchResult, None, OnOk, Ok, Some};
+ghost use Rattle.expo_lexer.specs.Tokens.{blank_len};
+ghost use Rattle.expo_reader.specs.Bodies.{CauseIs, line_reading, reading};
+ghost use Rattle.expo_reader.specs.Faults.{FaultIs};
+ghost use Rattle.expo_reader.specs.Forms as spec;
+ghost use Rattle.expo_reader.specs.Spans as seen;
+ghost use Rattle.expo_reader.specs.Texts.{word_in};
+ghost use Rattle.value_text.specs.Values.{is_value};
+
+use crate::bodies::BodyCause;
+use crate::faults::Fault;
+use crate::labels::{LentLabel, labels_in};
+use crate::lines::{behind, line_end, metric_in};
+use crate::parts::{Part, mark_in, quick_value, start_of, word_in};
+use crate::repeats::names_differ;
+use crate::values::stamp_in;
+use std::alloc::{AllocError, Global};
+use value_text::ValueText;
+
+/// Where the parts of a sample line stand, from its first byte that is no blank on, and its timestamp.
+#[derive(Clone, Copy, Debug)]
+pub(crate) struct LineSpan {
+    pub raw_len: u32,
+    pub value_at: u32,
+    pub value_len: u32,
+    pub stamp: Option<i64>,
+}
+
+/// Where a sample line stands in its body, from its first byte that is no blank to its end. It takes 40 bytes.
+#[derive(Clone, Copy, Debug)]
+pub(crate) struct RowSpan {
+    pub line: u32,
+    pub start: u32,
+    pub len: u32,
+    pub parts: LineSpan,
+}
+
+/// The value behind the blanks, and what follows it. Most are gone over once.
+#[tactic(auto, unfolding(crate::specs::Forms::value_in))]
+fn value_word(text: &[u8]) -> Option<Part<'_>>
+    ensures part { IfSome result (λ p. word_in text.now ≡ Some (p.bytes.now, p.rest.now)) }
+    ensures good { IfSome result (λ p. IsTrue (is_value p.bytes.now)) }
+    ensures none { IfNone result (spec.value_in text.now ≡ None) }
+{
+    if let Some(word) = quick_value(text) {
+        return Some(word);
+    }
+    let Some(word) = word_in(text) else {
+        return None;
+    };
+    if ValueText::check(word.bytes).is_err() {
+        return None;
+    }
+    Some(word)
+}
+
+/// Where the value stands that a line ends with, behind its raw text.
+#[tactic(auto, unfolding(crate::specs::Forms::value_in))]
+fn parts_of(line: &[u8], raw_len: usize, rest: &[u8]) -> Result<LineSpan, Fault>
+    requires raw { raw_len ≤ length line.now }
+    requires tail { seen.IsTail rest.now line.now }
+    requires few { length line.now < 2 ^ 32 }
+    ensures parts { MatchResult result (λ s. seen.HasParts line.now raw_len rest.now s) (λ f. (f ≡ Fault.Faulty) × (spec.value_in rest.now ≡ None)) }
+    ensures inside { IfOk result (λ s. seen.IsInside (length line.now) s) }
+{
+    let Some(word) = value_word(rest) else {
+        return Err(Fault::Faulty);
+    };
+    match stamp_in(word.rest) {
+        Some(stamp) => Ok(LineSpan {
+            raw_len: raw_len as u32,
+            value_at: place_of(line, word.bytes, word.rest) as u32,
+            value_len: word.bytes.len() as u32,
+            stamp,
+        }),
+        None => Err(Fault::Faulty),
+    }
+}
+
+/// Where a word stands that so much follows to the end of the line.
+fn place_of(line: &[u8], word: &[u8], rest: &[u8]) -> usize
+    requires { seen.IsTail (word.now ++ rest.now) line.now }
+    ensures word { take (length word.now) (drop result line.now) ≡ word.now }
+    ensures within { result + length word.now ≤ length line.now }
+{
+    line.len() - rest.len() - word.len()
+}
+
+/// Where the parts of a sample line stand. The room for labels is used again.
+fn line_parts<'b>(
+    alloc: Global,
+    line: &'b [u8],
+    labels: &mut Vec<LentLabel<'b>>,
+) -> Result<LineSpan, Fault>
+    requires bare { blank_len line.now ≡ 0 }
+    requires few { length line.now < 2 ^ 32 }
+    ensures said { (number : ℕ) → MatchResult result (λ s. spec.sample_in number line.now ≡ Some (seen.row_at number line.now s)) (λ f. FaultIs f (spec.sample_in number line.now)) }
+    ensures inside { IfOk result (λ s. seen.IsInside (length line.now) s) }
+{
+    let Some(name) = metric_in(line) else {
+        return Err(Fault::Faulty);
+    };
+    let Some(inside) = mark_in(b'{', name.rest) else {
+        return parts_of(line, name.bytes.len(), name.rest);
+    };
+    labels.clear();
+    let rest = match labels_in(alloc, inside, labels) {
+        Ok(rest) => rest,
+        Err(fault) => return Err(fault),
+    };
+    let differ = names_differ(alloc, labels)?;
+    if !differ {
+        return Err(Fault::Faulty);
+    }
+    parts_of(line, line.len() - rest.len(), rest)
+}
+
+/// What a line says: where its parts stand behind its blanks, nothing where it is skipped, or that it is faulty.
+fn read_parts<'b>(
+    alloc: Global,
+    number: u64,
+    line: &'b [u8],
+    labels: &mut Vec<LentLabel<'b>>,
+) -> Result<Option<(usize, LineSpan)>, BodyCause>
+    requires { length line.now < 2 ^ 32 }
+    ensures said { MatchResult result (λ o. line_reading number line.now ≡ Ok (seen.span_row number line.now o)) (λ c. CauseIs c (line_reading number line.now)) }
+    ensures inside { IfOk result (λ o. IfSome o (λ p. (p.0 ≤ length line.now) × seen.IsInside (length line.now - p.0) p.1)) }
+{
+    let Some(start) = start_of(line) else {
+        return Ok(None);
+    };
+    if line[start] == b'#' {
+        return Ok(None);
+    }
+    match line_parts(alloc, behind(line, start), labels) {
+        Ok(parts) => Ok(Some((start, parts))),
+        Err(Fault::Faulty) => Err(BodyCause::Line(number)),
+        Err(Fault::NoMemory) => Err(BodyCause::NoMemory),
+    }
+}
+
+/// Adds the row of a line, if it has one: the line stands at a place and has that length.
+fn push_span(
+    rows: &mut Vec<RowSpan>,
+    number: u64,
+    place: usize,
+    end: usize,
+    parts: Option<(usize, LineSpan)>,
+) -> Result<(), AllocError>
+    requires start { IfSome parts (λ p. p.0 ≤ end) }
+    requires near { place + end < 2 ^ 32 }
+    requires number { number < 2 ^ 32 }
+    ensures { OnOk result (rows.new.items ≡ rows.old.items ++ seen.span_list number place end parts) }
+{
+    if let Some((start, parts)) = parts {
+        rows.reserve(1)?;
+        rows.push_reserved(RowSpan {
+            line: number as u32,
+            start: (place + start) as u32,
+            len: (end - start) as u32,
+            parts,
+        });
+    }
+    Ok(())
+}
+
+/// How many bytes a line takes that is not long, and the most rows for which there is room at first.
+const LINE_BYTES: usize = 40;
+
+const FIRST_ROOM: usize = 65_536;
+
+/// Where the rows of a body stand, in the order of its lines.
+pub(crate) fn spans_of(alloc: Global, body: &[u8]) -> Result<Vec<RowSpan>, BodyCause>
+    requires { length body.now < 2 ^ 32 }
+    ensures read { IfOk result (λ v. reading body.now ≡ Ok (seen.rows_seen body.now v.items)) }
+    ensures within { IfOk result (λ v. All (seen.IsWithin (length body.now)) v.items) }
+    ensures cause { IfErr result (λ c. CauseIs c (reading body.now)) }
+{
+    let mut rows = Vec::with_capacity(alloc, (body.len() / LINE_BYTES).min(FIRST_ROOM))?;
+    let mut labels = Vec::new(alloc);
+    let mut place = 0;
+    let mut number = 1;
+    while place < body.len() {
+        let rest = behind(body, place);
+        let end = line_end(rest);
+        match read_parts(alloc, number, &rest[..end], &mut labels) {
+            Ok(parts) => push_span(&mut rows, number, place, end, parts)?,
+            Err(cause) => return Err(cause),
+        }
+        place += end + 1;
+        number += 1;
+    }
+    Ok(rows)
+}
