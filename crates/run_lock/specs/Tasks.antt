@@ -5,6 +5,7 @@ use Rattle.journal_text.specs.declared.events.Event.TheVariants.{Load, Targets, 
 use Rattle.journal_text.specs.Lines.{number, IsNameLength, IsTextLength}
 use Rattle.outside.specs.Fetches.{IsTimeout}
 use Rattle.outside.specs.Sizes.{most_body_bytes}
+use Rattle.outside.specs.declared.replies.Reply.{Reply}
 use Rattle.outside.specs.declared.requests.Fetched.{Fetched}
 use Rattle.outside.specs.declared.requests.Request.{Request}
 use Rattle.seat_notes.specs.declared.desk.Note.{Note}
@@ -94,3 +95,12 @@ IsCommand (Tick m k) = ⊥
 IsCommand (Sweep m) = ⊥
 IsCommand (Finish k took r) = ⊥
 IsCommand (Halt m) = ⊥
+
+-- a finish with this reply
+abbrev pub IsFinishWith : Reply → Event → Type 0
+IsFinishWith reply (Load m text) = ⊥
+IsFinishWith reply (Targets m name file text) = ⊥
+IsFinishWith reply (Tick m k) = ⊥
+IsFinishWith reply (Sweep m) = ⊥
+IsFinishWith reply (Finish k took r) = r ≡ reply
+IsFinishWith reply (Halt m) = ⊥

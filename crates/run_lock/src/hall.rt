@@ -9,7 +9,7 @@ ghost use Rattle.run_lock.specs.Listed.{IsListed, listed_in};
 ghost use Rattle.run_lock.specs.Tasks.{IsFit, IsOrdered, IsOwn, IsSeat, IsSwept, AfterTask, HasFit, finish_with};
 
 use crate::listed::Listed;
-use crate::readings::{body_copy, read_copy};
+use crate::readings::read_copy;
 use crate::station::Station;
 use crate::tasks::{Order, Task};
 use label_set::NoMemory;
@@ -88,9 +88,7 @@ impl<L: Ledger, B: Room> Hall<L, B> {
         ensures own { IsPass B.table result.1 }
         ensures seat { result.0 ≡ true → view result.1 ≡ worker (2 + place) ((view seat).mine ++ Brought (finish_with ticket fetched) ∷ []) }
     {
-        let copy = body_copy(alloc, &fetched.reply);
-        let read = read_copy(alloc, &fetched.reply, &copy);
-        let read = read.as_ref();
+        let read = read_copy(alloc, &fetched.reply);
         let mut station = self.lock.lock(rt);
         let brought = station.finish(rt, alloc, desk, place, ticket, fetched, read, seat);
         if station.has_failed() || station.is_over() {

@@ -2,11 +2,11 @@
 ghost use Rattle.std.specs.Prelude.{◌≡◌, ◌++◌, ◌∷◌, [], IfSome, OnErr, OnOk};
 ghost use Rattle.journal_text.specs.Events as journal;
 ghost use Rattle.journal_text.specs.Events.{now_of};
-ghost use Rattle.outside.specs.declared.replies.Reply.TheVariants.{Body};
-ghost use Rattle.scrape_core.specs.Records.{IsFinishWith};
+ghost use Rattle.journal_text.specs.declared.events.Event.TheVariants.{Finish};
+ghost use Rattle.run_lock.specs.Tasks.{IsFinishWith};
 
 use journal_text::Event;
-use label_set::{Blob, NoMemory, Steps};
+use label_set::{NoMemory, Steps};
 use outside::Reply;
 use scrape_core::{Answer, Core};
 use scrape_loop::ReadReply;
@@ -16,10 +16,10 @@ use std::sync::ledger::Ledger;
 /// The status of a reply whose body is looked at.
 const OK_STATUS: u16 = 200;
 
-/// A copy of the body of a reply with status 200: the rows that are read borrow from it, while the body itself goes into the journal.
-/// None of any other reply, nor where memory runs out.
-pub fn body_copy(alloc: Global, reply: &Reply) -> Option<Blob>
-    ensures { IfSome result (λ b. reply.now ≡ Body 200 b) }
+/// Reads a copy of the body of a reply with status 200, while the body itself goes to the journal. None of any other reply, nor where
+/// memory runs out: the body is then read when it is counted.
+pub fn read_copy(alloc: Global, reply: &Reply) -> Option<ReadReply>
+    ensures { IfSome result (λ r. reply.now ≡ r) }
 {
     let Reply::Body { status, bytes } = reply else {
         return None;
@@ -27,18 +27,27 @@ pub fn body_copy(alloc: Global, reply: &Reply) -> Option<Blob>
     if *status != OK_STATUS {
         return None;
     }
-    bytes.copy(alloc).ok()
+    let bytes = bytes.copy(alloc).ok()?;
+    let copy = Reply::Body {
+        status: OK_STATUS,
+        bytes,
+    };
+    ReadReply::of(alloc, copy).ok()
 }
 
-/// Reads the copy of a body, where there is one. None where memory runs out: the body is then read when it is counted.
-pub fn read_copy<'a>(alloc: Global, reply: &Reply, copy: &'a Option<Blob>) -> Option<ReadReply<'a>>
-    requires { IfSome copy.now (λ b. reply.now ≡ Body 200 b) }
-    ensures { IfSome result (λ r. reply.now ≡ r) }
+/// The ticket of a finish with this reply, and how many milliseconds its fetch took.
+fn parts_of(event: &Event, reply: &ReadReply) -> (u64, i64)
+    requires { IsFinishWith reply.now event.now }
+    ensures { event.now ≡ Finish result.0 result.1 reply.now }
 {
     let _ = reply;
-    match copy {
-        Some(bytes) => ReadReply::read(alloc, OK_STATUS, bytes.as_slice()).ok(),
-        None => None,
+    match event {
+        Event::Finish {
+            ticket,
+            took,
+            reply: _,
+        } => (*ticket, *took),
+        _ => unreachable!(),
     }
 }
 
@@ -47,17 +56,20 @@ pub fn take_finish<L: Ledger>(
     core: &mut Core,
     alloc: Global,
     event: Event,
-    read: Option<&ReadReply<'_>>,
+    read: Option<ReadReply>,
     steps: &mut Steps<L>,
 ) -> Result<Answer, NoMemory>
     requires limits { journal.IsInLimits event }
     requires order { journal.MayFollow (now_of core.old) event }
-    requires read { IfSome read (λ r. IsFinishWith r.now event) }
+    requires read { IfSome read (λ r. IsFinishWith r event) }
     ensures joined { OnOk result (core.new ≡ core.old ++ event ∷ []) }
     ensures err { OnErr result (core.new ≡ core.old) }
 {
     match read {
-        Some(reply) => core.take_read(alloc, event, reply, steps),
+        Some(reply) => {
+            let (ticket, took) = parts_of(&event, &reply);
+            core.take_read(alloc, ticket, took, reply, steps)
+        }
         None => core.take(alloc, event, steps),
     }
 }

@@ -193,12 +193,12 @@ impl<L: Ledger, B: Room> Station<L, B> {
         place: usize,
         ticket: u64,
         fetched: Fetched,
-        read: Option<&ReadReply<'_>>,
+        read: Option<ReadReply>,
         seat: Token,
     ) -> (bool, Token)
         requires few { place < 1000 }
         requires limits { IsInLimits fetched }
-        requires read { IfSome read (λ r. fetched.reply ≡ r.now) }
+        requires read { IfSome read (λ r. fetched.reply ≡ r) }
         requires desk { IsDesk B.table desk.now }
         requires own { IsPass B.table seat }
         requires seat { IsSeat place (view seat) (Some ticket) }

@@ -1,4 +1,5 @@
 pub mod Kept
+pub mod ReadEvents
 pub mod Readers
 pub mod Records
 pub mod Wakes

@@ -3,7 +3,6 @@ use Rattle.std.specs.Prelude.{◌≡◌, ◌<◌, ℕ, ℤ, Bool, true, false, L
 use Rattle.std.specs.List.{list_any}
 use Rattle.journal_text.specs.declared.events.Event.{Event}
 use Rattle.journal_text.specs.declared.events.Event.TheVariants.{Load, Targets, Tick, Sweep, Finish, Halt}
-use Rattle.outside.specs.declared.replies.Reply.{Reply}
 use Rattle.scrape_laws.specs.Flights.{is_finish_of}
 use Rattle.scrape_machine.specs.declared.answers.Answer.{Answer}
 use Rattle.scrape_machine.specs.declared.answers.Answer.TheVariants.{Loaded, Updated, Refused, NoJob, NoFile, Started, Forced, NotDue, Busy, NoLife, Swept, Counted, Late, NoTicket, Halted}
@@ -37,15 +36,6 @@ is_finish (Tick m k) = false
 is_finish (Sweep m) = false
 is_finish (Finish k took r) = true
 is_finish (Halt m) = false
-
--- a finish with this reply
-abbrev pub IsFinishWith : Reply → Event → Type 0
-IsFinishWith reply (Load m text) = ⊥
-IsFinishWith reply (Targets m name file text) = ⊥
-IsFinishWith reply (Tick m k) = ⊥
-IsFinishWith reply (Sweep m) = ⊥
-IsFinishWith reply (Finish k took r) = r ≡ reply
-IsFinishWith reply (Halt m) = ⊥
 
 -- the answers to the events, from a world on
 abbrev pub answers_from : World → List Event → List Answer

@@ -4,9 +4,11 @@ ghost use Rattle.journal_text.specs.Events.{IsInLimits};
 ghost use Rattle.scrape_machine.specs.Machine as spec;
 ghost use Rattle.scrape_machine.specs.Runs.{runs};
 ghost use Rattle.scrape_core.specs.Kept as kept;
+ghost use Rattle.scrape_core.specs.Records.{is_finish};
 
 use crate::changes::{take_load, take_update};
 use crate::finishes::take_finish;
+use crate::read_events::{ReadEvent, Told};
 use crate::state::State;
 use crate::taken::{Taken, without_runs};
 use crate::turns::{take_sweep, take_tick};
@@ -14,13 +16,12 @@ use appender_book::Book;
 use journal_text::Event;
 use label_set::{NoMemory, Steps};
 use life_roll::Moment;
-use scrape_loop::LentReply;
 use scrape_machine::Answer;
 use std::alloc::Global;
 use std::sync::ledger::Ledger;
 
-/// An event before any halt.
-fn take_live<L: Ledger>(
+/// An event before any halt that is no finish.
+fn take_other<L: Ledger>(
     alloc: Global,
     state: &mut State,
     book: &mut Book,
@@ -28,6 +29,7 @@ fn take_live<L: Ledger>(
     steps: &mut Steps<L>,
 ) -> Result<Taken, NoMemory>
     requires limits { IsInLimits event.now }
+    requires other { is_finish event.now ≡ false }
     requires few { kept.HasFew state.old }
     requires listed { kept.IsListed state.old }
     requires right { kept.AreRightLives state.old }
@@ -60,18 +62,44 @@ fn take_live<L: Ledger>(
             let answer = take_sweep(alloc, state, book, Moment::new(*moment))?;
             Ok(without_runs(answer))
         }
-        Event::Finish {
-            ticket,
-            took,
-            reply,
-        } => {
-            let reply = LentReply::whole(reply);
-            take_finish(alloc, state, book, *ticket, *took, &reply, steps)
-        }
+        Event::Finish { .. } => unreachable!(),
         Event::Halt { moment: _ } => {
             state.halted = true;
             Ok(without_runs(Answer::Halted))
         }
+    }
+}
+
+/// An event before any halt.
+fn take_live<L: Ledger>(
+    alloc: Global,
+    state: &mut State,
+    book: &mut Book,
+    event: &ReadEvent,
+    steps: &mut Steps<L>,
+) -> Result<Taken, NoMemory>
+    requires limits { IsInLimits event.now }
+    requires few { kept.HasFew state.old }
+    requires listed { kept.IsListed state.old }
+    requires right { kept.AreRightLives state.old }
+    requires live { state.old.halted ≡ false }
+    ensures answer { IfOk result (λ t. t.answer ≡ spec.answer (kept.live state.old) event.now) }
+    ensures runs { IfOk result (λ t. t.runs ≡ runs (kept.live state.old) event.now) }
+    ensures steps { OnOk result (steps.new ≡ steps.old + runs (kept.live state.old) event.now) }
+    ensures state { OnOk result (kept.seen state.new ≡ spec.step (kept.live state.old) event.now) }
+    ensures book { OnOk result (kept.Appends (kept.live state.old) event.now book.old.entries book.new.entries) }
+    ensures few { OnOk result (kept.HasFew state.new) }
+    ensures listed { kept.IsListed state.new }
+    ensures err { OnErr result (kept.seen state.new ≡ kept.live state.old) }
+    ensures err_book { OnErr result (book.new.entries ≡ book.old.entries) }
+{
+    match event.told() {
+        Told::Finish {
+            ticket,
+            took,
+            reply,
+        } => take_finish(alloc, state, book, *ticket, *took, reply, steps),
+        Told::Other(event) => take_other(alloc, state, book, event, steps),
     }
 }
 
@@ -80,7 +108,7 @@ pub fn take<L: Ledger>(
     alloc: Global,
     state: &mut State,
     book: &mut Book,
-    event: &Event,
+    event: &ReadEvent,
     steps: &mut Steps<L>,
 ) -> Result<Taken, NoMemory>
     requires limits { IsInLimits event.now }

@@ -12,7 +12,7 @@ use crate::taken::{Taken, without_runs};
 use appender_book::Book;
 use label_set::{NoMemory, Steps};
 use life_roll::Moment;
-use scrape_loop::LentReply;
+use scrape_loop::ReadReply;
 use scrape_machine::Answer;
 use scrape_machine::lives::Found;
 use scrape_steps::finishes::{count, finish, found};
@@ -26,7 +26,7 @@ fn finish_counted<L: Ledger>(
     book: &mut Book,
     ticket: u64,
     took: i64,
-    reply: &LentReply<'_>,
+    reply: &ReadReply,
     life: u64,
     moment: Moment,
     steps: &mut Steps<L>,
@@ -63,7 +63,7 @@ pub fn take_finish<L: Ledger>(
     book: &mut Book,
     ticket: u64,
     took: i64,
-    reply: &LentReply<'_>,
+    reply: &ReadReply,
     steps: &mut Steps<L>,
 ) -> Result<Taken, NoMemory>
     requires took { IsMoment took }
@@ -94,34 +94,4 @@ pub fn take_finish<L: Ledger>(
             alloc, state, book, ticket, took, reply, life, moment, steps,
         ),
     }
-}
-
-/// A finished fetch, before a halt or after it: the same as its event.
-pub fn take_reply<L: Ledger>(
-    alloc: Global,
-    state: &mut State,
-    book: &mut Book,
-    ticket: u64,
-    took: i64,
-    reply: &LentReply<'_>,
-    steps: &mut Steps<L>,
-) -> Result<Taken, NoMemory>
-    requires took { IsMoment took }
-    requires few { kept.HasFew state.old }
-    requires listed { kept.IsListed state.old }
-    requires right { kept.AreRightLives state.old }
-    ensures answer { IfOk result (λ t. t.answer ≡ spec.answer (kept.seen state.old) (Finish ticket took reply.now)) }
-    ensures runs { IfOk result (λ t. t.runs ≡ runs (kept.seen state.old) (Finish ticket took reply.now)) }
-    ensures steps { OnOk result (steps.new ≡ steps.old + runs (kept.seen state.old) (Finish ticket took reply.now)) }
-    ensures state { OnOk result (kept.seen state.new ≡ spec.step (kept.seen state.old) (Finish ticket took reply.now)) }
-    ensures book { OnOk result (kept.Appends (kept.seen state.old) (Finish ticket took reply.now) book.old.entries book.new.entries) }
-    ensures few { OnOk result (kept.HasFew state.new) }
-    ensures listed { kept.IsListed state.new }
-    ensures err { OnErr result (kept.seen state.new ≡ kept.seen state.old) }
-    ensures err_book { OnErr result (book.new.entries ≡ book.old.entries) }
-{
-    if state.halted {
-        return Ok(without_runs(Answer::Halted));
-    }
-    take_finish(alloc, state, book, ticket, took, reply, steps)
 }

@@ -1,7 +1,7 @@
 //! The core: what a scrape manager has taken so far, and the call that takes an event.
 ghost use Rattle.std.specs.Prelude.{◌≡◌, ◌+◌, ◌^◌, nat_lt, ◌++◌, [], ◌∷◌, length, pos, true, IfOk, OnOk, OnErr};
 ghost use Rattle.journal_text.specs.declared.events.Event.{Event};
-ghost use Rattle.journal_text.specs.declared.events.Event.TheVariants.{Halt};
+ghost use Rattle.journal_text.specs.declared.events.Event.TheVariants.{Finish, Halt};
 ghost use Rattle.journal_text.specs.Events.{IsInLimits, MayFollow, now_of};
 ghost use Rattle.journal_text.specs.Lines.{IsMoment, number};
 ghost use Rattle.scrape_core.specs.Readers.{IsWake, is_due, request};
@@ -10,6 +10,7 @@ ghost use Rattle.scrape_machine.specs.Machine as spec;
 ghost use Rattle.scrape_machine.specs.Runs as relabelling;
 
 use crate::events::take;
+use crate::read_events::ReadEvent;
 use crate::readers::{due_in, request_in, wake_in};
 use crate::state::State;
 use appender_book::Book;
@@ -18,13 +19,13 @@ use journal_text::{Event, Journal};
 use label_set::{NoMemory, Steps};
 use life_roll::Moment;
 use outside::Request;
+use scrape_loop::ReadReply;
 use scrape_machine::Answer;
 use std::alloc::Global;
 use std::hash::RandomState;
 use std::marker::Model;
 use std::sync::ledger::Ledger;
 
-mod read_bodies;
 mod stepping;
 
 /// The core of a scrape manager, as the events that it took.
@@ -114,6 +115,30 @@ impl Core {
     /// Lets the core go. A crate that drops a core proves the drops of all its parts anew, so who holds one hands it back here.
     pub fn let_go(self) {}
 
+    /// Takes an event whose reply is read. `take` and `take_read` are its entrances.
+    fn take_told<L: Ledger>(
+        &mut self,
+        alloc: Global,
+        event: ReadEvent,
+        steps: &mut Steps<L>,
+    ) -> Result<Answer, NoMemory>
+        requires limits { IsInLimits event }
+        requires order { MayFollow (now_of self.old) event }
+        ensures answer { IfOk result (λ a. a ≡ spec.answer (spec.world_of self.old) event) }
+        ensures joined { OnOk result (self.new ≡ self.old ++ event ∷ []) }
+        ensures err { OnErr result (self.new ≡ self.old) }
+        ensures steps { OnOk result (steps.new ≡ steps.old + relabelling.runs (spec.world_of self.old) event) }
+    {
+        if !has_room_for_runs(self.runs) {
+            return Err(NoMemory);
+        }
+        self.journal.reserve(2)?;
+        let taken = take(alloc, &mut self.state, &mut self.book, &event, steps)?;
+        self.runs += taken.runs as u128;
+        self.journal.push(event.into_event());
+        Ok(taken.answer)
+    }
+
     /// Takes an event: the answer is the defined one after the journal, which then ends with the event, and the book is that of the new journal.
     /// After a refusal for want of memory the event is dropped and the core as before.
     /// The moment is at least `now`, and the event keeps the limits of a journal's events.
@@ -133,14 +158,28 @@ impl Core {
         ensures err { OnErr result (self.new ≡ self.old) }
         ensures steps { OnOk result (steps.new ≡ steps.old + relabelling.runs (spec.world_of self.old) event) }
     {
-        if !has_room_for_runs(self.runs) {
-            return Err(NoMemory);
-        }
-        self.journal.reserve(2)?;
-        let taken = take(alloc, &mut self.state, &mut self.book, &event, steps)?;
-        self.runs += taken.runs as u128;
-        self.journal.push(event);
-        Ok(taken.answer)
+        let event = ReadEvent::of(alloc, event)?;
+        self.take_told(alloc, event, steps)
+    }
+
+    /// Takes the finish of a ticket after so many milliseconds, whose reply is read already, as `take` takes it: with the same answer, journal and
+    /// book. A finish carries no moment, so it may always follow.
+    /// After a refusal for want of memory the reply is dropped and the core as before.
+    pub fn take_read<L: Ledger>(
+        &mut self,
+        alloc: Global,
+        ticket: u64,
+        took: i64,
+        reply: ReadReply,
+        steps: &mut Steps<L>,
+    ) -> Result<Answer, NoMemory>
+        requires limits { IsInLimits (Finish ticket took reply) }
+        ensures answer { IfOk result (λ a. a ≡ spec.answer (spec.world_of self.old) (Finish ticket took reply)) }
+        ensures joined { OnOk result (self.new ≡ self.old ++ Finish ticket took reply ∷ []) }
+        ensures err { OnErr result (self.new ≡ self.old) }
+        ensures steps { OnOk result (steps.new ≡ steps.old + relabelling.runs (spec.world_of self.old) (Finish ticket took reply)) }
+    {
+        self.take_told(alloc, ReadEvent::finish(ticket, took, reply), steps)
     }
 
     /// The moment of the last event that carries one, 0 before any, in milliseconds.

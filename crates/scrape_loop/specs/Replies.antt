@@ -1,18 +1,24 @@
--- The reply of a fetch, whose body may be read already.
-use Rattle.std.specs.Prelude.{ℕ, List, Result, Ok, Err}
-use Rattle.expo_reader.specs.declared.rows.BodyRow.{BodyRow}
+-- The reply of a fetch, whose body is read.
+use Rattle.std.specs.Prelude.{◌≡◌, ◌==◌, Bool, false, Ok, Err}
+use Rattle.expo_reader.specs.Bodies.{reading}
 use Rattle.outside.specs.declared.replies.Reply.{Reply}
-use Rattle.scrape_loop.specs.declared.lent_reply.Given.{Given}
-use Rattle.scrape_loop.specs.declared.lent_reply.Given.TheVariants.{Whole, Read}
-use Rattle.scrape_loop.specs.declared.lent_reply.Reading.{Reading}
-use Rattle.scrape_loop.specs.declared.lent_reply.Reading.TheVariants.{Rows, Faulty}
+use Rattle.outside.specs.declared.replies.Reply.TheVariants.{Body}
+use Rattle.scrape_loop.specs.declared.read_reply.Page.{Page}
+use Rattle.scrape_loop.specs.declared.read_reply.Page.TheVariants.{Rows, Faulty, Passed}
 
--- what a body says: its rows, or its first faulty line
-abbrev pub reading_of : Reading → Result (List BodyRow) ℕ
-reading_of (Rows body) = Ok body.rows
-reading_of (Faulty line) = Err line
+-- a reply as it came
+abbrev pub reply_of : Page → Reply
+reply_of (Rows status body) = Body status body.bytes
+reply_of (Faulty status bytes line) = Body status bytes
+reply_of (Passed reply) = reply
 
--- a reply as it came, or one whose body is read
-abbrev pub reply_of : Given → Reply
-reply_of (Whole reply) = reply.now
-reply_of (Read reply) = reply.now
+-- a body with status 200 came, whose lines may be looked at
+abbrev pub is_page : Reply → Bool
+is_page (Body status bytes) = status == 200
+is_page _ = false
+
+-- what is kept beside the reply is what its body says
+abbrev pub IsRead : Page → Type 0
+IsRead (Rows status body) = reading body.bytes ≡ Ok body.rows
+IsRead (Faulty status bytes line) = reading bytes ≡ Err line
+IsRead (Passed reply) = is_page reply ≡ false

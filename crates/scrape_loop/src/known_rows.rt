@@ -1,25 +1,23 @@
 //! What is left of the rows of a body, where a raw text that is known costs no relabelling.
-ghost use Rattle.std.specs.Prelude.{◌≡◌, ◌≤◌, ◌+◌, ◌-◌, false, length, None, IfOk, IfSome, OnOk, OnErr};
+ghost use Rattle.std.specs.Prelude.{◌≡◌, ◌≤◌, ◌+◌, ◌-◌, false, length, true, None, IfOk, IfSome, OnOk, OnErr};
 ghost use Rattle.expo_reader.specs.Bodies.{IsFit, reading};
 ghost use Rattle.label_conflict.specs.Merging.{bears};
 ghost use Rattle.label_set.specs.SetText.{metric_label};
 ghost use Rattle.sample_rows.specs.Outcomes.{body_of, of_early, or_line, outcome};
-ghost use Rattle.scrape_loop.specs.Replies.{reading_of};
+ghost use Rattle.scrape_loop.specs.Replies.{is_page};
 ghost use Rattle.sample_rows.specs.Rows.{row_series, left_from, samples_of, first_fault};
 ghost use Rattle.series_cache.specs.Caches.{find, look_up, told, turned, undone, was_sets};
 ghost use Rattle.scrape_loop.specs.Shown.{Shows};
 ghost use Rattle.scrape_loop.specs.Tracked.{is_good};
 ghost use Rattle.scrape_loop.specs.Texts as spec;
 
-use crate::lent_reply::{Given, LentReply, Reading, read_bytes};
+use crate::read_reply::{Page, ReadReply};
 use crate::scrape_parts::fault_in;
-use expo_reader::{LentBody, LentSample};
+use expo_reader::{ReadBody, SampleRow};
 use label_conflict::{LentTarget, labels_in};
 use label_set::{LabelSet, NoMemory, Steps};
 use relabel::{Rules, Runner};
-use sample_rows::{
-    RowRules, Scrape, ScrapeFault, Sifted, body_of, failed, judged, own_stamp, row_set,
-};
+use sample_rows::{RowRules, Scrape, ScrapeFault, Sifted, failed, judged, own_stamp, row_set};
 use series_cache::{Look, SeriesCache};
 use std::alloc::Global;
 use std::sync::ledger::Ledger;
@@ -67,7 +65,7 @@ fn put_series<L: Ledger>(
     rules: &RowRules,
     metric: &mut Runner<'_>,
     target: &LentTarget<'_, '_>,
-    row: &LentSample<'_, '_>,
+    row: &SampleRow<'_>,
     cache: &mut SeriesCache,
     steps: &mut Steps<L>,
 ) -> Result<Option<LabelSet>, NoMemory>
@@ -95,7 +93,7 @@ fn series_of<L: Ledger>(
     rules: &RowRules,
     metric: &mut Runner<'_>,
     target: &LentTarget<'_, '_>,
-    row: &LentSample<'_, '_>,
+    row: &SampleRow<'_>,
     cache: &mut SeriesCache,
     steps: &mut Steps<L>,
 ) -> Result<Option<LabelSet>, NoMemory>
@@ -122,7 +120,7 @@ fn show_row<L: Ledger>(
     rules: &RowRules,
     metric: &mut Runner<'_>,
     target: &LentTarget<'_, '_>,
-    row: &LentSample<'_, '_>,
+    row: &SampleRow<'_>,
     cache: &mut SeriesCache,
     steps: &mut Steps<L>,
 ) -> Result<Option<LabelSet>, NoMemory>
@@ -146,7 +144,7 @@ fn show_row<L: Ledger>(
 fn sift_known<L: Ledger>(
     alloc: Global,
     terms: &Terms<'_>,
-    body: &LentBody<'_>,
+    body: &ReadBody,
     cache: &mut SeriesCache,
     steps: &mut Steps<L>,
 ) -> Result<Sifted, NoMemory>
@@ -172,38 +170,15 @@ fn sift_known<L: Ledger>(
     Ok(sifted)
 }
 
-/// What a scrape comes to by what its body says; the texts of its rows are shown.
-fn of_reading<L: Ledger>(
+/// What a scrape comes to by the body of its reply, which is looked at; the texts of its rows are shown.
+fn of_page<L: Ledger>(
     alloc: Global,
     terms: &Terms<'_>,
-    said: &Reading<'_>,
+    reply: &ReadReply,
     cache: &mut SeriesCache,
     steps: &mut Steps<L>,
 ) -> Result<Scrape, NoMemory>
-    requires nameless { bears terms.now.target.now metric_label ≡ false }
-    requires right { spec.AreRight terms.now.rules.now.honor_labels terms.now.metric.now terms.now.target.now cache.old.texts }
-    ensures outcome { IfOk result (λ s. s ≡ of_early terms.now.rules.now terms.now.metric.now terms.now.target.now (or_line (reading_of said.now))) }
-    ensures cache { OnOk result (cache.new ≡ spec.texts_by terms.now.rules.now terms.now.metric.now terms.now.target.now cache.old (or_line (reading_of said.now))) }
-    ensures undone { undone cache.new ≡ undone cache.old }
-    ensures steps { OnOk result (steps.new + length cache.old.texts ≡ steps.old + length cache.new.texts) }
-    ensures at_least { steps.old ≤ steps.new }
-{
-    let body = match said {
-        Reading::Rows(body) => body,
-        Reading::Faulty(line) => return Ok(failed(ScrapeFault::Line(*line))),
-    };
-    let sifted = sift_known(alloc, terms, body, cache, steps)?;
-    Ok(judged(terms.rules, sifted, body.len() as u64))
-}
-
-/// What a scrape comes to by the body of its reply, whose texts are shown. A body that is read is not read again.
-fn of_body<L: Ledger>(
-    alloc: Global,
-    terms: &Terms<'_>,
-    reply: &LentReply<'_>,
-    cache: &mut SeriesCache,
-    steps: &mut Steps<L>,
-) -> Result<Scrape, NoMemory>
+    requires page { is_page reply.now ≡ true }
     requires nameless { bears terms.now.target.now metric_label ≡ false }
     requires right { spec.AreRight terms.now.rules.now.honor_labels terms.now.metric.now terms.now.target.now cache.old.texts }
     ensures outcome { IfOk result (λ s. s ≡ of_early terms.now.rules.now terms.now.metric.now terms.now.target.now (or_line (reading (body_of reply.now)))) }
@@ -212,13 +187,17 @@ fn of_body<L: Ledger>(
     ensures steps { OnOk result (steps.new + length cache.old.texts ≡ steps.old + length cache.new.texts) }
     ensures at_least { steps.old ≤ steps.new }
 {
-    match reply.given() {
-        Given::Read(reply) => of_reading(alloc, terms, reply.reading(), cache, steps),
-        Given::Whole(reply) => {
-            let said = read_bytes(alloc, body_of(reply))?;
-            of_reading(alloc, terms, &said, cache, steps)
-        }
-    }
+    let body = match reply.page() {
+        Page::Rows { status: _, body } => body,
+        Page::Faulty {
+            status: _,
+            bytes: _,
+            line,
+        } => return Ok(failed(ScrapeFault::Line(*line))),
+        Page::Passed(_) => unreachable!(),
+    };
+    let sifted = sift_known(alloc, terms, body, cache, steps)?;
+    Ok(judged(terms.rules, sifted, body.len() as u64))
 }
 
 /// What a scrape comes to by its reply and the milliseconds that the fetch took, as `sample_rows::rows` has it. The texts of its rows are shown,
@@ -231,7 +210,7 @@ fn of_body<L: Ledger>(
 fn known_rows<L: Ledger>(
     alloc: Global,
     terms: &Terms<'_>,
-    reply: &LentReply<'_>,
+    reply: &ReadReply,
     took: i64,
     cache: &mut SeriesCache,
     steps: &mut Steps<L>,
@@ -247,7 +226,7 @@ fn known_rows<L: Ledger>(
     if let Some(fault) = reply.early_fault(terms.rules, took) {
         return Ok(failed(fault));
     }
-    of_body(alloc, terms, reply, cache, steps)
+    of_page(alloc, terms, reply, cache, steps)
 }
 
 /// The same, after which the cache shows just the sets of the scrape: what a scrape that isn't good showed is taken back.
@@ -258,7 +237,7 @@ fn known_rows<L: Ledger>(
 pub fn shown_rows<L: Ledger>(
     alloc: Global,
     terms: &Terms<'_>,
-    reply: &LentReply<'_>,
+    reply: &ReadReply,
     took: i64,
     cache: &mut SeriesCache,
     steps: &mut Steps<L>,

@@ -1,7 +1,7 @@
 //! The scrapes of one life of a target: what each appends to the book, and what it leaves for the next.
 //! A series that a scrape tracks and the next one doesn't ends with a stale marker; the five reports of each scrape stand behind its samples and markers.
 //! A raw text that the last good scrape showed costs no relabelling: its series is known.
-//! A scrape is counted by its reply, whose body may be read before.
+//! A scrape is counted by its reply, whose body is read before.
 //! Contracts see a life's state as the record of its number, its target's labels, the sets that its last counted scrape tracked, all sets of its last
 //! good one, what is known of its raw texts, and whether a scrape of it counted; `specs/Tracked.antt` says what a scrape makes of it,
 //! `specs/Texts.antt` what its rows show of raw texts, `specs/Shown.antt` what those tell of its sets, `specs/Entries.antt` which entries it appends, and `specs/Closings.antt` what a life
@@ -10,12 +10,12 @@
 #![tactic(auto)]
 
 mod known_rows;
-pub mod lent_reply;
 pub mod life_state;
 mod past;
+pub mod read_reply;
 mod scrape_entries;
 mod scrape_parts;
 mod target_labels;
 
-pub use lent_reply::{LentReply, ReadReply};
 pub use life_state::{Counted, LifeState};
+pub use read_reply::ReadReply;

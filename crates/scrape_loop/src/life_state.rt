@@ -12,8 +12,8 @@ ghost use Rattle.series_cache.specs.Caches.{turned};
 ghost use Rattle.series_cache.specs.Sets.{IsRising};
 
 use crate::known_rows::{Settled, Terms, shown_rows};
-use crate::lent_reply::LentReply;
 use crate::past::Past;
+use crate::read_reply::ReadReply;
 use crate::scrape_parts::fault_in;
 use crate::target_labels::TargetLabels;
 use appender_book::Book;
@@ -154,7 +154,7 @@ impl LifeState {
     /// The entries are, in this order: a sample for each row that is left, at its own honoured timestamp or at the moment; a stale marker at the
     /// moment for each series that the scrape before tracked and this one doesn't, sets rising; the five reports at the moment.
     /// A sample with an own honoured timestamp isn't tracked, and a scrape that isn't good tracks nothing.
-    /// The fetch took `took` milliseconds, 0 or more. A body that is read already is counted as the reply with its bytes would be.
+    /// The fetch took `took` milliseconds, 0 or more. The body of the reply is read already.
     ///
     /// The rules for samples are run once for each raw text that the last good scrape didn't show, which takes one step. So what is known of a text
     /// has to be right under `honor_labels` and these rules, as it is where each scrape of the life goes by the same ones.
@@ -170,7 +170,7 @@ impl LifeState {
         rules: &RowRules,
         metric: &Rules,
         moment: i64,
-        reply: &LentReply<'_>,
+        reply: &ReadReply,
         took: i64,
         book: &mut Book,
         steps: &mut Steps<L>,

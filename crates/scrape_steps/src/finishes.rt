@@ -13,7 +13,7 @@ use label_set::{NoMemory, Steps};
 use life_roll::InFlight;
 use sample_rows::RowRules;
 use scrape_config::Job;
-use scrape_loop::{Counted, LentReply};
+use scrape_loop::{Counted, ReadReply};
 use scrape_machine::lives::{Found, Life, Start};
 use std::alloc::Global;
 use std::sync::ledger::Ledger;
@@ -91,13 +91,13 @@ fn rules_of(job: &Job) -> RowRules
 }
 
 /// Counts a scrape of a life that started at a moment, and ended with a reply after so many milliseconds: its fault, if it isn't good, and how often the
-/// rules for samples were run, each of which takes one step. The body of the reply may be read already.
+/// rules for samples were run, each of which takes one step. The body of the reply is read already.
 #[tactic(auto, unfolding(scrape_machine::specs::Lives::outcome_for))]
 pub fn count<L: Ledger>(
     alloc: Global,
     life: &mut Life,
     moment: i64,
-    reply: &LentReply<'_>,
+    reply: &ReadReply,
     took: i64,
     book: &mut Book,
     steps: &mut Steps<L>,

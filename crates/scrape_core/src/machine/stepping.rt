@@ -13,14 +13,15 @@ ghost use Rattle.journal_text.specs.declared.events.Event.{Event};
 ghost use Rattle.journal_text.specs.Events.{IsInLimits, MayFollow, now_of};
 ghost use Rattle.scrape_machine.specs.Machine as spec;
 ghost use Rattle.scrape_machine.specs.Runs as relabelling;
+ghost use Rattle.scrape_core.specs.ReadEvents.{finish_with};
 ghost use Rattle.scrape_laws.specs.Markers.{MarkerLaw, ReportMarkerLaw};
 ghost use Rattle.scrape_laws.specs.Runs.{ClosedRunsLaw};
 ghost use Rattle.scrape_laws.specs.Late.{LateLaw};
 ghost use Rattle.scrape_laws.specs.Undisturbed.{NothingLaw, UndisturbedLaw, IdleLaw, RefusedLaw};
 ghost use Rattle.scrape_laws.specs.Apart.{ApartLaw, ApartRunsLaw, ReloadLaw};
-ghost use Rattle.scrape_core.specs.Records.{IsFinishWith};
 
 use super::Core;
+use expo_reader::ReadBody;
 use journal_text::Event;
 use label_set::{NoMemory, Steps};
 use scrape_laws::laws::{
@@ -70,33 +71,34 @@ impl Core {
         self.take(alloc, event, steps)
     }
 
-    /// Takes a finish whose reply is read already, as `step` takes it: with the same answer, journal and book, without reading its body once more.
-    /// A finish carries no moment, so it may always follow.
-    /// After a refusal for want of memory the event is dropped and the core as before.
+    /// Takes the finish of a ticket after so many milliseconds, by a reply with this status whose body is read already, as `step` takes it: with the
+    /// same answer, journal and book, without reading the body once more. A finish carries no moment, so it may always follow.
+    /// After a refusal for want of memory the body is dropped and the core as before.
     pub fn finish_read<L: Ledger>(
         &mut self,
         alloc: Global,
-        event: Event,
-        reply: &ReadReply<'_>,
+        ticket: u64,
+        took: i64,
+        status: u16,
+        body: ReadBody,
         steps: &mut Steps<L>,
     ) -> Result<Answer, NoMemory>
-        requires limits { IsInLimits event }
-        requires finish { IsFinishWith reply.now event }
-        ensures answer { IfOk result (λ a. a ≡ spec.answer (spec.world_of self.old) event) }
-        ensures joined { OnOk result (self.new ≡ self.old ++ event ∷ []) }
+        requires { IsInLimits (finish_with ticket took status body.bytes) }
+        ensures answer { IfOk result (λ a. a ≡ spec.answer (spec.world_of self.old) (finish_with ticket took status body.bytes)) }
+        ensures joined { OnOk result (self.new ≡ self.old ++ finish_with ticket took status body.bytes ∷ []) }
         ensures err { OnErr result (self.new ≡ self.old) }
         ensures markers { MarkerLaw self.new }
         ensures closed_runs { (n : ℕ) (x : List Pair) → ClosedRunsLaw self.new n x }
         ensures report_markers { ReportMarkerLaw self.new }
         ensures late { LateLaw (spec.world_of self.new) }
-        ensures nothing { NothingLaw (spec.world_of self.old) event }
-        ensures undisturbed { UndisturbedLaw self.old event }
-        ensures idle { IdleLaw self.old event }
-        ensures refused { RefusedLaw self.old event }
-        ensures apart { ApartLaw self.old event }
+        ensures nothing { NothingLaw (spec.world_of self.old) (finish_with ticket took status body.bytes) }
+        ensures undisturbed { UndisturbedLaw self.old (finish_with ticket took status body.bytes) }
+        ensures idle { IdleLaw self.old (finish_with ticket took status body.bytes) }
+        ensures refused { RefusedLaw self.old (finish_with ticket took status body.bytes) }
+        ensures apart { ApartLaw self.old (finish_with ticket took status body.bytes) }
         ensures runs { (other : List Event) → ApartRunsLaw self.new other }
-        ensures reload { ReloadLaw self.old event }
-        ensures steps { OnOk result (steps.new ≡ steps.old + relabelling.runs (spec.world_of self.old) event) }
+        ensures reload { ReloadLaw self.old (finish_with ticket took status body.bytes) }
+        ensures steps { OnOk result (steps.new ≡ steps.old + relabelling.runs (spec.world_of self.old) (finish_with ticket took status body.bytes)) }
     {
         markers();
         closed_runs();
@@ -106,6 +108,6 @@ impl Core {
         undisturbed();
         lives_apart();
         reloads();
-        self.take_read(alloc, event, reply, steps)
+        self.take_read(alloc, ticket, took, ReadReply::with(status, body), steps)
     }
 }

@@ -3,7 +3,7 @@ use Rattle.scrape_machine.specs.Runs.{runs}
 use Rattle.scrape_machine.proofs.RunLemmas.{tick_runs, sweep_runs, halt_runs}
 use Rattle.scrape_core.specs.Kept.{live}
 use Rattle.scrape_core.proofs.StateLemmas.{appends_none, on_ok, load_gives, update_gives, halt_gives, halt_said, halt_left}
-use Rattle.scrape_core.proofs.events.take_live.Goals as goal
+use Rattle.scrape_core.proofs.events.take_other.Goals as goal
 
 pub returns-in-Load-clause-book : goal.returns-in-Load-clause-book
 returns-in-Load-clause-book g c =

@@ -1,0 +1,22 @@
+-- Events whose replies are read.
+use Rattle.std.specs.Prelude.{◌≡◌, ℕ, ℤ, List, false}
+use Rattle.journal_text.specs.declared.events.Event.{Event}
+use Rattle.journal_text.specs.declared.events.Event.TheVariants as event
+use Rattle.outside.specs.declared.replies.Reply.TheVariants.{Body}
+use Rattle.scrape_core.specs.Records.{is_finish}
+use Rattle.scrape_core.specs.declared.read_events.Told.{Told}
+use Rattle.scrape_core.specs.declared.read_events.Told.TheVariants.{Finish, Other}
+
+-- an event as it came
+abbrev pub event_of : Told → Event
+event_of (Finish ticket took reply) = event.Finish ticket took reply
+event_of (Other e) = e
+
+-- an event beside which nothing is kept is no finish
+abbrev pub IsUnread : Told → Type 0
+IsUnread (Finish ticket took reply) = Unit {0}
+IsUnread (Other e) = is_finish e ≡ false
+
+-- the finish of a ticket after so many milliseconds, by a body with a status
+abbrev pub finish_with : ℕ → ℤ → ℕ → List ℕ → Event
+finish_with ticket took status bytes = event.Finish ticket took (Body status bytes)

@@ -1,0 +1,127 @@
+//! Events whose replies are read.
+ghost use Rattle.std.specs.Prelude.{◌≡◌, false, IfOk};
+ghost use Rattle.journal_text.specs.declared.events.Event.TheVariants.{Finish};
+ghost use Rattle.scrape_core.specs.ReadEvents.{IsUnread, event_of};
+ghost use Rattle.scrape_core.specs.Records.{is_finish};
+
+use journal_text::Event;
+use label_set::NoMemory;
+use scrape_loop::ReadReply;
+use std::alloc::Global;
+use std::marker::Model;
+
+/// An event with what the body of its reply says, if it is a finish.
+#[derive(Drop)]
+pub(crate) enum Told {
+    Finish {
+        ticket: u64,
+        took: i64,
+        reply: ReadReply,
+    },
+    /// Any other event.
+    Other(Event),
+}
+
+/// An event whose reply is read, if it is a finish. Contracts see the event.
+#[derive(Drop)]
+pub struct ReadEvent {
+    told: Told,
+}
+
+impl Model for ReadEvent {
+    ghost use Rattle.journal_text.specs.declared.events.Event.{Event};
+
+    ghost Value = { Event };
+
+    ghost use Rattle.scrape_core.specs.ReadEvents.{IsUnread, event_of};
+
+    ghost view = { λ e. event_of e.told };
+
+    ghost invariant = { λ e. IsUnread e.told };
+}
+
+impl ReadEvent {
+    /// An event, whose reply is read if it is a finish.
+    ///
+    /// # Errors
+    ///
+    /// Only want of memory refuses; the event is then let go.
+    pub fn of(alloc: Global, event: Event) -> Result<ReadEvent, NoMemory>
+        ensures { IfOk result (λ e. e ≡ event) }
+    {
+        match event {
+            Event::Finish {
+                ticket,
+                took,
+                reply,
+            } => {
+                let reply = ReadReply::of(alloc, reply)?;
+                Ok(ReadEvent::finish(ticket, took, reply))
+            }
+            Event::Load { moment, text } => Ok(other(Event::Load { moment, text })),
+            Event::Targets {
+                moment,
+                job,
+                file,
+                text,
+            } => Ok(other(Event::Targets {
+                moment,
+                job,
+                file,
+                text,
+            })),
+            Event::Tick { moment, life } => Ok(other(Event::Tick { moment, life })),
+            Event::Sweep { moment } => Ok(other(Event::Sweep { moment })),
+            Event::Halt { moment } => Ok(other(Event::Halt { moment })),
+        }
+    }
+
+    /// The finish of a ticket after so many milliseconds, with a reply that is read.
+    pub fn finish(ticket: u64, took: i64, reply: ReadReply) -> ReadEvent
+        ensures { result ≡ Finish ticket took reply }
+    {
+        ReadEvent {
+            told: Told::Finish {
+                ticket,
+                took,
+                reply,
+            },
+        }
+    }
+
+    /// What it is.
+    pub(crate) fn told(&self) -> &Told
+        ensures event { event_of result.now ≡ self.now }
+        ensures unread { IsUnread result.now }
+    {
+        &self.told
+    }
+
+    /// Gives the event back, its bytes as they were.
+    pub fn into_event(self) -> Event
+        ensures { result ≡ self }
+    {
+        match self.told {
+            Told::Finish {
+                ticket,
+                took,
+                reply,
+            } => Event::Finish {
+                ticket,
+                took,
+                reply: reply.into_reply(),
+            },
+            Told::Other(event) => event,
+        }
+    }
+}
+
+/// An event that is no finish.
+fn other(event: Event) -> ReadEvent
+    requires { is_finish event ≡ false }
+    ensures { result ≡ event }
+{
+    ReadEvent {
+        told: Told::Other(event),
+    }
+}

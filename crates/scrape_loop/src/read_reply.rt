@@ -1,0 +1,165 @@
+//! The reply of a fetch, whose body is read.
+ghost use Rattle.std.specs.Prelude.{◌≡◌, false, length, None, true, IfOk};
+ghost use Rattle.expo_reader.specs.Bodies.{CauseIs, reading};
+ghost use Rattle.outside.specs.declared.replies.Reply.TheVariants.{Body};
+ghost use Rattle.sample_rows.specs.Outcomes as spec;
+ghost use Rattle.scrape_loop.specs.Replies.{IsRead, is_page, reply_of};
+
+use expo_reader::{BodyCause, ReadBody, Unread, read_body};
+use label_set::{Blob, NoMemory};
+use outside::Reply;
+use sample_rows::{RowRules, ScrapeFault, early_fault, early_read_fault};
+use std::alloc::Global;
+use std::marker::Model;
+
+/// The status of a reply whose body is looked at.
+const OK_STATUS: u16 = 200;
+
+/// A reply with what its body says: its rows, or the number of its first faulty line.
+#[derive(Drop)]
+pub(crate) enum Page {
+    Rows { status: u16, body: ReadBody },
+    Faulty { status: u16, bytes: Blob, line: u64 },
+    /// A reply of which no line is looked at: it has no body, or its status is another than 200.
+    Passed(Reply),
+}
+
+/// The reply of a fetch: where it has a body with status 200, that is read. It borrows nothing, and goes from thread to thread.
+/// Contracts see the reply.
+#[derive(Drop)]
+pub struct ReadReply {
+    page: Page,
+}
+
+impl Model for ReadReply {
+    ghost use Rattle.outside.specs.declared.replies.Reply.{Reply};
+
+    ghost Value = { Reply };
+
+    ghost use Rattle.scrape_loop.specs.Replies.{IsRead, reply_of};
+
+    ghost view = { λ r. reply_of r.page };
+
+    ghost invariant = { λ r. IsRead r.page };
+}
+
+/// What a body says that has a faulty line.
+fn faulty(status: u16, unread: Unread) -> Result<Page, NoMemory>
+    requires { CauseIs unread.cause (reading unread.bytes) }
+    ensures reply { IfOk result (λ p. reply_of p ≡ Body status unread.bytes) }
+    ensures read { IfOk result (λ p. IsRead p) }
+{
+    let Unread { bytes, cause } = unread;
+    match cause {
+        BodyCause::Line(line) => Ok(Page::Faulty {
+            status,
+            bytes,
+            line,
+        }),
+        BodyCause::NoMemory => Err(NoMemory),
+    }
+}
+
+/// Reads a body.
+fn page_of(alloc: Global, status: u16, bytes: Blob) -> Result<Page, NoMemory>
+    ensures reply { IfOk result (λ p. reply_of p ≡ Body status bytes) }
+    ensures read { IfOk result (λ p. IsRead p) }
+{
+    match read_body(alloc, bytes) {
+        Ok(body) => Ok(rows(status, body)),
+        Err(unread) => faulty(status, unread),
+    }
+}
+
+/// A body that is read.
+fn rows(status: u16, body: ReadBody) -> Page
+    ensures reply { reply_of result ≡ Body status body.bytes }
+    ensures read { IsRead result }
+{
+    let _bytes = body.bytes();
+    Page::Rows { status, body }
+}
+
+/// A body, read where its status is 200.
+fn looked_at(alloc: Global, status: u16, bytes: Blob) -> Result<Page, NoMemory>
+    ensures reply { IfOk result (λ p. reply_of p ≡ Body status bytes) }
+    ensures read { IfOk result (λ p. IsRead p) }
+{
+    if status != OK_STATUS {
+        return Ok(Page::Passed(Reply::Body { status, bytes }));
+    }
+    page_of(alloc, status, bytes)
+}
+
+impl ReadReply {
+    /// A reply, whose body is read where its status is 200: one that is no exposition text up to its first faulty line.
+    ///
+    /// # Errors
+    ///
+    /// Only want of memory refuses; the reply is then let go.
+    pub fn of(alloc: Global, reply: Reply) -> Result<ReadReply, NoMemory>
+        ensures { IfOk result (λ r. r ≡ reply) }
+    {
+        let page = match reply {
+            Reply::Body { status, bytes } => looked_at(alloc, status, bytes)?,
+            Reply::Lost => Page::Passed(Reply::Lost),
+            Reply::Garbled => Page::Passed(Reply::Garbled),
+            Reply::Unsent => Page::Passed(Reply::Unsent),
+            Reply::Oversize => Page::Passed(Reply::Oversize),
+        };
+        Ok(ReadReply { page })
+    }
+
+    /// The reply with a body that was read.
+    pub fn with(status: u16, body: ReadBody) -> ReadReply
+        ensures { result ≡ Body status body.bytes }
+    {
+        ReadReply {
+            page: rows(status, body),
+        }
+    }
+
+    /// Gives the reply back, its bytes as they were.
+    pub fn into_reply(self) -> Reply
+        ensures { result ≡ self }
+    {
+        match self.page {
+            Page::Rows { status, body } => Reply::Body {
+                status,
+                bytes: body.into_bytes(),
+            },
+            Page::Faulty {
+                status,
+                bytes,
+                line: _,
+            } => Reply::Body { status, bytes },
+            Page::Passed(reply) => reply,
+        }
+    }
+
+    /// What it says.
+    pub(crate) fn page(&self) -> &Page
+        ensures reply { reply_of result.now ≡ self.now }
+        ensures read { IsRead result.now }
+    {
+        &self.page
+    }
+
+    /// The fault for which none of its rows is looked at, by its time in milliseconds, its status and its size.
+    #[tactic(auto, unfolding(sample_rows::specs::Outcomes::early_fault))]
+    pub(crate) fn early_fault(&self, rules: &RowRules, took: i64) -> Option<ScrapeFault>
+        ensures { result ≡ spec.early_fault rules.now self.now took }
+    {
+        match &self.page {
+            Page::Rows { status, body } => {
+                early_read_fault(rules, *status, body.bytes().len(), took)
+            }
+            Page::Faulty {
+                status,
+                bytes,
+                line: _,
+            } => early_read_fault(rules, *status, bytes.as_slice().len(), took),
+            Page::Passed(reply) => early_fault(rules, reply, took),
+        }
+    }
+}
