@@ -58,7 +58,8 @@ impl JobNames {
 
     /// Adds a name behind the others.
     pub fn push(&mut self, alloc: Global, name: &Name) -> Result<(), NoMemory>
-        ensures { OnOk result (self.new ≡ self.old ++ name.now ∷ []) }
+        ensures joined { OnOk result (self.new ≡ self.old ++ name.now ∷ []) }
+        ensures err { OnErr result (self.new ≡ self.old) }
     {
         let place = self.names.as_slice().len();
         self.names.reserve(1)?;

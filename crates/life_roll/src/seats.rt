@@ -50,7 +50,8 @@ impl Seats {
 
     /// Puts a target of a job there.
     pub fn put(&mut self, seat: Seat) -> Result<(), NoMemory>
-        ensures { OnOk result (spec.IsWith self.new self.old seat) }
+        ensures with { OnOk result (spec.IsWith self.new self.old seat) }
+        ensures err { OnErr result (self.new.set.keys ≡ self.old.set.keys) }
     {
         let _ = self.set.insert(seat)?;
         Ok(())

@@ -136,7 +136,8 @@ fn handed_back<C, K, F>(status: u8, control: C, clock: K, fetchers: Vec<F>) -> F
 }
 
 /// The program: takes the words after its name, and answers the exit status. All commands but `run` go through `tool_still`, whose table says
-/// how they end; for them the trail is left alone, and so are control, clock and fetchers. There are 1 to 1,000 fetchers.
+/// how they end; for them the trail is left alone (`alone`), and control, clock and fetchers come back as they were (`same`). There are 1 to 1,000
+/// fetchers.
 ///
 /// `run` loads the file of the words at the clock's reading, makes so many sweeps while control gives its lines, and writes the text of the
 /// run's journal to the trail, and then the text of its book to `out`:
@@ -179,6 +180,8 @@ pub fn tool<
         (used (S.seen shelf.old) (S.seen shelf.new)) (used (O.seen out.old) (O.seen out.new)) (used (E.seen err.old) (E.seen err.new))) }
     ensures alone { IsStill (order_in (map string_bytes words.now)) → IsAlone (used (R.seen trail.old) (R.seen trail.new))
         (used (map F.seen fetchers.items) (map F.seen result.fetchers.items)) }
+    ensures same { IsStill (order_in (map string_bytes words.now)) →
+        (result.control ≡ Some control) × (result.clock ≡ Some clock) × (result.fetchers ≡ fetchers) }
     ensures live { (r : Running) → order_in (map string_bytes words.now) ≡ Some (Run r) → EndedLive result.status r
         (touched (used (S.seen shelf.old) (S.seen shelf.new)) (used (O.seen out.old) (O.seen out.new)) (used (E.seen err.old) (E.seen err.new))
         (used (R.seen trail.old) (R.seen trail.new)) (C.seen control).left (used (map F.seen fetchers.items) (map F.seen result.fetchers.items))) }

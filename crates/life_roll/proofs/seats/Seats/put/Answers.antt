@@ -7,8 +7,8 @@ use Rattle.life_roll.specs.declared.seats.Seat.{Seat}
 use Rattle.life_roll.proofs.SeatLemmas.{any_insert, seats_alike}
 use Rattle.life_roll.proofs.seats.Seats.put.Goals as goal
 
-pub returns : goal.returns
-returns c = λ job identity.
+pub returns-clause-with : goal.returns-clause-with
+returns-clause-with c = λ job identity.
     ap (λ ks. list_any (spec.is_seat job identity) ks) c.in_ok-insert.ensures.keys
     ∙ any_insert (spec.is_seat job identity) seat.ghosts.eq c.args.self.now.set.keys c.args.seat
     (λ (k : Seat) h.
