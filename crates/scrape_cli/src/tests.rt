@@ -139,24 +139,6 @@ impl Shelf for FullShelf {
     }
 }
 
-#[test]
-fn files_that_are_not_read(rt: HostRuntime) -> Result<(), Fail> {
-    let means = means_of(&rt)?;
-    let alloc = means.alloc;
-    for command in ["replay", "check"] {
-        let words = words_of(alloc, &[command, "s"])?;
-        let mut failing = MemShelf::new(files(alloc, b"{}")?, fails(alloc, &[0])?)?;
-        let ran = run_over(means, words.as_slice(), &mut failing, ROOM, &[])?;
-        assert_left(&rt, &ran, 6, b"", b"scrape: read fault\n");
-        let mut long = LongShelf { overs: 0 };
-        let ran = run_over(means, words.as_slice(), &mut long, ROOM, &[])?;
-        assert_left(&rt, &ran, 9, b"", b"scrape: too long s\n");
-        let ran = run_over(means, words.as_slice(), &mut FullShelf, ROOM, &[])?;
-        assert_left(&rt, &ran, 8, b"", b"scrape: no memory\n");
-    }
-    Ok(())
-}
-
 /// A script whose only body has so many lines `x 1`.
 fn long_script(alloc: Global, lines: usize) -> Result<Vec<u8>, Fail> {
     let mut script = Vec::from_slice(alloc, ONE_LOAD.as_bytes())?;
@@ -196,30 +178,44 @@ fn each_put_of_a_long_output_may_fail(rt: HostRuntime) -> Result<(), Fail> {
 }
 
 #[test]
-fn lines_that_are_not_taken(rt: HostRuntime) -> Result<(), Fail> {
-    let means = means_of(&rt)?;
-    let alloc = means.alloc;
-    let words = words_of(alloc, &["check", "s"])?;
-    let mut shelf = SureShelf::new(files(alloc, ONE_JOB.as_bytes())?)?;
-    for (room, calls) in [(ROOM, &[0].as_slice()), (4, &[].as_slice())] {
-        let ran = run_over(means, words.as_slice(), &mut shelf, room, calls)?;
-        assert_left(&rt, &ran, 7, b"", b"scrape: write fault\n");
+fn calls_that_fail_have_their_status(rt: HostRuntime) -> Result<(), Fail> {
+    {
+        let means = means_of(&rt)?;
+        let alloc = means.alloc;
+        for command in ["replay", "check"] {
+            let words = words_of(alloc, &[command, "s"])?;
+            let mut failing = MemShelf::new(files(alloc, b"{}")?, fails(alloc, &[0])?)?;
+            let ran = run_over(means, words.as_slice(), &mut failing, ROOM, &[])?;
+            assert_left(&rt, &ran, 6, b"", b"scrape: read fault\n");
+            let mut long = LongShelf { overs: 0 };
+            let ran = run_over(means, words.as_slice(), &mut long, ROOM, &[])?;
+            assert_left(&rt, &ran, 9, b"", b"scrape: too long s\n");
+            let ran = run_over(means, words.as_slice(), &mut FullShelf, ROOM, &[])?;
+            assert_left(&rt, &ran, 8, b"", b"scrape: no memory\n");
+        }
     }
-    Ok(())
-}
-
-#[test]
-fn status_stands_where_the_message_is_not_taken(rt: HostRuntime) -> Result<(), Fail> {
-    let means = means_of(&rt)?;
-    let alloc = means.alloc;
-    let words = words_of(alloc, &["replay", "none"])?;
-    let mut shelf = SureShelf::new(files(alloc, b"")?)?;
-    let mut out = SureSink::new()?;
-    for call in 0..4 {
-        let mut err = MemSink::new(alloc, ROOM, fails(alloc, &[call])?)?;
-        let status = tool_still(means, words.as_slice(), &mut shelf, &mut out, &mut err);
-        assert_eq!(rt; status, 3);
-        assert!(rt; b"scrape: absent none\n".starts_with(err.bytes()));
+    {
+        let means = means_of(&rt)?;
+        let alloc = means.alloc;
+        let words = words_of(alloc, &["check", "s"])?;
+        let mut shelf = SureShelf::new(files(alloc, ONE_JOB.as_bytes())?)?;
+        for (room, calls) in [(ROOM, &[0].as_slice()), (4, &[].as_slice())] {
+            let ran = run_over(means, words.as_slice(), &mut shelf, room, calls)?;
+            assert_left(&rt, &ran, 7, b"", b"scrape: write fault\n");
+        }
+    }
+    {
+        let means = means_of(&rt)?;
+        let alloc = means.alloc;
+        let words = words_of(alloc, &["replay", "none"])?;
+        let mut shelf = SureShelf::new(files(alloc, b"")?)?;
+        let mut out = SureSink::new()?;
+        for call in 0..4 {
+            let mut err = MemSink::new(alloc, ROOM, fails(alloc, &[call])?)?;
+            let status = tool_still(means, words.as_slice(), &mut shelf, &mut out, &mut err);
+            assert_eq!(rt; status, 3);
+            assert!(rt; b"scrape: absent none\n".starts_with(err.bytes()));
+        }
     }
     Ok(())
 }
@@ -246,32 +242,31 @@ fn wide(alloc: Global, jobs: u8, fields: &str) -> Result<Vec<u8>, Fail> {
 }
 
 #[test]
-fn all_jobs_list_at_most_100000_targets(rt: HostRuntime) -> Result<(), Fail> {
-    let means = means_of(&rt)?;
-    let alloc = means.alloc;
-    let full = run_on(means, "check", wide(alloc, 10, "")?.as_slice())?;
-    assert_left(&rt, &full, 0, b"ok 10\n", b"");
-    let more = run_on(means, "check", wide(alloc, 11, "")?.as_slice())?;
-    assert_left(&rt, &more, 4, b"", b"scrape: config TooMany  100000\n");
-    // a pattern is told before the crowd
-    let pattern = r#""relabel_configs":[{"action":"drop","regex":"("}],"#;
-    let ran = run_on(means, "check", wide(alloc, 11, pattern)?.as_slice())?;
-    let told = b"scrape: config Rule /scrape_configs/0/relabel_configs/0/regex\n";
-    assert_left(&rt, &ran, 4, b"", told);
-    Ok(())
-}
-
-#[test]
-fn configurations_of_4_mib_are_read(rt: HostRuntime) -> Result<(), Fail> {
-    let means = means_of(&rt)?;
-    let alloc = means.alloc;
-    let mut text = Vec::from_slice(alloc, b"{}")?;
-    text.resize(4_194_304, b' ')?;
-    let full = run_on(means, "check", text.as_slice())?;
-    assert_left(&rt, &full, 0, b"ok 0\n", b"");
-    text.push(b' ')?;
-    let longer = run_on(means, "check", text.as_slice())?;
-    assert_left(&rt, &longer, 9, b"", b"scrape: too long s\n");
+fn configurations_have_limits(rt: HostRuntime) -> Result<(), Fail> {
+    {
+        let means = means_of(&rt)?;
+        let alloc = means.alloc;
+        let full = run_on(means, "check", wide(alloc, 10, "")?.as_slice())?;
+        assert_left(&rt, &full, 0, b"ok 10\n", b"");
+        let more = run_on(means, "check", wide(alloc, 11, "")?.as_slice())?;
+        assert_left(&rt, &more, 4, b"", b"scrape: config TooMany  100000\n");
+        // a pattern is told before the crowd
+        let pattern = r#""relabel_configs":[{"action":"drop","regex":"("}],"#;
+        let ran = run_on(means, "check", wide(alloc, 11, pattern)?.as_slice())?;
+        let told = b"scrape: config Rule /scrape_configs/0/relabel_configs/0/regex\n";
+        assert_left(&rt, &ran, 4, b"", told);
+    }
+    {
+        let means = means_of(&rt)?;
+        let alloc = means.alloc;
+        let mut text = Vec::from_slice(alloc, b"{}")?;
+        text.resize(4_194_304, b' ')?;
+        let full = run_on(means, "check", text.as_slice())?;
+        assert_left(&rt, &full, 0, b"ok 0\n", b"");
+        text.push(b' ')?;
+        let longer = run_on(means, "check", text.as_slice())?;
+        assert_left(&rt, &longer, 9, b"", b"scrape: too long s\n");
+    }
     Ok(())
 }
 
@@ -339,34 +334,35 @@ fn assert_summed(
     Ok(())
 }
 
-#[test]
-fn the_summary_of_a_script_is_that_of_its_replay(rt: HostRuntime) -> Result<(), Fail> {
-    let means = means_of(&rt)?;
-    let script = make_script(means.alloc, 4294967295, 3, 4)?;
-    let numbers = Numbers {
-        seed: 4294967295,
-        targets: 3,
-        scrapes: 4,
-    };
-    assert_summed(&rt, means, script.as_slice(), numbers)?;
-    let script = make_script(means.alloc, 0, 1, 0)?;
-    let numbers = Numbers {
-        seed: 0,
-        targets: 1,
-        scrapes: 0,
-    };
-    assert_summed(&rt, means, script.as_slice(), numbers)
-}
-
 /// A journal of 3,007 events with 400,000 entries.
 #[test]
 fn generated_journal(rt: HostRuntime) -> Result<(), Fail> {
-    let means = means_of(&rt)?;
-    let script = make_script(means.alloc, 7, 1000, 3)?;
-    let numbers = Numbers {
-        seed: 7,
-        targets: 1000,
-        scrapes: 3,
-    };
-    assert_summed(&rt, means, script.as_slice(), numbers)
+    {
+        let means = means_of(&rt)?;
+        let script = make_script(means.alloc, 4294967295, 3, 4)?;
+        let numbers = Numbers {
+            seed: 4294967295,
+            targets: 3,
+            scrapes: 4,
+        };
+        assert_summed(&rt, means, script.as_slice(), numbers)?;
+        let script = make_script(means.alloc, 0, 1, 0)?;
+        let numbers = Numbers {
+            seed: 0,
+            targets: 1,
+            scrapes: 0,
+        };
+        assert_summed(&rt, means, script.as_slice(), numbers)?;
+    }
+    {
+        let means = means_of(&rt)?;
+        let script = make_script(means.alloc, 7, 1000, 3)?;
+        let numbers = Numbers {
+            seed: 7,
+            targets: 1000,
+            scrapes: 3,
+        };
+        assert_summed(&rt, means, script.as_slice(), numbers)?;
+    }
+    Ok(())
 }

@@ -79,24 +79,23 @@ fn is_judged(book: &Book) -> bool {
 }
 
 #[test]
-fn entries_are_judged_as_they_are_appended(rt: HostRuntime) -> Result<(), Fail> {
-    let mut book = Book::new(rt.alloc())?;
-    append_judged(rt.alloc(), &mut book)?;
-    assert!(rt; is_judged(&book));
-    assert_eq!(rt; book.len(), 10);
-    assert_eq!(rt; book.entry(4).map(|e| e.moment), Some(999));
-    assert!(rt; book.entry(10).is_none() && book.verdict(10).is_none());
-    Ok(())
-}
-
-#[test]
-fn a_book_with_a_seed_judges_alike(rt: HostRuntime) -> Result<(), Fail> {
-    let Ok(seed) = RandomState::new(&rt) else {
-        panic!(rt; "no seed");
-    };
-    let mut book = Book::seeded(rt.alloc(), seed)?;
-    append_judged(rt.alloc(), &mut book)?;
-    assert!(rt; is_judged(&book));
+fn a_book_judges_its_entries(rt: HostRuntime) -> Result<(), Fail> {
+    {
+        let mut book = Book::new(rt.alloc())?;
+        append_judged(rt.alloc(), &mut book)?;
+        assert!(rt; is_judged(&book));
+        assert_eq!(rt; book.len(), 10);
+        assert_eq!(rt; book.entry(4).map(|e| e.moment), Some(999));
+        assert!(rt; book.entry(10).is_none() && book.verdict(10).is_none());
+    }
+    {
+        let Ok(seed) = RandomState::new(&rt) else {
+            panic!(rt; "no seed");
+        };
+        let mut book = Book::seeded(rt.alloc(), seed)?;
+        append_judged(rt.alloc(), &mut book)?;
+        assert!(rt; is_judged(&book));
+    }
     Ok(())
 }
 
@@ -134,24 +133,23 @@ fn append_series(alloc: Global, book: &mut Book) -> Result<(), NoMemory> {
 
 #[test]
 fn a_series_is_found_in_any_order(rt: HostRuntime) -> Result<(), Fail> {
-    let mut book = Book::new(rt.alloc())?;
-    append_series(rt.alloc(), &mut book)?;
-    for (place, row) in SERIES.iter().enumerate() {
-        let verdict = if row.1 { Verdict::Kept } else { Verdict::Same };
-        assert_eq!(rt; book.verdict(place), Some(verdict), "{place}");
+    {
+        let mut book = Book::new(rt.alloc())?;
+        append_series(rt.alloc(), &mut book)?;
+        for (place, row) in SERIES.iter().enumerate() {
+            let verdict = if row.1 { Verdict::Kept } else { Verdict::Same };
+            assert_eq!(rt; book.verdict(place), Some(verdict), "{place}");
+        }
     }
-    Ok(())
-}
-
-#[test]
-fn a_series_keeps_its_number(rt: HostRuntime) -> Result<(), Fail> {
-    let mut book = Book::new(rt.alloc())?;
-    append_series(rt.alloc(), &mut book)?;
-    for (place, row) in SERIES.iter().enumerate() {
-        assert_eq!(rt; book.series_at(place), Some(row.2));
+    {
+        let mut book = Book::new(rt.alloc())?;
+        append_series(rt.alloc(), &mut book)?;
+        for (place, row) in SERIES.iter().enumerate() {
+            assert_eq!(rt; book.series_at(place), Some(row.2));
+        }
+        assert!(rt; book.series_at(20).is_none() && book.series_count() == 5);
+        assert!(rt; book.entry_of(4).is_some() && book.entry_of(5).is_none());
+        assert_eq!(rt; book.longest_value(), 1);
     }
-    assert!(rt; book.series_at(20).is_none() && book.series_count() == 5);
-    assert!(rt; book.entry_of(4).is_some() && book.entry_of(5).is_none());
-    assert_eq!(rt; book.longest_value(), 1);
     Ok(())
 }

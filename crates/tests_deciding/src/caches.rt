@@ -111,110 +111,98 @@ fn first(alloc: Global) -> Result<SeriesCache, NoMemory> {
 }
 
 #[test]
-fn tells_what_vanishes(rt: HostRuntime) -> Result<(), NoMemory> {
-    let mut cache = first(rt.alloc())?;
-    assert!(rt; vanish(rt.alloc(), &cache, &["left", "up"])?);
-    show(rt.alloc(), &mut cache, line("left", false))?;
-    show(rt.alloc(), &mut cache, line("up", true))?;
-    assert!(rt; vanish(rt.alloc(), &cache, &["left"])?);
+fn what_a_good_scrape_showed_is_remembered(rt: HostRuntime) -> Result<(), NoMemory> {
+    {
+        let mut cache = first(rt.alloc())?;
+        assert!(rt; is_dropped(&cache, "down"));
+        show(rt.alloc(), &mut cache, line("up", true))?;
+        cache.turn(true);
+        assert!(rt; is_series(rt.alloc(), &cache, "up")?);
+        assert!(rt; is_unknown(&cache, "down"));
+    }
+    {
+        let mut cache = first(rt.alloc())?;
+        show(rt.alloc(), &mut cache, line("right", true))?;
+        cache.clear();
+        assert!(rt; cache.is_empty() && is_unknown(&cache, "up"));
+        assert!(rt; vanish(rt.alloc(), &cache, &[])?);
+        show(rt.alloc(), &mut cache, line("up", true))?;
+        assert!(rt; is_series(rt.alloc(), &cache, "up")?);
+    }
     Ok(())
 }
 
 #[test]
-fn keeps_a_series_that_another_text_has(rt: HostRuntime) -> Result<(), NoMemory> {
-    let mut cache = first(rt.alloc())?;
-    let again = Shown {
-        raw: "up again",
-        name: Some("up"),
-        tracked: true,
-    };
-    show(rt.alloc(), &mut cache, again)?;
-    assert!(rt; vanish(rt.alloc(), &cache, &["left"])?);
+fn what_vanishes_is_told(rt: HostRuntime) -> Result<(), NoMemory> {
+    {
+        let mut cache = first(rt.alloc())?;
+        assert!(rt; vanish(rt.alloc(), &cache, &["left", "up"])?);
+        show(rt.alloc(), &mut cache, line("left", false))?;
+        show(rt.alloc(), &mut cache, line("up", true))?;
+        assert!(rt; vanish(rt.alloc(), &cache, &["left"])?);
+    }
+    {
+        let mut cache = first(rt.alloc())?;
+        let again = Shown {
+            raw: "up again",
+            name: Some("up"),
+            tracked: true,
+        };
+        show(rt.alloc(), &mut cache, again)?;
+        assert!(rt; vanish(rt.alloc(), &cache, &["left"])?);
+    }
+    {
+        let mut cache = first(rt.alloc())?;
+        show_all(
+            rt.alloc(),
+            &mut cache,
+            &[line("up", true), line("right", true)],
+        )?;
+        cache.undo();
+        assert!(rt; is_unknown(&cache, "right"));
+        assert!(rt; vanish(rt.alloc(), &cache, &["left", "up"])?);
+    }
+    {
+        let mut cache = first(rt.alloc())?;
+        show(rt.alloc(), &mut cache, line("right", true))?;
+        cache.turn(false);
+        assert!(rt; is_unknown(&cache, "right"));
+        assert!(rt; is_series(rt.alloc(), &cache, "up")?);
+        assert!(rt; vanish(rt.alloc(), &cache, &[])?);
+    }
+    {
+        let cache = first(rt.alloc())?;
+        let sets = cache.tracked_list(rt.alloc())?;
+        assert_eq!(rt; sets.items.len(), 2);
+        assert!(rt; sets.items[0] == series(rt.alloc(), "left")?);
+    }
     Ok(())
 }
 
 #[test]
-fn remembers_what_a_good_scrape_showed(rt: HostRuntime) -> Result<(), NoMemory> {
-    let mut cache = first(rt.alloc())?;
-    assert!(rt; is_dropped(&cache, "down"));
-    show(rt.alloc(), &mut cache, line("up", true))?;
-    cache.turn(true);
-    assert!(rt; is_series(rt.alloc(), &cache, "up")?);
-    assert!(rt; is_unknown(&cache, "down"));
-    Ok(())
-}
-
-#[test]
-fn takes_back_what_was_shown(rt: HostRuntime) -> Result<(), NoMemory> {
-    let mut cache = first(rt.alloc())?;
-    show_all(
-        rt.alloc(),
-        &mut cache,
-        &[line("up", true), line("right", true)],
-    )?;
-    cache.undo();
-    assert!(rt; is_unknown(&cache, "right"));
-    assert!(rt; vanish(rt.alloc(), &cache, &["left", "up"])?);
-    Ok(())
-}
-
-#[test]
-fn tracks_nothing_after_a_failed_scrape(rt: HostRuntime) -> Result<(), NoMemory> {
-    let mut cache = first(rt.alloc())?;
-    show(rt.alloc(), &mut cache, line("right", true))?;
-    cache.turn(false);
-    assert!(rt; is_unknown(&cache, "right"));
-    assert!(rt; is_series(rt.alloc(), &cache, "up")?);
-    assert!(rt; vanish(rt.alloc(), &cache, &[])?);
-    Ok(())
-}
-
-#[test]
-fn knows_nothing_once_it_is_cleared(rt: HostRuntime) -> Result<(), NoMemory> {
-    let mut cache = first(rt.alloc())?;
-    show(rt.alloc(), &mut cache, line("right", true))?;
-    cache.clear();
-    assert!(rt; cache.is_empty() && is_unknown(&cache, "up"));
-    assert!(rt; vanish(rt.alloc(), &cache, &[])?);
-    show(rt.alloc(), &mut cache, line("up", true))?;
-    assert!(rt; is_series(rt.alloc(), &cache, "up")?);
-    Ok(())
-}
-
-#[test]
-fn tells_how_many_series_are_added(rt: HostRuntime) -> Result<(), NoMemory> {
-    let mut cache = first(rt.alloc())?;
-    show(rt.alloc(), &mut cache, line("up", true))?;
-    assert_eq!(rt; cache.added(rt.alloc())?, 0);
-    let again = Shown {
-        raw: "up again",
-        name: Some("up"),
-        tracked: true,
-    };
-    show(rt.alloc(), &mut cache, again)?;
-    show(rt.alloc(), &mut cache, line("right", false))?;
-    assert_eq!(rt; cache.added(rt.alloc())?, 1);
-    Ok(())
-}
-
-#[test]
-fn lists_what_is_tracked(rt: HostRuntime) -> Result<(), NoMemory> {
-    let cache = first(rt.alloc())?;
-    let sets = cache.tracked_list(rt.alloc())?;
-    assert_eq!(rt; sets.items.len(), 2);
-    assert!(rt; sets.items[0] == series(rt.alloc(), "left")?);
-    Ok(())
-}
-
-#[test]
-fn counts_what_was_put(rt: HostRuntime) -> Result<(), NoMemory> {
-    let mut cache = first(rt.alloc())?;
-    assert_eq!(rt; cache.put_count(), 0);
-    show(rt.alloc(), &mut cache, line("up", true))?;
-    show(rt.alloc(), &mut cache, line("right", true))?;
-    show(rt.alloc(), &mut cache, line("right", true))?;
-    assert_eq!(rt; cache.put_count(), 1);
-    cache.turn(true);
-    assert_eq!(rt; cache.put_count(), 0);
+fn what_is_new_is_counted(rt: HostRuntime) -> Result<(), NoMemory> {
+    {
+        let mut cache = first(rt.alloc())?;
+        show(rt.alloc(), &mut cache, line("up", true))?;
+        assert_eq!(rt; cache.added(rt.alloc())?, 0);
+        let again = Shown {
+            raw: "up again",
+            name: Some("up"),
+            tracked: true,
+        };
+        show(rt.alloc(), &mut cache, again)?;
+        show(rt.alloc(), &mut cache, line("right", false))?;
+        assert_eq!(rt; cache.added(rt.alloc())?, 1);
+    }
+    {
+        let mut cache = first(rt.alloc())?;
+        assert_eq!(rt; cache.put_count(), 0);
+        show(rt.alloc(), &mut cache, line("up", true))?;
+        show(rt.alloc(), &mut cache, line("right", true))?;
+        show(rt.alloc(), &mut cache, line("right", true))?;
+        assert_eq!(rt; cache.put_count(), 1);
+        cache.turn(true);
+        assert_eq!(rt; cache.put_count(), 0);
+    }
     Ok(())
 }

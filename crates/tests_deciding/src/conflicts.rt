@@ -1,8 +1,8 @@
 //! Labels of lines and targets that bear the same name. More of them the cases show.
 use crate::shared::set_of;
-use expo_reader::read_lent;
+use expo_reader::read_body;
 use label_conflict::merge;
-use label_set::{LabelSet, NoMemory};
+use label_set::{Blob, LabelSet, NoMemory};
 use sample_rows::left::is_named;
 use std::alloc::{AllocError, Global};
 use std::test::Fail;
@@ -59,15 +59,14 @@ fn joined(
     target: &LabelSet,
     honor: bool,
 ) -> Result<LabelSet, NoMemory> {
-    let Ok(body) = read_lent(alloc, line.as_bytes()) else {
+    let Ok(body) = read_body(alloc, Blob::from_slice(alloc, line.as_bytes())?) else {
         return Err(NoMemory);
     };
     if body.len() == 0 || is_named(target) {
         return Err(NoMemory);
     }
-    let row = body.row(0);
-    let labels = row.label_copies(alloc)?;
-    merge(alloc, name, labels.as_slice(), target, honor)
+    let row = body.row(0).copied(alloc)?;
+    merge(alloc, name, row.labels.as_slice(), target, honor)
 }
 
 /// The text of that set.
@@ -84,16 +83,6 @@ fn joined_text(
     Ok(text)
 }
 
-#[test]
-fn labels_of_a_line_are_kept_or_renamed(rt: HostRuntime) -> Result<(), Fail> {
-    for &(name, line, labels, honor, want) in ROWS {
-        let target = set_of(rt.alloc(), labels)?;
-        let text = joined_text(rt.alloc(), name, line, &target, honor)?;
-        assert_eq!(rt; text.as_slice(), want.as_bytes(), "{want}");
-    }
-    Ok(())
-}
-
 /// A line with the labels `a0=v` to `a39=v`.
 fn many_labels(alloc: Global) -> Result<String, AllocError> {
     let mut text = String::from_str(alloc, "x{")?;
@@ -107,12 +96,21 @@ fn many_labels(alloc: Global) -> Result<String, AllocError> {
 }
 
 #[test]
-fn many_labels_conflict(rt: HostRuntime) -> Result<(), Fail> {
-    let line = many_labels(rt.alloc())?;
-    let target = joined(rt.alloc(), "", line.as_str(), &LabelSet::empty(), true)?;
-    for (honor, count) in [(false, 81), (true, 41)] {
-        let set = joined(rt.alloc(), "x", line.as_str(), &target, honor)?;
-        assert_eq!(rt; set.len(), count);
+fn labels_are_kept_or_renamed(rt: HostRuntime) -> Result<(), Fail> {
+    {
+        for &(name, line, labels, honor, want) in ROWS {
+            let target = set_of(rt.alloc(), labels)?;
+            let text = joined_text(rt.alloc(), name, line, &target, honor)?;
+            assert_eq!(rt; text.as_slice(), want.as_bytes(), "{want}");
+        }
+    }
+    {
+        let line = many_labels(rt.alloc())?;
+        let target = joined(rt.alloc(), "", line.as_str(), &LabelSet::empty(), true)?;
+        for (honor, count) in [(false, 81), (true, 41)] {
+            let set = joined(rt.alloc(), "x", line.as_str(), &target, honor)?;
+            assert_eq!(rt; set.len(), count);
+        }
     }
     Ok(())
 }

@@ -43,21 +43,6 @@ fn shown(alloc: Global, entries: &EntryList) -> Result<Vec<u8>, NoMemory> {
     Ok(text)
 }
 
-#[test]
-fn an_ending_is_due_an_interval_and_a_tenth_behind_its_markers(rt: HostRuntime) {
-    assert_eq!(rt; marker_at(2500, 2000), 2500);
-    assert_eq!(rt; marker_at(2500, 2501), 2501);
-    assert_eq!(rt; due_at(2500, 2000, 1009), 3609);
-}
-
-#[test]
-fn an_ending_has_markers_of_series_and_reports(rt: HostRuntime) -> Result<(), Fail> {
-    let closing = closing(rt.alloc())?;
-    let entries = ending_entries(rt.alloc(), &closing)?;
-    assert!(rt; shown(rt.alloc(), &entries)?.as_slice() == ENDING.as_bytes());
-    Ok(())
-}
-
 /// The endings of that life alone.
 fn one_ending(alloc: Global) -> Result<Endings, NoMemory> {
     let mut endings = Endings::new(alloc)?;
@@ -67,13 +52,25 @@ fn one_ending(alloc: Global) -> Result<Endings, NoMemory> {
 }
 
 #[test]
-fn an_ending_is_taken_once(rt: HostRuntime) -> Result<(), Fail> {
-    let mut endings = one_ending(rt.alloc())?;
-    assert!(rt; !endings.due(3608) && endings.due(3609));
-    assert!(rt; !endings.take(7, 3608));
-    assert_eq!(rt; endings.entries(rt.alloc(), 7)?.items.len(), 6);
-    assert!(rt; endings.take(7, 3609));
-    assert!(rt; !endings.take(7, 3609) && !endings.due(3609));
-    assert!(rt; endings.entries(rt.alloc(), 7)?.items.is_empty());
+fn an_ending_is_due_and_taken_once(rt: HostRuntime) -> Result<(), Fail> {
+    {
+        assert_eq!(rt; marker_at(2500, 2000), 2500);
+        assert_eq!(rt; marker_at(2500, 2501), 2501);
+        assert_eq!(rt; due_at(2500, 2000, 1009), 3609);
+    }
+    {
+        let closing = closing(rt.alloc())?;
+        let entries = ending_entries(rt.alloc(), &closing)?;
+        assert!(rt; shown(rt.alloc(), &entries)?.as_slice() == ENDING.as_bytes());
+    }
+    {
+        let mut endings = one_ending(rt.alloc())?;
+        assert!(rt; !endings.due(3608) && endings.due(3609));
+        assert!(rt; !endings.take(7, 3608));
+        assert_eq!(rt; endings.entries(rt.alloc(), 7)?.items.len(), 6);
+        assert!(rt; endings.take(7, 3609));
+        assert!(rt; !endings.take(7, 3609) && !endings.due(3609));
+        assert!(rt; endings.entries(rt.alloc(), 7)?.items.is_empty());
+    }
     Ok(())
 }

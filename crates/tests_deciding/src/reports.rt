@@ -57,26 +57,6 @@ fn both_reports(alloc: Global, target: &LabelSet) -> Result<Vec<u8>, NoMemory> {
     Ok(text)
 }
 
-#[test]
-fn each_scrape_has_five_reports(rt: HostRuntime) -> Result<(), Fail> {
-    let target = target(rt.alloc())?;
-    let text = both_reports(rt.alloc(), &target)?;
-    assert!(rt; text.as_slice() == REPORTS.as_bytes());
-    Ok(())
-}
-
-#[test]
-fn a_report_has_the_labels_of_its_target(rt: HostRuntime) -> Result<(), Fail> {
-    let target = target(rt.alloc())?;
-    for (report, name) in [(Report::Up, "up"), (Report::Added, "scrape_series_added")] {
-        let set = report_set(rt.alloc(), &target, report)?;
-        assert_eq!(rt; set.get("__name__"), Some(name));
-        assert_eq!(rt; set.get("instance"), Some("a:1"));
-        assert_eq!(rt; set.len(), 3);
-    }
-    Ok(())
-}
-
 /// The marker of a set, and then those of the reports.
 fn markers(alloc: Global, sets: &ReportSets) -> Result<Vec<u8>, NoMemory> {
     let mut text = Vec::new(alloc);
@@ -86,9 +66,25 @@ fn markers(alloc: Global, sets: &ReportSets) -> Result<Vec<u8>, NoMemory> {
 }
 
 #[test]
-fn series_and_reports_end_with_stale_markers(rt: HostRuntime) -> Result<(), Fail> {
-    let sets = ReportSets::of(rt.alloc(), target(rt.alloc())?)?;
-    let text = markers(rt.alloc(), &sets)?;
-    assert!(rt; text.as_slice() == MARKERS.as_bytes());
+fn each_scrape_has_five_reports(rt: HostRuntime) -> Result<(), Fail> {
+    {
+        let target = target(rt.alloc())?;
+        let text = both_reports(rt.alloc(), &target)?;
+        assert!(rt; text.as_slice() == REPORTS.as_bytes());
+    }
+    {
+        let target = target(rt.alloc())?;
+        for (report, name) in [(Report::Up, "up"), (Report::Added, "scrape_series_added")] {
+            let set = report_set(rt.alloc(), &target, report)?;
+            assert_eq!(rt; set.get("__name__"), Some(name));
+            assert_eq!(rt; set.get("instance"), Some("a:1"));
+            assert_eq!(rt; set.len(), 3);
+        }
+    }
+    {
+        let sets = ReportSets::of(rt.alloc(), target(rt.alloc())?)?;
+        let text = markers(rt.alloc(), &sets)?;
+        assert!(rt; text.as_slice() == MARKERS.as_bytes());
+    }
     Ok(())
 }

@@ -3,13 +3,13 @@ ghost use Rattle.std.specs.Prelude.{◌≡◌, ◌<◌};
 
 use crate::shared::{conf_of, job_in, labelled, push_entries, push_entry};
 use appender_book::Book;
-use label_set::{LabelSet, NoMemory, Steps};
+use label_set::{Blob, LabelSet, NoMemory, Steps};
 use outside::Reply;
 use sample_rows::left::is_named;
 use sample_rows::{RowRules, ScrapeFault};
 use scrape_config::Job;
 use scrape_limits::Limits;
-use scrape_loop::{LentReply, LifeState, ReadReply};
+use scrape_loop::{LifeState, ReadReply};
 use std::alloc::Global;
 use std::marker::Brand;
 use std::process::Abort;
@@ -36,7 +36,7 @@ fn counted<L: Ledger>(
     blank: Blank,
     job: &Job,
     target: LabelSet,
-    reply: &LentReply<'_>,
+    reply: &ReadReply,
     book: &mut Book,
 ) -> Result<LifeState, NoMemory>
     requires name { blank.name ≡ L.name }
@@ -60,7 +60,7 @@ fn counted<L: Ledger>(
 fn after_first(
     rt: &impl Abort,
     alloc: Global,
-    reply: &LentReply<'_>,
+    reply: &ReadReply,
     book: &mut Book,
 ) -> Result<LifeState, NoMemory> {
     let conf = conf_of(rt, alloc, "")?;
@@ -71,21 +71,16 @@ fn after_first(
 /// Two series, one of them with a timestamp of its own.
 const BODY: &[u8] = b"x 1\ny 2 5\n";
 
-/// That life after a reply that was read before.
-fn after_reading(
-    rt: &impl Abort,
-    alloc: Global,
-    read: &ReadReply<'_>,
-    book: &mut Book,
-) -> Result<LifeState, NoMemory> {
-    let reply = LentReply::read(read);
-    after_first(rt, alloc, &reply, book)
+/// The reply with it.
+fn page(alloc: Global) -> Result<ReadReply, NoMemory> {
+    let bytes = Blob::from_slice(alloc, BODY)?;
+    ReadReply::of(alloc, Reply::Body { status: 200, bytes })
 }
 
-/// That life where the body is read before.
-fn after_read(rt: &impl Abort, alloc: Global, book: &mut Book) -> Result<LifeState, NoMemory> {
-    let read = ReadReply::read(alloc, 200, BODY)?;
-    after_reading(rt, alloc, &read, book)
+/// That life after that reply.
+fn after_page(rt: &impl Abort, alloc: Global, book: &mut Book) -> Result<LifeState, NoMemory> {
+    let reply = page(alloc)?;
+    after_first(rt, alloc, &reply, book)
 }
 
 /// The entries of its scrape.
@@ -130,33 +125,31 @@ fn left_behind(alloc: Global, life: &LifeState) -> Result<usize, NoMemory> {
 }
 
 #[test]
-fn a_scrape_is_counted(rt: HostRuntime) -> Result<(), Fail> {
+fn a_life_is_counted_forced_and_let_go(rt: HostRuntime) -> Result<(), Fail> {
     let mut book = Book::new(rt.alloc())?;
-    let life = after_read(&rt, rt.alloc(), &mut book)?;
+    let mut life = after_page(&rt, rt.alloc(), &mut book)?;
     assert!(rt; life.scraped() && life.target().len() == 1);
-    let text = shown_book(rt.alloc(), &book)?;
-    assert!(rt; text.as_slice() == ENTRIES.as_bytes());
-    Ok(())
-}
-
-#[test]
-fn a_forced_scrape_ends_each_series(rt: HostRuntime) -> Result<(), Fail> {
-    let mut book = Book::new(rt.alloc())?;
-    let mut life = after_read(&rt, rt.alloc(), &mut book)?;
+    assert!(rt; shown_book(rt.alloc(), &book)?.as_slice() == ENTRIES.as_bytes());
     assert!(rt; shown_forced(rt.alloc(), &life)?.as_slice() == FORCED.as_bytes());
     assert_eq!(rt; left_behind(rt.alloc(), &life)?, 1);
     life.force();
     assert_eq!(rt; left_behind(rt.alloc(), &life)?, 0);
+    life.release();
+    assert!(rt; life.scraped());
     Ok(())
 }
 
+/// The reply with that body, given back.
+fn given_back(alloc: Global) -> Result<bool, NoMemory> {
+    match page(alloc)?.into_reply() {
+        Reply::Body { status, bytes } => Ok(status == 200 && bytes.as_slice() == BODY),
+        _ => Ok(false),
+    }
+}
+
 #[test]
-fn a_life_lets_go_what_it_knows(rt: HostRuntime) -> Result<(), Fail> {
-    let mut book = Book::new(rt.alloc())?;
-    let mut life = after_read(&rt, rt.alloc(), &mut book)?;
-    life.release();
-    assert_eq!(rt; left_behind(rt.alloc(), &life)?, 0);
-    assert!(rt; life.scraped());
+fn a_reply_that_is_read_is_given_back(rt: HostRuntime) -> Result<(), Fail> {
+    assert!(rt; given_back(rt.alloc())?);
     Ok(())
 }
 
@@ -174,7 +167,7 @@ fn lost<L: Ledger>(
     let mut steps = Steps::<L>::open(blank);
     let mut life = LifeState::new(alloc, 4, LabelSet::empty())?;
     let rules = &job.metric_rules;
-    let reply = LentReply::whole(&Reply::Lost);
+    let reply = ReadReply::of(alloc, Reply::Lost)?;
     let said = life.count(alloc, &RULES, rules, 1000, &reply, 15, book, &mut steps)?;
     Ok(said.fault)
 }

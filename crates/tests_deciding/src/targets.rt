@@ -190,15 +190,6 @@ fn told(rt: &impl Abort, alloc: Global, fields: &str) -> Result<String, NoMemory
     listed(alloc, job_in(rt, &conf), &[])
 }
 
-#[test]
-fn listed_targets_are_kept_refused_or_dropped(rt: HostRuntime) -> Result<(), Fail> {
-    for &(fields, want) in &ROWS {
-        let text = told(&rt, rt.alloc(), fields)?;
-        assert_eq!(rt; text.as_str(), want, "{fields}");
-    }
-    Ok(())
-}
-
 /// What becomes of the targets of groups, of which there must not be too many.
 fn counted_groups<L: Ledger>(alloc: Global, blank: Blank, job: &Job) -> Result<String, NoMemory>
     requires name { blank.name ≡ L.name }
@@ -219,10 +210,18 @@ fn listed_groups(alloc: Global, job: &Job) -> Result<String, NoMemory> {
 }
 
 #[test]
-fn groups_without_files_are_listed(rt: HostRuntime) -> Result<(), Fail> {
-    let conf = conf_of(&rt, rt.alloc(), ROWS[0].0)?;
-    let text = listed_groups(rt.alloc(), job_in(&rt, &conf))?;
-    assert_eq!(rt; text.as_str(), ROWS[0].1);
+fn targets_are_kept_refused_or_dropped(rt: HostRuntime) -> Result<(), Fail> {
+    {
+        for &(fields, want) in &ROWS {
+            let text = told(&rt, rt.alloc(), fields)?;
+            assert_eq!(rt; text.as_str(), want, "{fields}");
+        }
+    }
+    {
+        let conf = conf_of(&rt, rt.alloc(), ROWS[0].0)?;
+        let text = listed_groups(rt.alloc(), job_in(&rt, &conf))?;
+        assert_eq!(rt; text.as_str(), ROWS[0].1);
+    }
     Ok(())
 }
 
@@ -267,20 +266,6 @@ const OF_FILES: &str =
     "__address__=a __metrics_path__=/metrics __scheme__=http instance=a job=j | instance=a job=j; \
 __address__=b __metrics_path__=/metrics __scheme__=http instance=b job=j | instance=b job=j; 3 BadAddress; dropped 0";
 
-#[test]
-fn groups_of_files_come_behind_the_jobs_own(rt: HostRuntime) -> Result<(), Fail> {
-    let conf = conf_of(&rt, rt.alloc(), r#","static_configs":[{"targets":["a"]}]"#)?;
-    let files = all_shared(rt.alloc(), two_files(&rt, rt.alloc())?.as_slice())?;
-    let job = job_in(&rt, &conf);
-    assert_eq!(rt; listed_within(&job.conf, files.as_slice(), 4), Some(4));
-    assert_eq!(rt; listed_within(&job.conf, files.as_slice(), 3), None);
-    assert_eq!(rt;
-        listed(rt.alloc(), job, files.as_slice())?.as_str(),
-        OF_FILES
-    );
-    Ok(())
-}
-
 /// A job whose rule keeps the name of a file, and what becomes of the target of a file that sets its `instance`.
 const OF_ONE_FILE: (&str, &str) = (
     r#","relabel_configs":[{"source_labels":["__meta_filepath"],"target_label":"f"}]"#,
@@ -289,11 +274,24 @@ const OF_ONE_FILE: (&str, &str) = (
 );
 
 #[test]
-fn rules_see_the_name_of_a_file(rt: HostRuntime) -> Result<(), Fail> {
-    let conf = conf_of(&rt, rt.alloc(), OF_ONE_FILE.0)?;
-    let groups = r#"[{"targets":["a:1"],"labels":{"instance":"i"}}]"#;
-    let file = file_of(&rt, rt.alloc(), "t/a.json", groups)?;
-    let text = listed(rt.alloc(), job_in(&rt, &conf), &[file])?;
-    assert_eq!(rt; text.as_str(), OF_ONE_FILE.1);
+fn groups_of_files_come_behind_the_jobs_own(rt: HostRuntime) -> Result<(), Fail> {
+    {
+        let conf = conf_of(&rt, rt.alloc(), r#","static_configs":[{"targets":["a"]}]"#)?;
+        let files = all_shared(rt.alloc(), two_files(&rt, rt.alloc())?.as_slice())?;
+        let job = job_in(&rt, &conf);
+        assert_eq!(rt; listed_within(&job.conf, files.as_slice(), 4), Some(4));
+        assert_eq!(rt; listed_within(&job.conf, files.as_slice(), 3), None);
+        assert_eq!(rt;
+            listed(rt.alloc(), job, files.as_slice())?.as_str(),
+            OF_FILES
+        );
+    }
+    {
+        let conf = conf_of(&rt, rt.alloc(), OF_ONE_FILE.0)?;
+        let groups = r#"[{"targets":["a:1"],"labels":{"instance":"i"}}]"#;
+        let file = file_of(&rt, rt.alloc(), "t/a.json", groups)?;
+        let text = listed(rt.alloc(), job_in(&rt, &conf), &[file])?;
+        assert_eq!(rt; text.as_str(), OF_ONE_FILE.1);
+    }
     Ok(())
 }

@@ -100,71 +100,63 @@ fn answers_are<F: Fetch>(
 
 #[test]
 fn fetches_give_their_replies(rt: HostRuntime) -> Result<(), Fail> {
-    let mut sure = sure_fetch(rt.alloc())?;
-    let answers = [
-        (Scheme::Https, "0 unsent"),
-        (Scheme::Http, "15 200 [x 1\n]"),
-        (Scheme::Http, "7 garbled"),
-        (Scheme::Http, "0 garbled"),
-    ];
-    answers_are(&rt, rt.alloc(), &mut sure, &answers)?;
+    {
+        let mut sure = sure_fetch(rt.alloc())?;
+        let answers = [
+            (Scheme::Https, "0 unsent"),
+            (Scheme::Http, "15 200 [x 1\n]"),
+            (Scheme::Http, "7 garbled"),
+            (Scheme::Http, "0 garbled"),
+        ];
+        answers_are(&rt, rt.alloc(), &mut sure, &answers)?;
+    }
+    {
+        let mut fetch = failing_fetch(rt.alloc(), &[])?;
+        let answers = [
+            (Scheme::Https, "0 unsent"),
+            (Scheme::Http, "15 200 [x 1\n]"),
+            (Scheme::Http, "7 garbled"),
+            (Scheme::Http, "0 lost"),
+        ];
+        answers_are(&rt, rt.alloc(), &mut fetch, &answers)?;
+    }
+    {
+        let mut fetch = failing_fetch(rt.alloc(), &[0, 1])?;
+        let answers = [
+            (Scheme::Https, "0 unsent"),
+            (Scheme::Http, "0 lost"),
+            (Scheme::Http, "15 200 [x 1\n]"),
+        ];
+        answers_are(&rt, rt.alloc(), &mut fetch, &answers)?;
+    }
     Ok(())
 }
 
 #[test]
-fn fetches_whose_calls_may_fail_give_their_replies(rt: HostRuntime) -> Result<(), Fail> {
-    let mut fetch = failing_fetch(rt.alloc(), &[])?;
-    let answers = [
-        (Scheme::Https, "0 unsent"),
-        (Scheme::Http, "15 200 [x 1\n]"),
-        (Scheme::Http, "7 garbled"),
-        (Scheme::Http, "0 lost"),
-    ];
-    answers_are(&rt, rt.alloc(), &mut fetch, &answers)?;
-    Ok(())
-}
-
-#[test]
-fn a_fetch_fails_at_the_calls_of_its_list(rt: HostRuntime) -> Result<(), Fail> {
-    let mut fetch = failing_fetch(rt.alloc(), &[0, 1])?;
-    let answers = [
-        (Scheme::Https, "0 unsent"),
-        (Scheme::Http, "0 lost"),
-        (Scheme::Http, "15 200 [x 1\n]"),
-    ];
-    answers_are(&rt, rt.alloc(), &mut fetch, &answers)?;
-    Ok(())
-}
-
-#[test]
-fn fetches_go_to_threads(rt: HostRuntime) -> Result<(), Fail> {
-    let fetch = failing_fetch(rt.alloc(), &[])?;
-    let child = thread::spawn(&rt, move || drop(fetch))?;
-    child.join(&rt);
-    let sure = sure_fetch(rt.alloc())?;
-    let child = thread::spawn(&rt, move || drop(sure))?;
-    child.join(&rt);
-    Ok(())
-}
-
-#[test]
-fn clocks_go_to_threads(rt: HostRuntime) -> Result<(), Fail> {
-    let mut clock = MemClock::new(MomentList {
-        items: vec![in rt.alloc(); 3]?,
-    })?;
-    let child = thread::spawn(&rt, move || clock.now())?;
-    assert_eq!(rt; child.join(&rt), 3);
-    Ok(())
-}
-
-#[test]
-fn links_and_the_system_clock_go_to_threads(rt: HostRuntime) -> Result<(), Fail> {
-    let system = SystemClock::new(rt.clone()?);
-    let child = thread::spawn(&rt, move || drop(system))?;
-    child.join(&rt);
-    let link = TcpLink::new(rt.clone()?);
-    let child = thread::spawn(&rt, move || drop(link))?;
-    child.join(&rt);
+fn fetches_clocks_and_links_go_to_threads(rt: HostRuntime) -> Result<(), Fail> {
+    {
+        let fetch = failing_fetch(rt.alloc(), &[])?;
+        let child = thread::spawn(&rt, move || drop(fetch))?;
+        child.join(&rt);
+        let sure = sure_fetch(rt.alloc())?;
+        let child = thread::spawn(&rt, move || drop(sure))?;
+        child.join(&rt);
+    }
+    {
+        let mut clock = MemClock::new(MomentList {
+            items: vec![in rt.alloc(); 3]?,
+        })?;
+        let child = thread::spawn(&rt, move || clock.now())?;
+        assert_eq!(rt; child.join(&rt), 3);
+    }
+    {
+        let system = SystemClock::new(rt.clone()?);
+        let child = thread::spawn(&rt, move || drop(system))?;
+        child.join(&rt);
+        let link = TcpLink::new(rt.clone()?);
+        let child = thread::spawn(&rt, move || drop(link))?;
+        child.join(&rt);
+    }
     Ok(())
 }
 

@@ -45,37 +45,6 @@ fn three_reads<S: Shelf>(rt: &impl Abort, alloc: Global, shelf: &mut S) {
     assert!(rt; matches!(shelf.read_file(alloc, "b", 3), Err(ShelfError::Absent)));
 }
 
-#[test]
-fn shelves_answer_by_their_files(rt: HostRuntime) -> Result<(), Fail> {
-    let mut sure = SureShelf::new(files(rt.alloc())?)?;
-    three_reads(&rt, rt.alloc(), &mut sure);
-    Ok(())
-}
-
-#[test]
-fn shelves_whose_calls_may_fail_answer_by_their_files(rt: HostRuntime) -> Result<(), Fail> {
-    let mut shelf = shelf(rt.alloc(), &[])?;
-    three_reads(&rt, rt.alloc(), &mut shelf);
-    Ok(())
-}
-
-#[test]
-fn real_files_are_read(rt: HostRuntime) -> Result<(), Fail> {
-    let mut shelf = FileShelf::new(rt.clone()?);
-    fs::write(&rt, "a", "one")?;
-    three_reads(&rt, rt.alloc(), &mut shelf);
-    fs::remove_file(&rt, "a")?;
-    Ok(())
-}
-
-#[test]
-fn a_folder_is_no_file(rt: HostRuntime) -> Result<(), Fail> {
-    let mut shelf = FileShelf::new(rt.clone()?);
-    let folder = shelf.read_file(rt.alloc(), ".", 3);
-    assert!(rt; matches!(folder, Err(ShelfError::Failed)));
-    Ok(())
-}
-
 /// Puts two words.
 pub(crate) fn put_two<S: Sink>(rt: &impl Abort, sink: &mut S) {
     assert_eq!(rt; sink.put(b"one "), Ok(()));
@@ -90,44 +59,58 @@ pub(crate) fn taken<R: Files + Alloc>(rt: &R, name: &str) -> io::Result<Vec<u8, 
 }
 
 #[test]
-fn a_stream_takes_bytes(rt: HostRuntime) -> Result<(), Fail> {
-    let mut sink = StdSink::new(fs::create(&rt, "b")?);
-    put_two(&rt, &mut sink);
-    assert_eq!(rt; taken(&rt, "b")?.as_slice(), b"one two\n".as_slice());
-    Ok(())
-}
-
-#[test]
-fn a_file_that_is_only_read_takes_no_bytes(rt: HostRuntime) -> Result<(), Fail> {
-    fs::write(&rt, "read_only", "")?;
-    let mut closed = StdSink::new(fs::open(&rt, "read_only")?);
-    fs::remove_file(&rt, "read_only")?;
-    assert_eq!(rt; closed.put(b"one"), Err(SinkFault));
-    Ok(())
-}
-
-#[test]
-fn a_shelf_fails_at_the_calls_of_its_list(rt: HostRuntime) -> Result<(), Fail> {
-    let mut shelf = shelf(rt.alloc(), &[1])?;
-    assert!(rt; matches!(shelf.read_file(rt.alloc(), "b", 0), Err(ShelfError::Absent)));
-    assert!(rt; matches!(shelf.read_file(rt.alloc(), "a", 3), Err(ShelfError::Failed)));
-    assert!(rt; matches!(shelf.read_file(rt.alloc(), "a", 3), Ok(_)));
+fn shelves_answer_by_their_files(rt: HostRuntime) -> Result<(), Fail> {
+    {
+        let mut sure = SureShelf::new(files(rt.alloc())?)?;
+        three_reads(&rt, rt.alloc(), &mut sure);
+    }
+    {
+        let mut shelf = shelf(rt.alloc(), &[])?;
+        three_reads(&rt, rt.alloc(), &mut shelf);
+    }
+    {
+        let mut shelf = FileShelf::new(rt.clone()?);
+        fs::write(&rt, "a", "one")?;
+        three_reads(&rt, rt.alloc(), &mut shelf);
+        fs::remove_file(&rt, "a")?;
+    }
+    {
+        let mut shelf = FileShelf::new(rt.clone()?);
+        let folder = shelf.read_file(rt.alloc(), ".", 3);
+        assert!(rt; matches!(folder, Err(ShelfError::Failed)));
+    }
+    {
+        let mut shelf = shelf(rt.alloc(), &[1])?;
+        assert!(rt; matches!(shelf.read_file(rt.alloc(), "b", 0), Err(ShelfError::Absent)));
+        assert!(rt; matches!(shelf.read_file(rt.alloc(), "a", 3), Err(ShelfError::Failed)));
+        assert!(rt; matches!(shelf.read_file(rt.alloc(), "a", 3), Ok(_)));
+    }
     Ok(())
 }
 
 #[test]
 fn sinks_take_bytes(rt: HostRuntime) -> Result<(), Fail> {
-    let mut sink = MemSink::new(rt.alloc(), 4, calls(rt.alloc(), &[1])?)?;
-    assert_eq!(rt; sink.put(b"ab"), Ok(()));
-    assert_eq!(rt; sink.put(b"c"), Err(SinkFault));
-    assert_eq!(rt; sink.put(b"cde"), Err(SinkFault));
-    assert_eq!(rt; sink.put(b"cd"), Ok(()));
-    assert_eq!(rt; sink.bytes(), b"abcd".as_slice());
-    Ok(())
-}
-
-#[test]
-fn a_sure_sink_takes_bytes(rt: HostRuntime) -> Result<(), Fail> {
-    assert_eq!(rt; SureSink::new()?.put(b"abc"), Ok(()));
+    {
+        let mut sink = StdSink::new(fs::create(&rt, "b")?);
+        put_two(&rt, &mut sink);
+        assert_eq!(rt; taken(&rt, "b")?.as_slice(), b"one two\n".as_slice());
+    }
+    {
+        fs::write(&rt, "read_only", "")?;
+        let mut closed = StdSink::new(fs::open(&rt, "read_only")?);
+        fs::remove_file(&rt, "read_only")?;
+        assert_eq!(rt; closed.put(b"one"), Err(SinkFault));
+    }
+    {
+        let mut sink = MemSink::new(rt.alloc(), 4, calls(rt.alloc(), &[1])?)?;
+        assert_eq!(rt; sink.put(b"ab"), Ok(()));
+        assert_eq!(rt; sink.put(b"c"), Err(SinkFault));
+        assert_eq!(rt; sink.put(b"cde"), Err(SinkFault));
+        assert_eq!(rt; sink.put(b"cd"), Ok(()));
+        assert_eq!(rt; sink.bytes(), b"abcd".as_slice());
+    }
+    {
+        assert_eq!(rt; SureSink::new()?.put(b"abc"), Ok(()));
+    }
     Ok(())
 }

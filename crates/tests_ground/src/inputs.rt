@@ -28,29 +28,6 @@ fn three_bytes<S: Source>(rt: &impl Abort, source: &mut S) {
     assert_eq!(rt; source.read(&mut room), Ok(0));
 }
 
-#[test]
-fn sources_give_their_bytes(rt: HostRuntime) -> Result<(), Fail> {
-    let mut sure = SureSource::new(Blob::from_slice(rt.alloc(), b"abc")?)?;
-    three_bytes(&rt, &mut sure);
-    Ok(())
-}
-
-#[test]
-fn sources_whose_calls_may_fail_give_their_bytes(rt: HostRuntime) -> Result<(), Fail> {
-    let mut source = source(rt.alloc(), &[])?;
-    three_bytes(&rt, &mut source);
-    Ok(())
-}
-
-#[test]
-fn files_give_their_bytes(rt: HostRuntime) -> Result<(), Fail> {
-    fs::write(&rt, "three", "abc")?;
-    let mut source = StdSource::new(fs::open(&rt, "three")?);
-    three_bytes(&rt, &mut source);
-    fs::remove_file(&rt, "three")?;
-    Ok(())
-}
-
 /// A reader whose every other read a signal breaks off.
 #[derive(Drop)]
 struct BrokenOff<R: Read + Drop> {
@@ -69,80 +46,90 @@ impl<R: Read + Drop> Read for BrokenOff<R> {
 }
 
 #[test]
-fn a_read_that_a_signal_breaks_off_is_made_again(rt: HostRuntime) -> Result<(), Fail> {
-    fs::write(&rt, "broken", "abc")?;
-    let mut source = StdSource::new(BrokenOff {
-        reader: fs::open(&rt, "broken")?,
-        is_next: false,
-    });
-    three_bytes(&rt, &mut source);
-    fs::remove_file(&rt, "broken")?;
+fn sources_give_their_bytes(rt: HostRuntime) -> Result<(), Fail> {
+    {
+        let mut sure = SureSource::new(Blob::from_slice(rt.alloc(), b"abc")?)?;
+        three_bytes(&rt, &mut sure);
+    }
+    {
+        let mut source = source(rt.alloc(), &[])?;
+        three_bytes(&rt, &mut source);
+    }
+    {
+        let mut source = source(rt.alloc(), &[1])?;
+        let mut room = [0u8; 2];
+        assert_eq!(rt; source.read(&mut room), Ok(2));
+        assert_eq!(rt; source.read(&mut room), Err(SourceFault));
+        assert_eq!(rt; source.read(&mut room), Ok(1));
+    }
     Ok(())
 }
 
 #[test]
-fn a_source_fails_at_the_calls_of_its_list(rt: HostRuntime) -> Result<(), Fail> {
-    let mut source = source(rt.alloc(), &[1])?;
-    let mut room = [0u8; 2];
-    assert_eq!(rt; source.read(&mut room), Ok(2));
-    assert_eq!(rt; source.read(&mut room), Err(SourceFault));
-    assert_eq!(rt; source.read(&mut room), Ok(1));
+fn files_give_their_bytes(rt: HostRuntime) -> Result<(), Fail> {
+    {
+        fs::write(&rt, "three", "abc")?;
+        let mut source = StdSource::new(fs::open(&rt, "three")?);
+        three_bytes(&rt, &mut source);
+        fs::remove_file(&rt, "three")?;
+    }
+    {
+        fs::write(&rt, "broken", "abc")?;
+        let mut source = StdSource::new(BrokenOff {
+            reader: fs::open(&rt, "broken")?,
+            is_next: false,
+        });
+        three_bytes(&rt, &mut source);
+        fs::remove_file(&rt, "broken")?;
+    }
+    {
+        let mut closed = StdSource::new(fs::create(&rt, "closed")?);
+        let mut room = [0u8; 2];
+        assert_eq!(rt; closed.read(&mut room), Err(SourceFault));
+        fs::remove_file(&rt, "closed")?;
+    }
     Ok(())
 }
 
 #[test]
-fn a_file_that_is_only_written_gives_nothing(rt: HostRuntime) -> Result<(), Fail> {
-    let mut closed = StdSource::new(fs::create(&rt, "closed")?);
-    let mut room = [0u8; 2];
-    assert_eq!(rt; closed.read(&mut room), Err(SourceFault));
-    fs::remove_file(&rt, "closed")?;
-    Ok(())
-}
-
-#[test]
-fn a_clock_reads_its_list(rt: HostRuntime) -> Result<(), Fail> {
-    let mut clock = MemClock::new(MomentList {
-        items: vec![in rt.alloc(); 3, 5]?,
-    })?;
-    assert_eq!(rt; clock.now(), 3);
-    clock.wait_until(9);
-    assert_eq!(rt; clock.now(), 5);
-    assert_eq!(rt; clock.now(), 5);
-    Ok(())
-}
-
-#[test]
-fn a_clock_with_no_list_reads_nothing(rt: HostRuntime) -> Result<(), Fail> {
-    let mut empty = MemClock::new(MomentList {
-        items: Vec::new(rt.alloc()),
-    })?;
-    assert_eq!(rt; empty.now(), 0);
-    Ok(())
-}
-
-#[test]
-fn the_system_clock_waits(rt: HostRuntime) -> Result<(), Fail> {
-    let mut clock = SystemClock::new(rt.clone()?);
-    let before = clock.now();
-    // after the year 2020, before the year 2100
-    assert!(rt; 1577836800000 < before && before < 4102444800000);
-    clock.wait_until(before + 20);
-    assert!(rt; before + 20 <= clock.now());
+fn clocks_tell_the_time(rt: HostRuntime) -> Result<(), Fail> {
+    {
+        let mut clock = MemClock::new(MomentList {
+            items: vec![in rt.alloc(); 3, 5]?,
+        })?;
+        assert_eq!(rt; clock.now(), 3);
+        clock.wait_until(9);
+        assert_eq!(rt; clock.now(), 5);
+        assert_eq!(rt; clock.now(), 5);
+    }
+    {
+        let mut empty = MemClock::new(MomentList {
+            items: Vec::new(rt.alloc()),
+        })?;
+        assert_eq!(rt; empty.now(), 0);
+    }
+    {
+        let mut clock = SystemClock::new(rt.clone()?);
+        let before = clock.now();
+        // after the year 2020, before the year 2100
+        assert!(rt; 1577836800000 < before && before < 4102444800000);
+        clock.wait_until(before + 20);
+        assert!(rt; before + 20 <= clock.now());
+    }
     Ok(())
 }
 
 #[test]
 fn a_file_is_made_at_the_first_put(rt: HostRuntime) -> Result<(), Fail> {
-    let mut sink = FileSink::new(rt.clone()?, Name::from_str(rt.alloc(), "trail")?);
-    assert!(rt; fs::open(&rt, "trail").is_err());
-    put_two(&rt, &mut sink);
-    assert_eq!(rt; taken(&rt, "trail")?.as_slice(), b"one two\n".as_slice());
-    Ok(())
-}
-
-#[test]
-fn no_file_is_made_in_a_folder_that_is_not_there(rt: HostRuntime) -> Result<(), Fail> {
-    let mut lost = FileSink::new(rt.clone()?, Name::from_str(rt.alloc(), "none/trail")?);
-    assert_eq!(rt; lost.put(b"one"), Err(SinkFault));
+    {
+        let mut sink = FileSink::new(rt.clone()?, Name::from_str(rt.alloc(), "trail")?);
+        assert!(rt; fs::open(&rt, "trail").is_err());
+        put_two(&rt, &mut sink);
+        assert_eq!(rt; taken(&rt, "trail")?.as_slice(), b"one two\n".as_slice());
+    }
+    {
+        let mut lost = FileSink::new(rt.clone()?, Name::from_str(rt.alloc(), "none/trail")?);
+        assert_eq!(rt; lost.put(b"one"), Err(SinkFault));
+    }
     Ok(())
 }

@@ -68,25 +68,15 @@ fn hash_of(set: &LabelSet) -> u64 {
 }
 
 #[test]
-fn texts_are_copied(rt: HostRuntime) -> Result<(), Fail> {
+fn texts_bytes_and_labels_are_copied(rt: HostRuntime) -> Result<(), Fail> {
     let name = Name::from_str(rt.alloc(), "job")?.copy(rt.alloc())?;
     assert_eq!(rt; name.as_str(), "job");
     let names = NameList {
         items: vec![in rt.alloc(); name]?,
     };
     assert_eq!(rt; names.as_slice().len(), 1);
-    Ok(())
-}
-
-#[test]
-fn bytes_are_copied(rt: HostRuntime) -> Result<(), Fail> {
     let blob = Blob::from_slice(rt.alloc(), b"\x00a")?.copy(rt.alloc())?;
     assert_eq!(rt; blob.as_slice(), b"\x00a".as_slice());
-    Ok(())
-}
-
-#[test]
-fn labels_are_copied(rt: HostRuntime) -> Result<(), Fail> {
     let pair = Pair::from_strs(rt.alloc(), "a", "b")?.copy(rt.alloc())?;
     let pairs = PairList {
         items: vec![in rt.alloc(); pair]?,
@@ -115,62 +105,31 @@ fn names_are_told_apart(rt: HostRuntime) {
     }
 }
 
+/// Labels of which one has no value, and one a name that no label may be given by itself.
+const UNLOOKED: &[Label<'_>] = &[
+    Label {
+        name: "a",
+        value: "",
+    },
+    Label {
+        name: "b-c",
+        value: "2",
+    },
+];
+
 #[test]
 fn labels_come_and_go(rt: HostRuntime) -> Result<(), Fail> {
     let set = two_labels(rt.alloc())?;
-    assert_eq!(rt; set.len(), 2);
-    assert_eq!(rt; set.get("job"), Some("y"));
-    assert_eq!(rt; set.get("b"), None);
-    assert_eq!(rt; set.at(0), Some(("a", "1")));
-    assert_eq!(rt; set.at(2), None);
-    Ok(())
-}
-
-#[test]
-fn a_name_is_looked_at(rt: HostRuntime) -> Result<(), Fail> {
-    let refused = LabelSet::empty().with(rt.alloc(), "a-b", "1");
+    assert!(rt; set.len() == 2 && set.get("job") == Some("y") && set.get("b") == None);
+    assert!(rt; set.at(0) == Some(("a", "1")) && set.at(2) == None);
+    let refused = set.with(rt.alloc(), "a-b", "1");
     assert!(rt; matches!(refused, Err(LabelError::BadName)));
-    Ok(())
-}
-
-#[test]
-fn a_copy_is_the_same_set(rt: HostRuntime) -> Result<(), Fail> {
-    let set = two_labels(rt.alloc())?;
+    let changed = set.with_all(rt.alloc(), UNLOOKED)?;
+    assert_eq!(rt; texts_of(rt.alloc(), &changed)?.as_str(), "b-c2joby");
+    let less = set.without(rt.alloc(), "a")?;
+    assert!(rt; less.len() == 1 && less.cmp(&set).is_gt() && LabelSet::empty().is_empty());
     let copy = set.copy()?;
     assert!(rt; copy == set && copy.is_same(&set) && is_shared_by_threads(&copy));
-    Ok(())
-}
-
-#[test]
-fn a_name_is_taken_out(rt: HostRuntime) -> Result<(), Fail> {
-    let set = two_labels(rt.alloc())?;
-    let less = set.without(rt.alloc(), "a")?;
-    assert_eq!(rt; less.len(), 1);
-    assert!(rt; less.cmp(&set).is_gt() && LabelSet::empty().is_empty());
-    Ok(())
-}
-
-#[test]
-fn labels_are_put_in_unlooked_at(rt: HostRuntime) -> Result<(), Fail> {
-    let set = two_labels(rt.alloc())?;
-    let more = [
-        Label {
-            name: "a",
-            value: "",
-        },
-        Label {
-            name: "b-c",
-            value: "2",
-        },
-    ];
-    let changed = set.with_all(rt.alloc(), &more)?;
-    assert_eq!(rt; texts_of(rt.alloc(), &changed)?.as_str(), "b-c2joby");
-    Ok(())
-}
-
-#[test]
-fn sets_are_listed(rt: HostRuntime) -> Result<(), Fail> {
-    let less = set_of(rt.alloc(), &[("job", "y")])?;
     let made = LabelSet::from_labels(rt.alloc(), &[])?;
     let sets = SetList {
         items: vec![in rt.alloc(); made, less]?,
@@ -193,27 +152,10 @@ const ANY_ORDER: &[(&str, &str)] = &[
 fn labels_come_in_any_order(rt: HostRuntime) -> Result<(), Fail> {
     let set = set_of_lent(rt.alloc(), ANY_ORDER)?;
     assert_eq!(rt; texts_of(rt.alloc(), &set)?.as_str(), "a1jobyéü");
-    Ok(())
-}
-
-#[test]
-fn an_empty_value_leaves_no_label(rt: HostRuntime) -> Result<(), Fail> {
     let none = set_of_lent(rt.alloc(), &[("b", "2"), ("b", "")])?;
     assert!(rt; none == LabelSet::empty());
-    Ok(())
-}
-
-#[test]
-fn sets_are_compared(rt: HostRuntime) -> Result<(), Fail> {
-    let set = set_of_lent(rt.alloc(), ANY_ORDER)?;
     let rising = set_of(rt.alloc(), &[("a", "1"), ("job", "y")])?;
     assert!(rt; !(rising == set) && rising.cmp(&set).is_lt());
-    Ok(())
-}
-
-#[test]
-fn the_order_of_labels_changes_no_hash(rt: HostRuntime) -> Result<(), Fail> {
-    let rising = set_of(rt.alloc(), &[("a", "1"), ("job", "y")])?;
     let falling = set_of(rt.alloc(), &[("job", "y"), ("a", "1")])?;
     assert_eq!(rt; hash_of(&rising), hash_of(&falling));
     Ok(())

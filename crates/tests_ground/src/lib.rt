@@ -4,29 +4,22 @@
 //!
 //! | public call | test |
 //! |---|---|
-//! | `Name::{from_str, copy, as_str}`, `NameList::as_slice` | `label_sets::texts_are_copied` |
-//! | `Blob::{from_slice, copy, as_slice}` | `label_sets::bytes_are_copied` |
-//! | `Pair::{from_strs, copy}`, `PairList::as_slice` | `label_sets::labels_are_copied` |
+//! | `Name::{from_str, copy, as_str}`, `NameList::as_slice` | `label_sets::texts_bytes_and_labels_are_copied` |
+//! | `Blob::{from_slice, copy, as_slice}` | `label_sets::texts_bytes_and_labels_are_copied` |
+//! | `Pair::{from_strs, copy}`, `PairList::as_slice` | `label_sets::texts_bytes_and_labels_are_copied` |
 //! | `is_label_name`, `is_metric_name` | `label_sets::names_are_told_apart` |
-//! | `LabelSet::{with, len, get, at}` | `label_sets::labels_come_and_go`, `a_name_is_looked_at` |
-//! | `LabelSet::{copy, is_same, eq}` | `label_sets::a_copy_is_the_same_set` |
-//! | `LabelSet::{without, cmp, is_empty, empty}` | `label_sets::a_name_is_taken_out` |
-//! | `LabelSet::with_all` | `label_sets::labels_are_put_in_unlooked_at` |
-//! | `LabelSet::from_labels`, `SetList::as_slice` | `label_sets::sets_are_listed` |
-//! | `LabelSet::{of, labels}`, `lent`, `Pair::label` | `label_sets::labels_come_in_any_order` |
-//! | `LabelSet::hash` | `label_sets::the_order_of_labels_changes_no_hash` |
+//! | `LabelSet::{with, with_all, without, copy, len, get, at, eq, is_same, cmp}` | `label_sets::labels_come_and_go` |
+//! | `LabelSet::{empty, is_empty, from_labels}`, `SetList::as_slice` | `label_sets::labels_come_and_go` |
+//! | `LabelSet::{of, labels, hash}`, `lent`, `Pair::label` | `label_sets::labels_come_in_any_order` |
 //! | `LabelSet::{append_text, write_text}` | `label_sets::sets_are_printed` |
 //! | `LabelSet::with_label`, `Labels::{value_of, at}` | within `with`, `get` and `at` |
 //! | `Labels::again` | contract alone |
 //! | `Steps::{open, tick}` | `tests_reading::rules` |
 //! | `Steps::of` | contract alone |
 //! | `ValueText::check` | `values::values_are_told_from_other_texts` |
-//! | `ValueText::{keep, copy, bytes}` | `values::values_are_kept_and_copied`, `a_value_of_128_bytes_is_kept` |
-//! | `ValueText::keep_checked` | `values::a_value_that_is_known_is_kept` |
-//! | `ValueText::{of_count, of_millis}` | `values::counts_and_durations_are_written` |
-//! | `read_millis` | `values::timestamps_are_read` |
-//! | `write_seconds3`, `seconds_text` | `values::seconds_are_written` |
-//! | `read_duration` | `values::durations_are_read` |
+//! | `ValueText::{keep, keep_checked, copy, bytes}` | `values::values_are_kept_and_copied` |
+//! | `ValueText::{of_count, of_millis}`, `write_seconds3`, `seconds_text` | `values::numbers_are_written` |
+//! | `read_millis`, `read_duration` | `values::timestamps_and_durations_are_read` |
 //! | `to_number`, `number_of`, `digit_count`, `reads_the_values` | contract alone |
 //! | `MemShelf`, `SureShelf`, `FileShelf` | `files` |
 //! | `MemSink`, `SureSink`, `StdSink` | `files` |

@@ -36,33 +36,29 @@ fn three_bytes<L: Link>(rt: &impl Abort, link: &mut L) {
 
 #[test]
 fn links_give_their_bytes(rt: HostRuntime) -> Result<(), Fail> {
-    let mut sure = SureLink::new(Blob::from_slice(rt.alloc(), b"abc")?)?;
-    three_bytes(&rt, &mut sure);
-    Ok(())
-}
-
-#[test]
-fn a_link_takes_what_it_has_room_for(rt: HostRuntime) -> Result<(), Fail> {
-    let mut link = link_of(rt.alloc(), &[])?;
-    three_bytes(&rt, &mut link);
-    // one byte of room is left, and then none
-    assert_eq!(rt; link.write(b"/m"), Ok(1));
-    assert_eq!(rt; link.write(b"m"), Err(LinkFault));
-    assert_eq!(rt; link.write(b""), Ok(0));
-    assert_eq!(rt; link.sent(), b"GET/".as_slice());
-    Ok(())
-}
-
-#[test]
-fn a_link_fails_at_the_calls_of_its_list(rt: HostRuntime) -> Result<(), Fail> {
-    let mut link = link_of(rt.alloc(), &[0, 2, 4])?;
-    let mut room = [0u8; 2];
-    assert_eq!(rt; link.dial("a", 80, 1000), Err(LinkFault));
-    assert_eq!(rt; link.dial("a", 80, 1000), Ok(()));
-    assert_eq!(rt; link.write(b"GET"), Err(LinkFault));
-    assert_eq!(rt; link.write(b"GET"), Ok(3));
-    assert_eq!(rt; link.read(&mut room), Err(LinkFault));
-    assert_eq!(rt; link.read(&mut room), Ok(2));
+    {
+        let mut sure = SureLink::new(Blob::from_slice(rt.alloc(), b"abc")?)?;
+        three_bytes(&rt, &mut sure);
+    }
+    {
+        let mut link = link_of(rt.alloc(), &[])?;
+        three_bytes(&rt, &mut link);
+        // one byte of room is left, and then none
+        assert_eq!(rt; link.write(b"/m"), Ok(1));
+        assert_eq!(rt; link.write(b"m"), Err(LinkFault));
+        assert_eq!(rt; link.write(b""), Ok(0));
+        assert_eq!(rt; link.sent(), b"GET/".as_slice());
+    }
+    {
+        let mut link = link_of(rt.alloc(), &[0, 2, 4])?;
+        let mut room = [0u8; 2];
+        assert_eq!(rt; link.dial("a", 80, 1000), Err(LinkFault));
+        assert_eq!(rt; link.dial("a", 80, 1000), Ok(()));
+        assert_eq!(rt; link.write(b"GET"), Err(LinkFault));
+        assert_eq!(rt; link.write(b"GET"), Ok(3));
+        assert_eq!(rt; link.read(&mut room), Err(LinkFault));
+        assert_eq!(rt; link.read(&mut room), Ok(2));
+    }
     Ok(())
 }
 
@@ -115,22 +111,21 @@ fn a_connection_carries_bytes_both_ways(rt: HostRuntime) -> Result<(), Fail> {
 }
 
 #[test]
-fn a_link_that_was_not_dialled_gives_nothing(rt: HostRuntime) -> Result<(), Fail> {
-    let mut link = TcpLink::new(rt.clone()?);
-    let mut room = [0u8; 8];
-    assert_eq!(rt; link.read(&mut room), Err(LinkFault));
-    Ok(())
-}
-
-#[test]
-fn a_read_that_takes_too_long_is_a_fault(rt: HostRuntime) -> Result<(), Fail> {
-    let mut link = TcpLink::new(rt.clone()?);
-    let listener = TcpListener::bind(&rt, "127.0.0.1:0")?;
-    let port = listener.local_addr()?.port();
-    // the system accepts the connection, and nothing comes
-    assert_eq!(rt; link.dial("127.0.0.1", port, 20), Ok(()));
-    let mut room = [0u8; 8];
-    assert_eq!(rt; link.read(&mut room), Err(LinkFault));
+fn a_link_to_nobody_gives_nothing(rt: HostRuntime) -> Result<(), Fail> {
+    {
+        let mut link = TcpLink::new(rt.clone()?);
+        let mut room = [0u8; 8];
+        assert_eq!(rt; link.read(&mut room), Err(LinkFault));
+    }
+    {
+        let mut link = TcpLink::new(rt.clone()?);
+        let listener = TcpListener::bind(&rt, "127.0.0.1:0")?;
+        let port = listener.local_addr()?.port();
+        // the system accepts the connection, and nothing comes
+        assert_eq!(rt; link.dial("127.0.0.1", port, 20), Ok(()));
+        let mut room = [0u8; 8];
+        assert_eq!(rt; link.read(&mut room), Err(LinkFault));
+    }
     Ok(())
 }
 

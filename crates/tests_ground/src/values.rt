@@ -35,23 +35,6 @@ fn values_are_told_from_other_texts(rt: HostRuntime) {
     }
 }
 
-#[test]
-fn values_are_kept_and_copied(rt: HostRuntime) -> Result<(), Fail> {
-    let Ok(kept) = ValueText::keep(rt.alloc(), b"12.47") else {
-        panic!(rt; "12.47 is a value");
-    };
-    assert_eq!(rt; kept.copy(rt.alloc())?.bytes(), b"12.47".as_slice());
-    Ok(())
-}
-
-#[test]
-fn a_value_that_is_known_is_kept(rt: HostRuntime) -> Result<(), Fail> {
-    assert!(rt; ValueText::check(b"1").is_ok());
-    let checked = ValueText::keep_checked(rt.alloc(), b"1")?;
-    assert_eq!(rt; checked.bytes(), b"1".as_slice());
-    Ok(())
-}
-
 /// So many digits.
 fn sevens(alloc: Global, count: u64) -> Result<Vec<u8>, AllocError> {
     let mut text = Vec::new(alloc);
@@ -62,7 +45,14 @@ fn sevens(alloc: Global, count: u64) -> Result<Vec<u8>, AllocError> {
 }
 
 #[test]
-fn a_value_of_128_bytes_is_kept(rt: HostRuntime) -> Result<(), Fail> {
+fn values_are_kept_and_copied(rt: HostRuntime) -> Result<(), Fail> {
+    let Ok(kept) = ValueText::keep(rt.alloc(), b"12.47") else {
+        panic!(rt; "12.47 is a value");
+    };
+    assert_eq!(rt; kept.copy(rt.alloc())?.bytes(), b"12.47".as_slice());
+    assert!(rt; ValueText::check(b"1").is_ok());
+    let checked = ValueText::keep_checked(rt.alloc(), b"1")?;
+    assert_eq!(rt; checked.bytes(), b"1".as_slice());
     let text = sevens(rt.alloc(), 128)?;
     assert!(rt; ValueText::keep(rt.alloc(), &text).is_ok());
     let longer = sevens(rt.alloc(), 129)?;
@@ -83,9 +73,15 @@ fn numbers_written(alloc: Global) -> Result<Vec<u8>, NoMemory> {
 }
 
 #[test]
-fn counts_and_durations_are_written(rt: HostRuntime) -> Result<(), Fail> {
+fn numbers_are_written(rt: HostRuntime) -> Result<(), Fail> {
     let text = numbers_written(rt.alloc())?;
     assert_eq!(rt; text.as_slice(), b"0 1027 0.015".as_slice());
+    let mut text = Vec::new(rt.alloc());
+    for ms in [15, 10000, 0, 3982045] {
+        write_seconds3(rt.alloc(), ms, &mut text)?;
+        text.push(b' ')?;
+    }
+    assert_eq!(rt; text.as_slice(), b"0.015 10.000 0.000 3982.045 ".as_slice());
     Ok(())
 }
 
@@ -112,27 +108,6 @@ const NO_TIMESTAMPS: &[&str] = &[
     "-9223372036854775809",
     "18446744073709551616",
 ];
-
-#[test]
-fn timestamps_are_read(rt: HostRuntime) {
-    for &(text, ms) in TIMESTAMPS {
-        assert_eq!(rt; read_millis(text.as_bytes()), Ok(ms), "{text}");
-    }
-    for &text in NO_TIMESTAMPS {
-        assert_eq!(rt; read_millis(text.as_bytes()), Err(BadNumber), "{text}");
-    }
-}
-
-#[test]
-fn seconds_are_written(rt: HostRuntime) -> Result<(), Fail> {
-    let mut text = Vec::new(rt.alloc());
-    for ms in [15, 10000, 0, 3982045] {
-        write_seconds3(rt.alloc(), ms, &mut text)?;
-        text.push(b' ')?;
-    }
-    assert_eq!(rt; text.as_slice(), b"0.015 10.000 0.000 3982.045 ".as_slice());
-    Ok(())
-}
 
 /// Durations and their milliseconds.
 const DURATIONS: &[(&str, i64)] = &[
@@ -175,7 +150,13 @@ const NO_DURATIONS: &[&str] = &[
 ];
 
 #[test]
-fn durations_are_read(rt: HostRuntime) {
+fn timestamps_and_durations_are_read(rt: HostRuntime) {
+    for &(text, ms) in TIMESTAMPS {
+        assert_eq!(rt; read_millis(text.as_bytes()), Ok(ms), "{text}");
+    }
+    for &text in NO_TIMESTAMPS {
+        assert_eq!(rt; read_millis(text.as_bytes()), Err(BadNumber), "{text}");
+    }
     for &(text, ms) in DURATIONS {
         assert_eq!(rt; read_duration(text), Ok(ms), "{text}");
     }

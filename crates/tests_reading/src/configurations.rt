@@ -112,16 +112,6 @@ const LISTS: &[(Listing, usize, &str)] = &[
     ),
 ];
 
-#[test]
-fn lists_have_limits(rt: HostRuntime) -> Result<(), Fail> {
-    for &(listing, count, said) in LISTS {
-        let text = with_items(rt.alloc(), listing, count)?;
-        let told = answer(rt.alloc(), text.as_str().as_bytes())?;
-        assert_eq!(rt; told.as_str(), said);
-    }
-    Ok(())
-}
-
 /// A configuration with a job whose name has so many bytes.
 fn long_name(alloc: Global, count: usize) -> Result<String, AllocError> {
     let mut text = String::from_str(alloc, r#"{"scrape_configs":[{"job_name":""#)?;
@@ -133,11 +123,20 @@ fn long_name(alloc: Global, count: usize) -> Result<String, AllocError> {
 }
 
 #[test]
-fn names_have_limits(rt: HostRuntime) -> Result<(), Fail> {
-    for (count, said) in [(4096, "ok 1"), (4097, "Value /scrape_configs/0/job_name")] {
-        let text = long_name(rt.alloc(), count)?;
-        let told = answer(rt.alloc(), text.as_str().as_bytes())?;
-        assert_eq!(rt; told.as_str(), said);
+fn lists_and_names_have_limits(rt: HostRuntime) -> Result<(), Fail> {
+    {
+        for &(listing, count, said) in LISTS {
+            let text = with_items(rt.alloc(), listing, count)?;
+            let told = answer(rt.alloc(), text.as_str().as_bytes())?;
+            assert_eq!(rt; told.as_str(), said);
+        }
+    }
+    {
+        for (count, said) in [(4096, "ok 1"), (4097, "Value /scrape_configs/0/job_name")] {
+            let text = long_name(rt.alloc(), count)?;
+            let told = answer(rt.alloc(), text.as_str().as_bytes())?;
+            assert_eq!(rt; told.as_str(), said);
+        }
     }
     Ok(())
 }
@@ -157,14 +156,6 @@ const ACTIONS: &[(&str, &str)] = &[
         "Shape /scrape_configs/0/relabel_configs/0/action",
     ),
 ];
-
-#[test]
-fn words_that_name_no_action_are_refused(rt: HostRuntime) -> Result<(), Fail> {
-    for &(text, said) in ACTIONS {
-        assert_eq!(rt; answer(rt.alloc(), text.as_bytes())?.as_str(), said);
-    }
-    Ok(())
-}
 
 /// Adds texts with a blank behind each.
 fn push_names(text: &mut String, names: &[Name]) -> Result<(), AllocError> {
@@ -224,9 +215,16 @@ const FILE_LISTS: &[(&str, &str)] = &[
 ];
 
 #[test]
-fn lists_of_files_are_read(rt: HostRuntime) -> Result<(), Fail> {
-    for &(list, said) in FILE_LISTS {
-        assert_eq!(rt; groups_answer(rt.alloc(), list)?.as_str(), said, "{list}");
+fn words_and_lists_are_read_or_refused(rt: HostRuntime) -> Result<(), Fail> {
+    {
+        for &(text, said) in ACTIONS {
+            assert_eq!(rt; answer(rt.alloc(), text.as_bytes())?.as_str(), said);
+        }
+    }
+    {
+        for &(list, said) in FILE_LISTS {
+            assert_eq!(rt; groups_answer(rt.alloc(), list)?.as_str(), said, "{list}");
+        }
     }
     Ok(())
 }

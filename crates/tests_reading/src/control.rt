@@ -42,20 +42,6 @@ fn is_told(rt: &impl Abort, alloc: Global, refusal: &Refusal, words: &str) -> Re
     Ok(())
 }
 
-#[test]
-fn refusals_are_told(rt: HostRuntime) -> Result<(), Fail> {
-    for &(refusal, words) in &[
-        (&Refusal::NotACommand, "control 12: not a command\n"),
-        (&Refusal::Absent, "control 12: absent\n"),
-        (&Refusal::TooLong, "control 12: too long\n"),
-        (&Refusal::NoJob, "control 12: no job\n"),
-        (&Refusal::NoFile, "control 12: no file\n"),
-    ] {
-        is_told(&rt, rt.alloc(), refusal, words)?;
-    }
-    Ok(())
-}
-
 /// A list with too many items.
 fn too_many(alloc: Global) -> Result<Refusal, NoMemory> {
     Ok(Refusal::Refused(ConfFault::TooMany {
@@ -65,13 +51,26 @@ fn too_many(alloc: Global) -> Result<Refusal, NoMemory> {
 }
 
 #[test]
-fn a_fault_is_told_with_its_limit(rt: HostRuntime) -> Result<(), Fail> {
-    let refusal = too_many(rt.alloc())?;
-    is_told(
-        &rt,
-        rt.alloc(),
-        &refusal,
-        "control 12: refused TooMany /a 1000\n",
-    )?;
+fn refusals_are_told(rt: HostRuntime) -> Result<(), Fail> {
+    {
+        for &(refusal, words) in &[
+            (&Refusal::NotACommand, "control 12: not a command\n"),
+            (&Refusal::Absent, "control 12: absent\n"),
+            (&Refusal::TooLong, "control 12: too long\n"),
+            (&Refusal::NoJob, "control 12: no job\n"),
+            (&Refusal::NoFile, "control 12: no file\n"),
+        ] {
+            is_told(&rt, rt.alloc(), refusal, words)?;
+        }
+    }
+    {
+        let refusal = too_many(rt.alloc())?;
+        is_told(
+            &rt,
+            rt.alloc(),
+            &refusal,
+            "control 12: refused TooMany /a 1000\n",
+        )?;
+    }
     Ok(())
 }

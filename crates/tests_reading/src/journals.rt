@@ -25,26 +25,6 @@ fn fault_of(rt: &impl Abort, alloc: Global, text: &[u8]) -> Option<(u64, ScriptC
     }
 }
 
-#[test]
-fn events_are_read(rt: HostRuntime) {
-    let Ok(journal) = read_journal(rt.alloc(), ONE_LOAD) else {
-        panic!(rt; "not read");
-    };
-    let read = match journal.events() {
-        [
-            Event::Load { moment: 0, text },
-            Event::Sweep { moment: 0 },
-            Event::Finish {
-                ticket: 0,
-                took: 15,
-                reply: Reply::Body { status: 200, bytes },
-            },
-        ] => text.as_slice().len() == 76 && bytes.as_slice() == b"x 1\ny 2\n".as_slice(),
-        _ => false,
-    };
-    assert!(rt; read);
-}
-
 /// Ends the test where a journal is not written as its text was read.
 fn is_written_as_read(rt: &impl Abort, alloc: Global, script: &[u8]) {
     let Ok(journal) = read_journal(alloc, script) else {
@@ -54,13 +34,6 @@ fn is_written_as_read(rt: &impl Abort, alloc: Global, script: &[u8]) {
         panic!(rt; "not written");
     };
     assert!(rt; text.as_slice() == script);
-}
-
-#[test]
-fn each_kind_of_event_is_written_as_it_is_read(rt: HostRuntime) {
-    for script in [ONE_LOAD, EACH_KIND, b"scrape-journal 1\n"] {
-        is_written_as_read(&rt, rt.alloc(), script);
-    }
 }
 
 /// The fault of `ONE_LOAD` cut to its first bytes.
@@ -74,15 +47,6 @@ fn cut_fault(len: usize) -> Option<(u64, ScriptCause)> {
         113..=127 => Some((112, ScriptCause::Line)),
         128..=136 => Some((112, ScriptCause::Rest)),
         _ => None,
-    }
-}
-
-#[test]
-fn a_text_may_be_cut_anywhere(rt: HostRuntime) {
-    assert_eq!(rt; ONE_LOAD.len(), 137);
-    for len in 0..=ONE_LOAD.len() {
-        let fault = fault_of(&rt, rt.alloc(), &ONE_LOAD[..len]);
-        assert!(rt; fault == cut_fault(len), "at {len}");
     }
 }
 
@@ -112,16 +76,6 @@ fn script_of(alloc: Global, line: &str) -> Result<Vec<u8>, AllocError> {
     Ok(script)
 }
 
-#[test]
-fn lines_that_begin_no_event_are_faults(rt: HostRuntime) -> Result<(), Fail> {
-    for &line in NO_EVENTS {
-        let script = script_of(rt.alloc(), line)?;
-        let fault = fault_of(&rt, rt.alloc(), script.as_slice());
-        assert!(rt; fault == Some((17, ScriptCause::Line)), "{line}");
-    }
-    Ok(())
-}
-
 /// Texts that are no journal's, where they have their faults, and why.
 const NO_JOURNALS: &[(&[u8], u64, ScriptCause)] = &[
     (b"scrape-journal 2\n", 0, ScriptCause::Header),
@@ -144,24 +98,66 @@ const NO_JOURNALS: &[(&[u8], u64, ScriptCause)] = &[
 ];
 
 #[test]
-fn what_follows_a_line_is_looked_at_before_the_order(rt: HostRuntime) {
-    for &(script, offset, cause) in NO_JOURNALS {
-        assert!(rt; fault_of(&rt, rt.alloc(), script) == Some((offset, cause)));
+fn scripts_are_read_or_refused(rt: HostRuntime) -> Result<(), Fail> {
+    {
+        assert_eq!(rt; ONE_LOAD.len(), 137);
+        for len in 0..=ONE_LOAD.len() {
+            let fault = fault_of(&rt, rt.alloc(), &ONE_LOAD[..len]);
+            assert!(rt; fault == cut_fault(len), "at {len}");
+        }
     }
+    {
+        for &line in NO_EVENTS {
+            let script = script_of(rt.alloc(), line)?;
+            let fault = fault_of(&rt, rt.alloc(), script.as_slice());
+            assert!(rt; fault == Some((17, ScriptCause::Line)), "{line}");
+        }
+    }
+    {
+        for &(script, offset, cause) in NO_JOURNALS {
+            assert!(rt; fault_of(&rt, rt.alloc(), script) == Some((offset, cause)));
+        }
+    }
+    Ok(())
 }
 
 #[test]
-fn a_journal_takes_events(rt: HostRuntime) -> Result<(), Fail> {
-    let mut journal = Journal::new(rt.alloc());
-    assert!(rt; journal.is_empty() && journal.now() == 0);
-    journal.reserve(2)?;
-    journal.push(Event::Sweep { moment: 3 });
-    journal.push(Event::Finish {
-        ticket: 0,
-        took: 9,
-        reply: Reply::Lost,
-    });
-    assert!(rt; journal.len() == 2 && journal.now() == 3);
-    assert!(rt; journal.into_events().len() == 2);
+fn events_are_read_and_written(rt: HostRuntime) -> Result<(), Fail> {
+    {
+        let Ok(journal) = read_journal(rt.alloc(), ONE_LOAD) else {
+            panic!(rt; "not read");
+        };
+        let read = match journal.events() {
+            [
+                Event::Load { moment: 0, text },
+                Event::Sweep { moment: 0 },
+                Event::Finish {
+                    ticket: 0,
+                    took: 15,
+                    reply: Reply::Body { status: 200, bytes },
+                },
+            ] => text.as_slice().len() == 76 && bytes.as_slice() == b"x 1\ny 2\n".as_slice(),
+            _ => false,
+        };
+        assert!(rt; read);
+    }
+    {
+        for script in [ONE_LOAD, EACH_KIND, b"scrape-journal 1\n"] {
+            is_written_as_read(&rt, rt.alloc(), script);
+        }
+    }
+    {
+        let mut journal = Journal::new(rt.alloc());
+        assert!(rt; journal.is_empty() && journal.now() == 0);
+        journal.reserve(2)?;
+        journal.push(Event::Sweep { moment: 3 });
+        journal.push(Event::Finish {
+            ticket: 0,
+            took: 9,
+            reply: Reply::Lost,
+        });
+        assert!(rt; journal.len() == 2 && journal.now() == 3);
+        assert!(rt; journal.into_events().len() == 2);
+    }
     Ok(())
 }

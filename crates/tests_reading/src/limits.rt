@@ -35,55 +35,53 @@ fn two_labels(alloc: Global) -> Result<LabelSet, LabelError> {
 }
 
 #[test]
-fn sets_are_judged(rt: HostRuntime) -> Result<(), Fail> {
-    let set = two_labels(rt.alloc())?;
-    for &((label, name_length, value_length), fault) in LABELS {
-        let limits = Limits {
-            label,
-            name_length,
-            value_length,
-            ..NO_LIMITS
-        };
-        assert_eq!(rt; judge(&limits, &set), fault);
-        assert_eq!(rt; judge(&limits, &LabelSet::empty()), None);
+fn sets_bodies_and_samples_have_limits(rt: HostRuntime) -> Result<(), Fail> {
+    {
+        let set = two_labels(rt.alloc())?;
+        for &((label, name_length, value_length), fault) in LABELS {
+            let limits = Limits {
+                label,
+                name_length,
+                value_length,
+                ..NO_LIMITS
+            };
+            assert_eq!(rt; judge(&limits, &set), fault);
+            assert_eq!(rt; judge(&limits, &LabelSet::empty()), None);
+        }
+    }
+    {
+        let cases = [
+            (0, MOST_BODY_BYTES),
+            (1, 1),
+            (MOST_BODY_BYTES, MOST_BODY_BYTES),
+            (MOST_BODY_BYTES + 1, MOST_BODY_BYTES),
+            (u64::MAX, MOST_BODY_BYTES),
+        ];
+        for (body_size, limit) in cases {
+            let limits = Limits {
+                body_size,
+                ..NO_LIMITS
+            };
+            assert_eq!(rt; body_limit(&limits), limit);
+        }
+    }
+    {
+        let cases = [
+            (0, 0, false),
+            (0, u64::MAX, false),
+            (5, 4, false),
+            (5, 5, false),
+            (5, 6, true),
+            (1, 0, false),
+            (u64::MAX, u64::MAX, false),
+        ];
+        for (sample, left, past) in cases {
+            let limits = Limits {
+                sample,
+                ..NO_LIMITS
+            };
+            assert_eq!(rt; too_many(&limits, left), past);
+        }
     }
     Ok(())
-}
-
-#[test]
-fn bodies_have_limits(rt: HostRuntime) {
-    let cases = [
-        (0, MOST_BODY_BYTES),
-        (1, 1),
-        (MOST_BODY_BYTES, MOST_BODY_BYTES),
-        (MOST_BODY_BYTES + 1, MOST_BODY_BYTES),
-        (u64::MAX, MOST_BODY_BYTES),
-    ];
-    for (body_size, limit) in cases {
-        let limits = Limits {
-            body_size,
-            ..NO_LIMITS
-        };
-        assert_eq!(rt; body_limit(&limits), limit);
-    }
-}
-
-#[test]
-fn samples_are_counted(rt: HostRuntime) {
-    let cases = [
-        (0, 0, false),
-        (0, u64::MAX, false),
-        (5, 4, false),
-        (5, 5, false),
-        (5, 6, true),
-        (1, 0, false),
-        (u64::MAX, u64::MAX, false),
-    ];
-    for (sample, left, past) in cases {
-        let limits = Limits {
-            sample,
-            ..NO_LIMITS
-        };
-        assert_eq!(rt; too_many(&limits, left), past);
-    }
 }

@@ -204,31 +204,30 @@ fn fault_of(alloc: Global, first: Row<'_>, second: Row<'_>) -> Result<Option<Rul
 }
 
 #[test]
-fn fields_are_refused_before_patterns(rt: HostRuntime) -> Result<(), Fail> {
-    for &(row, field) in REFUSED {
-        let fault = fault_of(rt.alloc(), (Action::Keep, "a", "(", 0, "", ""), row)?;
-        let wanted = match field {
-            Some(field) => RuleFault::BadRule { rule: 1, field },
-            None => RuleFault::BadPattern { rule: 0 },
-        };
-        assert_eq!(rt; fault, Some(wanted), "{} {} {}", row.1, row.2, row.4);
+fn rules_are_refused_or_copied(rt: HostRuntime) -> Result<(), Fail> {
+    {
+        for &(row, field) in REFUSED {
+            let fault = fault_of(rt.alloc(), (Action::Keep, "a", "(", 0, "", ""), row)?;
+            let wanted = match field {
+                Some(field) => RuleFault::BadRule { rule: 1, field },
+                None => RuleFault::BadPattern { rule: 0 },
+            };
+            assert_eq!(rt; fault, Some(wanted), "{} {} {}", row.1, row.2, row.4);
+        }
     }
-    Ok(())
-}
-
-#[test]
-fn settings_are_copied(rt: HostRuntime) -> Result<(), Fail> {
-    let conf = conf_of(rt.alloc(), (Action::HashMod, "a", "x.*", 8, "t", "y"))?;
-    let copy = conf.copy(rt.alloc())?;
-    assert!(rt; copy.fault().is_none() && copy.action == Action::HashMod && copy.modulus == 8);
-    assert_eq!(rt; copy.sources.as_slice().len(), 1);
-    assert_eq!(rt;
-        (copy.separator.as_str(), copy.regex.as_str()),
-        (";", "x.*")
-    );
-    assert_eq!(rt;
-        (copy.target.as_str(), copy.replacement.as_str()),
-        ("t", "y")
-    );
+    {
+        let conf = conf_of(rt.alloc(), (Action::HashMod, "a", "x.*", 8, "t", "y"))?;
+        let copy = conf.copy(rt.alloc())?;
+        assert!(rt; copy.fault().is_none() && copy.action == Action::HashMod && copy.modulus == 8);
+        assert_eq!(rt; copy.sources.as_slice().len(), 1);
+        assert_eq!(rt;
+            (copy.separator.as_str(), copy.regex.as_str()),
+            (";", "x.*")
+        );
+        assert_eq!(rt;
+            (copy.target.as_str(), copy.replacement.as_str()),
+            ("t", "y")
+        );
+    }
     Ok(())
 }

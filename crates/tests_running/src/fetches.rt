@@ -87,28 +87,6 @@ fn reply_of<F: Fetch>(alloc: Global, fetch: &mut F, port: u16) -> Result<String,
     show(alloc, &fetched.reply)
 }
 
-#[test]
-fn a_request_is_sent_and_its_reply_taken(rt: HostRuntime) -> Result<(), Fail> {
-    let mut fetch = over(rt.alloc(), BODY, TEXT.len(), 99)?;
-    let first = answer(rt.alloc(), &mut fetch, Scheme::Http)?;
-    assert_eq!(rt; first.as_str(), "15 200 [x 1\n]");
-    assert!(rt; fetch.link.sent() == TEXT.as_bytes());
-    // a clock that goes back
-    fetch.clock = clock(rt.alloc(), 20, 5)?;
-    let again = answer(rt.alloc(), &mut fetch, Scheme::Http)?;
-    assert_eq!(rt; again.as_str(), "0 lost");
-    Ok(())
-}
-
-#[test]
-fn https_is_not_sent(rt: HostRuntime) -> Result<(), Fail> {
-    let mut fetch = over(rt.alloc(), BODY, TEXT.len(), 99)?;
-    let answer = answer(rt.alloc(), &mut fetch, Scheme::Https)?;
-    assert_eq!(rt; answer.as_str(), "0 unsent");
-    assert!(rt; fetch.link.sent().is_empty());
-    Ok(())
-}
-
 /// The reply over a link that gives a text, has so much room, and fails at a call.
 fn reply_over(alloc: Global, text: &str, room: usize, fails: u64) -> Result<String, NoMemory> {
     let mut fetch = over(alloc, text, room, fails)?;
@@ -116,23 +94,41 @@ fn reply_over(alloc: Global, text: &str, room: usize, fails: u64) -> Result<Stri
 }
 
 #[test]
-fn a_call_that_fails_loses_the_reply(rt: HostRuntime) -> Result<(), Fail> {
-    let ends = "HTTP/1.1 200 OK\r\n\r\nx 1\n";
-    for &(text, room, fails, reply) in &[
-        // the dial, the write, the read, and the read that meets the end
-        (ends, TEXT.len(), 0, "lost"),
-        (ends, TEXT.len(), 1, "lost"),
-        (ends, TEXT.len(), 2, "lost"),
-        (ends, TEXT.len(), 3, "lost"),
-        // a reply that ends by itself asks for no further read
-        (BODY, TEXT.len(), 3, "200 [x 1\n]"),
-        // a link that takes not all of the request
-        (BODY, TEXT.len() - 1, 99, "lost"),
-    ] {
-        assert!(rt;
-            reply_over(rt.alloc(), text, room, fails)?.as_str() == reply,
-            "{fails}"
-        );
+fn a_reply_is_taken_or_lost(rt: HostRuntime) -> Result<(), Fail> {
+    {
+        let mut fetch = over(rt.alloc(), BODY, TEXT.len(), 99)?;
+        let first = answer(rt.alloc(), &mut fetch, Scheme::Http)?;
+        assert_eq!(rt; first.as_str(), "15 200 [x 1\n]");
+        assert!(rt; fetch.link.sent() == TEXT.as_bytes());
+        // a clock that goes back
+        fetch.clock = clock(rt.alloc(), 20, 5)?;
+        let again = answer(rt.alloc(), &mut fetch, Scheme::Http)?;
+        assert_eq!(rt; again.as_str(), "0 lost");
+    }
+    {
+        let mut fetch = over(rt.alloc(), BODY, TEXT.len(), 99)?;
+        let answer = answer(rt.alloc(), &mut fetch, Scheme::Https)?;
+        assert_eq!(rt; answer.as_str(), "0 unsent");
+        assert!(rt; fetch.link.sent().is_empty());
+    }
+    {
+        let ends = "HTTP/1.1 200 OK\r\n\r\nx 1\n";
+        for &(text, room, fails, reply) in &[
+            // the dial, the write, the read, and the read that meets the end
+            (ends, TEXT.len(), 0, "lost"),
+            (ends, TEXT.len(), 1, "lost"),
+            (ends, TEXT.len(), 2, "lost"),
+            (ends, TEXT.len(), 3, "lost"),
+            // a reply that ends by itself asks for no further read
+            (BODY, TEXT.len(), 3, "200 [x 1\n]"),
+            // a link that takes not all of the request
+            (BODY, TEXT.len() - 1, 99, "lost"),
+        ] {
+            assert!(rt;
+                reply_over(rt.alloc(), text, room, fails)?.as_str() == reply,
+                "{fails}"
+            );
+        }
     }
     Ok(())
 }
@@ -177,22 +173,6 @@ fn fetched_soon<F: Fetch>(alloc: Global, fetch: &mut F, port: u16) -> Result<Fet
     fetch.fetch(alloc, &asked)
 }
 
-#[test]
-fn a_server_that_says_nothing_is_given_up(rt: HostRuntime) -> Result<(), Fail> {
-    let link = TcpLink::new(rt.clone()?);
-    let mut fetch = HttpFetch::new(rt.alloc(), link, SystemClock::new(rt.clone()?));
-    let listener = TcpListener::bind(&rt, "127.0.0.1:0")?;
-    let port = listener.local_addr()?.port();
-    let fetched = fetched_soon(rt.alloc(), &mut fetch, port)?;
-    assert!(rt; matches!(fetched.reply, Reply::Lost));
-    assert!(rt;
-        50 <= fetched.took && fetched.took < 5000,
-        "{}",
-        fetched.took
-    );
-    Ok(())
-}
-
 /// Answers one connection with a page that has no end, a line every 10 milliseconds.
 fn drip<C: time::Clock>(clock: &C, listener: TcpListener) -> io::Result<()> {
     let (mut stream, _) = listener.accept()?;
@@ -205,20 +185,35 @@ fn drip<C: time::Clock>(clock: &C, listener: TcpListener) -> io::Result<()> {
 }
 
 #[test]
-fn a_server_that_drips_is_given_up(rt: HostRuntime) -> Result<(), Fail> {
-    let link = TcpLink::new(rt.clone()?);
-    let mut fetch = HttpFetch::new(rt.alloc(), link, SystemClock::new(rt.clone()?));
-    let clock = rt.clone()?;
-    let listener = TcpListener::bind(&rt, "127.0.0.1:0")?;
-    let port = listener.local_addr()?.port();
-    let server = thread::spawn(&rt, move || drip(&clock, listener))?;
-    let fetched = fetched_soon(rt.alloc(), &mut fetch, port)?;
-    assert!(rt; matches!(fetched.reply, Reply::Lost));
-    assert!(rt;
-        50 <= fetched.took && fetched.took < 2000,
-        "{}",
-        fetched.took
-    );
-    let _ = server.join(&rt);
+fn a_server_that_is_slow_is_given_up(rt: HostRuntime) -> Result<(), Fail> {
+    {
+        let link = TcpLink::new(rt.clone()?);
+        let mut fetch = HttpFetch::new(rt.alloc(), link, SystemClock::new(rt.clone()?));
+        let listener = TcpListener::bind(&rt, "127.0.0.1:0")?;
+        let port = listener.local_addr()?.port();
+        let fetched = fetched_soon(rt.alloc(), &mut fetch, port)?;
+        assert!(rt; matches!(fetched.reply, Reply::Lost));
+        assert!(rt;
+            50 <= fetched.took && fetched.took < 5000,
+            "{}",
+            fetched.took
+        );
+    }
+    {
+        let link = TcpLink::new(rt.clone()?);
+        let mut fetch = HttpFetch::new(rt.alloc(), link, SystemClock::new(rt.clone()?));
+        let clock = rt.clone()?;
+        let listener = TcpListener::bind(&rt, "127.0.0.1:0")?;
+        let port = listener.local_addr()?.port();
+        let server = thread::spawn(&rt, move || drip(&clock, listener))?;
+        let fetched = fetched_soon(rt.alloc(), &mut fetch, port)?;
+        assert!(rt; matches!(fetched.reply, Reply::Lost));
+        assert!(rt;
+            50 <= fetched.took && fetched.took < 2000,
+            "{}",
+            fetched.took
+        );
+        let _ = server.join(&rt);
+    }
     Ok(())
 }

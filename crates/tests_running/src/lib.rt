@@ -1,17 +1,26 @@
-//! Tests of `http_fetch`, over links in memory, links that give one byte a read, and connections of this machine:
-//! replies whole and cut at each place, servers that mean no good, and links that fail at a call. There is no code
-//! here. What shows each public call:
+//! Tests of the core, over which a run is built, and of `http_fetch`, over links in memory, links that give one byte
+//! a read, and connections of this machine: replies whole and cut at each place, servers that mean no good, and links that
+//! fail at a call. There is no code here. What shows each public call, by a test or by a file of cases:
 //!
 //! | public call | test |
 //! |---|---|
 //! | `decode`, `Decoder::{new, feed, end}` | `replies::replies_whole_and_cut_at_each_place` |
 //! | `Decoder::feed`, and that it is done | `replies::a_whole_reply_is_known_at_its_last_byte` |
-//! | `receive::receive` | `replies::a_link_is_read_to_its_reply`, `hostile` |
+//! | `receive::receive` | `replies::replies_whole_and_cut_at_each_place`, `hostile` |
 //! | `HttpFetch::{new, fetch}`, `exchange::exchange`, `requests::text_of` | `fetches` |
 //! | `stages::{is_done, is_body, frame_step, body_step}` | within `Decoder::feed` |
 //! | `laws::{last_read, one_reply}` | contract alone |
+//! | `Core::{new, step, take, runs, book}` | `cores::each_event_has_its_answer`; `scripts`, `updates` |
+//! | `Core::{events, journal, now}` | `cores::each_event_has_its_answer` |
+//! | `Core::{due, wake, request, started, jobs}` | `cores::readers::a_core_says_what_is_due_and_what_is_asked` |
+//! | `Core::halt` | `cores::readers::room_is_kept_for_a_halt` |
+//! | `Core::{finish_read, take_read}`, `ReadEvent` | `cores::readers::a_body_that_is_read_is_counted` |
+//! | `Core::{seeded, let_go}`, `replay` | `scrape_cli`, whose every case goes through them |
+//! | the calls of `jobs_in_force` and `scrape_steps` | `cores`, within `Core::step`; `reloads`, `updates` |
 #![tactic(auto)]
 
+#[cfg(test)]
+mod cores;
 #[cfg(test)]
 mod fetches;
 #[cfg(test)]

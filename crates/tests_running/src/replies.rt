@@ -162,19 +162,6 @@ const REPLIES: &[(&str, u64, &str)] = &[
     ("", 2, "garbled"),
 ];
 
-#[test]
-fn replies_whole_and_cut_at_each_place(rt: HostRuntime) -> Result<(), Fail> {
-    for &(text, limit, answer) in REPLIES {
-        assert_eq!(rt; whole(rt.alloc(), text, limit)?.as_str(), answer, "{text}");
-        assert_eq!(rt;
-            told_otherwise(rt.alloc(), text, limit, answer)?,
-            None,
-            "{text}"
-        );
-    }
-    Ok(())
-}
-
 /// After how many bytes the decoder says that nothing changes any more, byte by byte.
 fn done_after(alloc: Global, text: &str, limit: u64) -> Result<Option<usize>, NoMemory> {
     let mut decoder = Decoder::new(alloc, limit)?;
@@ -199,13 +186,25 @@ fn a_whole_reply_is_known_at_its_last_byte(rt: HostRuntime) -> Result<(), Fail> 
 }
 
 #[test]
-fn a_link_is_read_to_its_reply(rt: HostRuntime) -> Result<(), Fail> {
-    for &(text, limit, answer) in REPLIES {
-        assert_eq!(rt;
-            received(rt.alloc(), text, limit)?.as_str(),
-            answer,
-            "{text}"
-        );
+fn replies_whole_and_cut_at_each_place(rt: HostRuntime) -> Result<(), Fail> {
+    {
+        for &(text, limit, answer) in REPLIES {
+            assert_eq!(rt; whole(rt.alloc(), text, limit)?.as_str(), answer, "{text}");
+            assert_eq!(rt;
+                told_otherwise(rt.alloc(), text, limit, answer)?,
+                None,
+                "{text}"
+            );
+        }
+    }
+    {
+        for &(text, limit, answer) in REPLIES {
+            assert_eq!(rt;
+                received(rt.alloc(), text, limit)?.as_str(),
+                answer,
+                "{text}"
+            );
+        }
     }
     Ok(())
 }

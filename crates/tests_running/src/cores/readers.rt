@@ -2,11 +2,9 @@
 ghost use Rattle.std.specs.Prelude.{◌≡◌, ◌<◌};
 
 use super::{BODY, CONF, expect, has_kept, is_said, loads, loses, starts, sweeps};
-use journal_text::Event;
+use expo_reader::read_body;
 use label_set::{Blob, NoMemory, Steps};
-use outside::Reply;
 use scrape_core::Core;
-use scrape_loop::ReadReply;
 use std::alloc::Global;
 use std::marker::Brand;
 use std::process::Abort;
@@ -101,13 +99,10 @@ fn counts_read<L: Ledger>(
     if bytes.as_slice().len() > 100 {
         return Err(NoMemory);
     }
-    let read = ReadReply::read(alloc, 200, BODY)?;
-    let event = Event::Finish {
-        ticket: 0,
-        took: 15,
-        reply: Reply::Body { status: 200, bytes },
+    let Ok(body) = read_body(alloc, bytes) else {
+        return Err(NoMemory);
     };
-    let answer = core.finish_read(alloc, event, &read, steps)?;
+    let answer = core.finish_read(alloc, 0, 15, 200, body, steps)?;
     is_said(rt, alloc, &answer, "Counted(None)")
 }
 
