@@ -138,7 +138,7 @@ fn span_at(rows: &[RowSpan], place: usize) -> RowSpan
 }
 
 /// The bytes in front.
-fn front_of(text: &[u8], len: usize) -> &[u8]
+pub(crate) fn front_of(text: &[u8], len: usize) -> &[u8]
     requires { len ≤ length text.now }
     ensures { result.now ≡ take len text.now }
 {

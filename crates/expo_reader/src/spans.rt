@@ -1,16 +1,18 @@
 //! Where the rows of a body stand in it: the one parser. Rows are offsets into the bytes, so they borrow nothing.
-ghost use Rattle.std.specs.Prelude.{◌≡◌, ◌≤◌, ◌<◌, ◌+◌, ◌++◌, ◌-◌, ◌^◌, length, drop, take, ℕ, All, IfErr, IfNone, IfOk, IfSome, IsTrue, MatchResult, None, OnOk, Ok, Some};
+ghost use Rattle.std.specs.Prelude.{◌≡◌, ◌≤◌, ◌<◌, ◌+◌, ◌++◌, ◌-◌, ◌^◌, [], length, drop, take, ℕ, All, IfErr, IfNone, IfOk, IfSome, IsTrue, MatchResult, None, OnOk, Ok, Some};
 ghost use Rattle.expo_lexer.specs.Tokens.{blank_len};
 ghost use Rattle.expo_reader.specs.Bodies.{CauseIs, line_reading, reading};
 ghost use Rattle.expo_reader.specs.Faults.{FaultIs};
 ghost use Rattle.expo_reader.specs.Forms as spec;
+ghost use Rattle.expo_reader.specs.Like.{AreLike, IsLike, place_list};
 ghost use Rattle.expo_reader.specs.Spans as seen;
 ghost use Rattle.expo_reader.specs.Texts.{word_in};
 ghost use Rattle.value_text.specs.Values.{is_value};
 
-use crate::bodies::BodyCause;
+use crate::bodies::{BodyCause, ReadBody};
 use crate::faults::Fault;
 use crate::labels::{LentLabel, labels_in};
+use crate::like::{Expected, like_parts};
 use crate::lines::{behind, line_end, metric_in};
 use crate::parts::{Part, mark_in, quick_value, start_of, word_in};
 use crate::repeats::names_differ;
@@ -57,7 +59,7 @@ fn value_word(text: &[u8]) -> Option<Part<'_>>
 
 /// Where the value stands that a line ends with, behind its raw text.
 #[tactic(auto, unfolding(crate::specs::Forms::value_in))]
-fn parts_of(line: &[u8], raw_len: usize, rest: &[u8]) -> Result<LineSpan, Fault>
+pub(crate) fn parts_of(line: &[u8], raw_len: usize, rest: &[u8]) -> Result<LineSpan, Fault>
     requires raw { raw_len ≤ length line.now }
     requires tail { seen.IsTail rest.now line.now }
     requires few { length line.now < 2 ^ 32 }
@@ -88,7 +90,7 @@ fn place_of(line: &[u8], word: &[u8], rest: &[u8]) -> usize
 }
 
 /// Where the parts of a sample line stand. The room for labels is used again.
-fn line_parts<'b>(
+pub(crate) fn line_parts<'b>(
     alloc: Global,
     line: &'b [u8],
     labels: &mut Vec<LentLabel<'b>>,
@@ -116,53 +118,39 @@ fn line_parts<'b>(
     parts_of(line, line.len() - rest.len(), rest)
 }
 
-/// What a line says: where its parts stand behind its blanks, nothing where it is skipped, or that it is faulty.
+/// What a line says: where its parts stand behind its blanks, nothing where it is skipped, or that it is faulty. Beside it the place of a row of
+/// the other body with the same raw text, and one, or 0.
 fn read_parts<'b>(
     alloc: Global,
     number: u64,
     line: &'b [u8],
+    like: &ReadBody,
+    expected: &mut Expected,
     labels: &mut Vec<LentLabel<'b>>,
-) -> Result<Option<(usize, LineSpan)>, BodyCause>
+) -> Result<(Option<(usize, LineSpan)>, u32), BodyCause>
     requires { length line.now < 2 ^ 32 }
-    ensures said { MatchResult result (λ o. line_reading number line.now ≡ Ok (seen.span_row number line.now o)) (λ c. CauseIs c (line_reading number line.now)) }
-    ensures inside { IfOk result (λ o. IfSome o (λ p. (p.0 ≤ length line.now) × seen.IsInside (length line.now - p.0) p.1)) }
+    ensures said { MatchResult result (λ r. line_reading number line.now ≡ Ok (seen.span_row number line.now r.0)) (λ c. CauseIs c (line_reading number line.now)) }
+    ensures inside { IfOk result (λ r. IfSome r.0 (λ p. (p.0 ≤ length line.now) × seen.IsInside (length line.now - p.0) p.1)) }
+    ensures like { IfOk result (λ r. IfSome r.0 (λ p. IsLike like.now.rows r.1 (take p.1.raw_len (drop p.0 line.now)))) }
 {
     let Some(start) = start_of(line) else {
-        return Ok(None);
+        return Ok((None, 0));
     };
     if line[start] == b'#' {
-        return Ok(None);
+        return Ok((None, 0));
     }
-    match line_parts(alloc, behind(line, start), labels) {
-        Ok(parts) => Ok(Some((start, parts))),
+    match like_parts(alloc, behind(line, start), like, expected, labels) {
+        Ok((parts, place)) => Ok((Some((start, parts)), place)),
         Err(Fault::Faulty) => Err(BodyCause::Line(number)),
         Err(Fault::NoMemory) => Err(BodyCause::NoMemory),
     }
 }
 
-/// Adds the row of a line, if it has one: the line stands at a place and has that length.
-fn push_span(
-    rows: &mut Vec<RowSpan>,
-    number: u64,
-    place: usize,
-    end: usize,
-    parts: Option<(usize, LineSpan)>,
-) -> Result<(), AllocError>
-    requires start { IfSome parts (λ p. p.0 ≤ end) }
-    requires near { place + end < 2 ^ 32 }
-    requires number { number < 2 ^ 32 }
-    ensures { OnOk result (rows.new.items ≡ rows.old.items ++ seen.span_list number place end parts) }
-{
-    if let Some((start, parts)) = parts {
-        rows.reserve(1)?;
-        rows.push_reserved(RowSpan {
-            line: number as u32,
-            start: (place + start) as u32,
-            len: (end - start) as u32,
-            parts,
-        });
-    }
-    Ok(())
+/// Where the rows of a body stand, and the place of each among the rows of another body: that of one with the same raw text and one, or 0.
+#[derive(Drop)]
+pub(crate) struct Spans {
+    pub rows: Vec<RowSpan>,
+    pub places: Vec<u32>,
 }
 
 /// How many bytes a line takes that is not long, and the most rows for which there is room at first.
@@ -170,26 +158,79 @@ const LINE_BYTES: usize = 40;
 
 const FIRST_ROOM: usize = 65_536;
 
-/// Where the rows of a body stand, in the order of its lines.
-pub(crate) fn spans_of(alloc: Global, body: &[u8]) -> Result<Vec<RowSpan>, BodyCause>
+impl Spans {
+    /// No rows, with room for those of so many bytes.
+    fn new(alloc: Global, bytes: usize) -> Result<Spans, AllocError>
+        ensures rows { IfOk result (λ s. s.rows.items ≡ []) }
+        ensures places { IfOk result (λ s. s.places.items ≡ []) }
+    {
+        let room = (bytes / LINE_BYTES).min(FIRST_ROOM);
+        Ok(Spans {
+            rows: Vec::with_capacity(alloc, room)?,
+            places: Vec::new(alloc),
+        })
+    }
+
+    /// Adds the row of a line, if it has one: the line stands at a place and has that length. Its row has that place among those of another body.
+    fn push(
+        &mut self,
+        number: u64,
+        place: usize,
+        end: usize,
+        parts: Option<(usize, LineSpan)>,
+        like: u32,
+    ) -> Result<(), AllocError>
+        requires start { IfSome parts (λ p. p.0 ≤ end) }
+        requires near { place + end < 2 ^ 32 }
+        requires number { number < 2 ^ 32 }
+        ensures rows { OnOk result (self.new.rows.items ≡ self.old.rows.items ++ seen.span_list number place end parts) }
+        ensures places { OnOk result (self.new.places.items ≡ self.old.places.items ++ place_list like parts) }
+    {
+        if let Some((start, parts)) = parts {
+            self.rows.reserve(1)?;
+            self.places.reserve(1)?;
+            self.rows.push_reserved(RowSpan {
+                line: number as u32,
+                start: (place + start) as u32,
+                len: (end - start) as u32,
+                parts,
+            });
+            self.places.push_reserved(like);
+        }
+        Ok(())
+    }
+}
+
+/// Where the rows of a body stand, in the order of its lines. A line that begins with the raw text of the row of another body that is expected
+/// there isn't read as far as that goes.
+pub(crate) fn spans_of(alloc: Global, body: &[u8], like: &ReadBody) -> Result<Spans, BodyCause>
     requires { length body.now < 2 ^ 32 }
-    ensures read { IfOk result (λ v. reading body.now ≡ Ok (seen.rows_seen body.now v.items)) }
-    ensures within { IfOk result (λ v. All (seen.IsWithin (length body.now)) v.items) }
+    ensures read { IfOk result (λ s. reading body.now ≡ Ok (seen.rows_seen body.now s.rows.items)) }
+    ensures within { IfOk result (λ s. All (seen.IsWithin (length body.now)) s.rows.items) }
+    ensures like { IfOk result (λ s. AreLike like.now.rows s.places.items (seen.rows_seen body.now s.rows.items)) }
     ensures cause { IfErr result (λ c. CauseIs c (reading body.now)) }
 {
-    let mut rows = Vec::with_capacity(alloc, (body.len() / LINE_BYTES).min(FIRST_ROOM))?;
+    let mut spans = Spans::new(alloc, body.len())?;
     let mut labels = Vec::new(alloc);
+    let mut expected = Expected::first();
     let mut place = 0;
     let mut number = 1;
     while place < body.len() {
         let rest = behind(body, place);
         let end = line_end(rest);
-        match read_parts(alloc, number, &rest[..end], &mut labels) {
-            Ok(parts) => push_span(&mut rows, number, place, end, parts)?,
+        match read_parts(
+            alloc,
+            number,
+            &rest[..end],
+            like,
+            &mut expected,
+            &mut labels,
+        ) {
+            Ok((parts, found)) => spans.push(number, place, end, parts, found)?,
             Err(cause) => return Err(cause),
         }
         place += end + 1;
         number += 1;
     }
-    Ok(rows)
+    Ok(spans)
 }

@@ -1,6 +1,8 @@
 //! Bodies in, rows out. Which lines are of the format, and which are faulty, the cases show.
 
-use expo_reader::{BodyCause, BodyReader, BodyRow, ReadBody, SampleRow, Unread, read_body};
+use expo_reader::{
+    BodyCause, BodyReader, BodyRow, LikeBody, ReadBody, SampleRow, Unread, read_body, read_like,
+};
 use label_set::{Blob, NoMemory};
 use std::alloc::{AllocError, Global};
 use std::test::Fail;
@@ -178,5 +180,51 @@ fn bytes_that_are_not_read_are_handed_back(rt: HostRuntime) -> Result<(), Fail> 
             Some(BodyCause::Line(1))
         );
     }
+    Ok(())
+}
+
+/// A body that is read like another one.
+fn read_alike(alloc: Global, text: &str, other: &str) -> Result<LikeBody, NoMemory> {
+    let like = body_of(alloc, other.as_bytes()).map_err(|_| NoMemory)?;
+    let bytes = Blob::from_slice(alloc, text.as_bytes())?;
+    read_like(alloc, bytes, &like).map_err(|_| NoMemory)
+}
+
+/// The places of its rows among those of the other, each with one more than it is.
+fn shown_places(alloc: Global, places: &[u32]) -> Result<String, NoMemory> {
+    let mut text = String::new(alloc);
+    for place in places {
+        text.push_str((*place as u64).to_string(alloc)?.as_str())?;
+        text.push(' ')?;
+    }
+    Ok(text)
+}
+
+/// Whether a body that is read like another one has the rows that it has alone, and these places.
+fn is_alike(alloc: Global, text: &str, other: &str, places: &str) -> Result<bool, NoMemory> {
+    let read = read_alike(alloc, text, other)?;
+    let alone = body_of(alloc, text.as_bytes()).map_err(|_| NoMemory)?;
+    if shown(alloc, &read.body)?.as_slice() != shown(alloc, &alone)?.as_slice() {
+        return Ok(false);
+    }
+    Ok(shown_places(alloc, read.places.as_slice())?.as_str() == places)
+}
+
+/// The same page, one that is moved by a line, one whose first name begins as another, another order, a blank more, and one text twice.
+const LIKE: [(&str, &str, &str); 6] = [
+    ("a 1\nb{x=\"y\"} 2 3\n", "a 5\nb{x=\"y\"} 6\n", "1 2 "),
+    ("n 0\na 1\nb 2\n", "a 3\nb 4\n", "0 1 2 "),
+    ("ab 1\na 2\n", "a 1\n", "0 1 "),
+    ("b 1\na 1\n", "a 1\nb 1\n", "2 0 "),
+    ("a{x=\"y\"} 1\n", "a{x=\"y\" } 1\n", "0 "),
+    ("a 1\na 2\n", "a 1\n", "1 0 "),
+];
+
+#[test]
+fn a_body_like_another_is_read_as_alone(rt: HostRuntime) -> Result<(), Fail> {
+    for (text, other, places) in LIKE {
+        assert!(rt; is_alike(rt.alloc(), text, other, places)?, "{text}");
+    }
+    assert!(rt; read_alike(rt.alloc(), "a x\n", "a 1\n").is_err());
     Ok(())
 }

@@ -10,8 +10,8 @@ returns-in_default-clause-said c = line-blank c.args.number c.args.line.now c.in
 pub returns-then-line-start-eq35-clause-said : goal.returns-then-line-start-eq35-clause-said
 returns-then-line-start-eq35-clause-said c = line-comment c.args.number c.args.line.now c.in-Some.start c.in-Some.ensures.place c.if-line-start-eq35.true
 
-pub line_parts-requires-clause-bare : goal.line_parts-requires-clause-bare
-line_parts-requires-clause-bare c = bare-bare c.args.line.now c.behind.result.now c.in-Some.start c.in-Some.ensures.place c.behind.ensures
+pub like_parts-requires-clause-bare : goal.like_parts-requires-clause-bare
+like_parts-requires-clause-bare c = bare-bare c.args.line.now c.behind.result.now c.in-Some.start c.in-Some.ensures.place c.behind.ensures
 
 pub returns-in-Ok-clause-said : goal.returns-in-Ok-clause-said
 returns-in-Ok-clause-said c =
