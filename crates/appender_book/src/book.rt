@@ -1,6 +1,8 @@
 //! The book: what was appended, entry by entry.
 ghost use Rattle.std.specs.Prelude.{◌≡◌, ◌+◌, ◌≤◌, ◌<◌, ◌++◌, [], ◌∷◌, ℕ, length, reverse, slice_get, vec_len, vec_capacity, is_some, IfSome, IfOk, OnOk, OnErr, option_copied};
+ghost use Rattle.std.specs.Hash.DefaultHasher.{initial};
 ghost use Rattle.std.specs.Option.{option_map};
+ghost use Rattle.std.specs.RandomState.{initial_hasher};
 ghost use Rattle.appender_book.specs.Index as spec;
 ghost use Rattle.appender_book.specs.Series as series_words;
 ghost use Rattle.appender_book.specs.Verdicts.{verdict_at};
@@ -14,7 +16,7 @@ use std::hash::{BuildHasher, DefaultHasher, RandomState};
 use std::marker::Model;
 use value_text::ValueText;
 
-/// Entries that are only ever appended, with their verdicts. Contracts see the entries, and the spare room.
+/// Entries that are only ever appended, with their verdicts. Contracts see the entries, the spare room, and the hasher.
 #[derive(Drop)]
 pub struct Book {
     entries: Vec<Entry>,
@@ -33,7 +35,7 @@ impl Model for Book {
 
     ghost Value = { BookView };
 
-    ghost view = { λ b. record { entries = b.entries.items; spare = b.room } };
+    ghost view = { λ b. record { entries = b.entries.items; spare = b.room; hasher = b.index.hasher } };
 
     ghost invariant = { λ b. IsIndex b.entries.items b.index × (vec_len b.entries + b.room ≤ vec_capacity b.entries) × HasRoom b.room b.index × AreShort b.longest b.entries.items };
 }
@@ -53,6 +55,7 @@ fn make_room(entries: &mut Vec<Entry>, index: &mut Index, more: usize) -> Result
     ensures entries { entries.new.items ≡ entries.old.items }
     ensures len { vec_len entries.new ≡ vec_len entries.old }
     ensures index { spec.IsIndex entries.new.items index.new }
+    ensures hasher { index.new.hasher ≡ index.old.hasher }
     ensures capacity { vec_capacity entries.old ≤ vec_capacity entries.new }
     ensures index_room { (n : ℕ) → spec.HasRoom n index.old → spec.HasRoom n index.new }
     ensures ok { OnOk result (vec_len entries.new + more ≤ vec_capacity entries.new) }
@@ -69,6 +72,7 @@ fn push(entries: &mut Vec<Entry>, index: &mut Index, entry: Entry)
     requires index_room { spec.HasRoom 1 index.old }
     ensures entries { entries.new.items ≡ entries.old.items ++ entry ∷ [] }
     ensures index { spec.IsIndex entries.new.items index.new }
+    ensures hasher { index.new.hasher ≡ index.old.hasher }
     ensures room { vec_len entries.new ≡ vec_len entries.old + 1 }
     ensures capacity { vec_capacity entries.new ≡ vec_capacity entries.old }
     ensures index_room { (n : ℕ) → spec.HasRoom (n + 1) index.old → spec.HasRoom n index.new }
@@ -83,20 +87,23 @@ fn push(entries: &mut Vec<Entry>, index: &mut Index, entry: Entry)
 impl Book {
     /// A book without entries, whose hashes have a fixed seed: for series that no stranger names.
     pub fn new(alloc: Global) -> Result<Book, NoMemory>
-        ensures { IfOk result (λ b. b.entries ≡ []) }
+        ensures entries { IfOk result (λ b. b.entries ≡ []) }
+        ensures hasher { IfOk result (λ b. b.hasher ≡ initial) }
     {
         Ok(Book::hashed(alloc, DefaultHasher::new()))
     }
 
     /// A book without entries, whose hashes have this seed: who doesn't know it can't name many series that share a hash.
     pub fn seeded(alloc: Global, seed: RandomState) -> Result<Book, NoMemory>
-        ensures { IfOk result (λ b. b.entries ≡ []) }
+        ensures entries { IfOk result (λ b. b.entries ≡ []) }
+        ensures hasher { IfOk result (λ b. b.hasher ≡ initial_hasher seed) }
     {
         Ok(Book::hashed(alloc, seed.build_hasher()))
     }
 
     fn hashed(alloc: Global, hasher: DefaultHasher) -> Book
-        ensures { result.entries ≡ [] }
+        ensures entries { result.entries ≡ [] }
+        ensures hasher { result.hasher ≡ hasher }
     {
         Book {
             entries: Vec::new(alloc),
@@ -107,7 +114,9 @@ impl Book {
     }
 
     /// The hasher with which each hash of the book begins, with the seed that the book was made with.
-    pub fn hasher(&self) -> DefaultHasher {
+    pub fn hasher(&self) -> DefaultHasher
+        ensures { result ≡ self.now.hasher }
+    {
         self.index.hasher()
     }
 
@@ -116,6 +125,7 @@ impl Book {
         ensures room { OnOk result (more ≤ self.new.spare) }
         ensures entries { self.new.entries ≡ self.old.entries }
         ensures kept { self.old.spare ≤ self.new.spare }
+        ensures hasher { self.new.hasher ≡ self.old.hasher }
         ensures err { OnErr result (self.new ≡ self.old) }
     {
         if more > self.room {
@@ -130,6 +140,7 @@ impl Book {
         requires { 1 ≤ self.old.spare }
         ensures entries { self.new.entries ≡ self.old.entries ++ entry ∷ [] }
         ensures spare { self.old.spare ≤ self.new.spare + 1 }
+        ensures hasher { self.new.hasher ≡ self.old.hasher }
     {
         self.longest = self.longest.max(value_len(&entry.value));
         push(&mut self.entries, &mut self.index, entry);
@@ -140,6 +151,7 @@ impl Book {
     pub fn append_all(&mut self, entries: EntryList) -> Result<(), NoMemory>
         ensures ok { OnOk result (self.new.entries ≡ self.old.entries ++ entries) }
         ensures spare { OnOk result (self.old.spare ≤ self.new.spare + length entries) }
+        ensures hasher { self.new.hasher ≡ self.old.hasher }
         ensures err { OnErr result (self.new ≡ self.old) }
     {
         let mut items = entries.items;

@@ -50,6 +50,7 @@ impl Index {
     /// The index of no entries.
     pub(crate) fn new(alloc: Global, hasher: DefaultHasher) -> Index
         ensures index { spec.IsIndex [] result }
+        ensures hasher { result.hasher ≡ hasher }
         ensures room { spec.HasRoom 0 result }
     {
         Index {
@@ -65,7 +66,9 @@ impl Index {
     }
 
     /// The hasher with which each hash begins.
-    pub(crate) fn hasher(&self) -> DefaultHasher {
+    pub(crate) fn hasher(&self) -> DefaultHasher
+        ensures { result ≡ self.now.hasher }
+    {
         self.hasher
     }
 

@@ -97,9 +97,10 @@ impl Settings {
         })
     }
 
-    /// The job that they are of.
+    /// The job that they are of: its interval and its timeout are in their bounds.
     pub fn job(&self) -> &Job
-        ensures { settings_of result.now ≡ self.now }
+        ensures settings { settings_of result.now ≡ self.now }
+        ensures bounded { IsBounded result.now.conf }
     {
         self.job.job()
     }

@@ -231,6 +231,7 @@ pub fn in_force<L: Ledger>(
     ensures job { IfOk result (λ j. j ≡ spec.in_force filed) }
     ensures steps { IfOk result (λ j. steps.new ≡ steps.old + listed.listed_in j) }
     ensures at_least { steps.old ≤ steps.new }
+    ensures at_most { steps.new ≤ steps.old + spec.count_of filed }
 {
     let Filed { job, files } = filed;
     let one = job.job();
@@ -255,6 +256,7 @@ pub fn in_force_all<L: Ledger>(
     ensures jobs { IfOk result (λ v. v.items ≡ map spec.in_force filed.items) }
     ensures steps { IfOk result (λ v. steps.new ≡ steps.old + listed.listed_by v.items) }
     ensures at_least { steps.old ≤ steps.new }
+    ensures at_most { steps.new ≤ steps.old + listed.listed_by (map spec.in_force filed.items) }
 {
     let mut jobs = Vec::with_capacity(alloc, filed.len())?;
     for one in filed {

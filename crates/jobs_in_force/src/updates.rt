@@ -211,6 +211,8 @@ fn renewed<L: Ledger>(
     ensures job { IfOk result (λ j. j ≡ spec.renewed update.now.job update.now.file update.now.groups job.now) }
     ensures steps { IfOk result (λ j. steps.new ≡ steps.old + listed.named_count update.now.job j) }
     ensures at_least { steps.old ≤ steps.new }
+    ensures at_most { steps.new
+        ≤ steps.old + listed.named_count update.now.job (spec.renewed update.now.job update.now.file update.now.groups job.now) }
 {
     if is_named(&update.job, job) {
         let filed = updated_job(alloc, update, job)?;
@@ -232,6 +234,8 @@ pub fn jobs_updated<L: Ledger>(
     ensures jobs { IfOk result (λ v. v.items ≡ spec.jobs_updated jobs.now update.now.job update.now.file update.now.groups) }
     ensures steps { IfOk result (λ v. steps.new ≡ steps.old + listed.listed_by_named update.now.job v.items) }
     ensures at_least { steps.old ≤ steps.new }
+    ensures at_most { steps.new
+        ≤ steps.old + listed.listed_by_named update.now.job (spec.jobs_updated jobs.now update.now.job update.now.file update.now.groups) }
 {
     let mut news = Vec::with_capacity(alloc, jobs.len())?;
     for job in jobs {

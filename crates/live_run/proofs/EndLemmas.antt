@@ -14,7 +14,7 @@ use Rattle.station.specs.Crews.{AllTell, TellsSweeps}
 use Rattle.station.specs.Ends.{ShelfWent, SinkWent}
 use Rattle.station.specs.declared.ends.RunEnd.{RunEnd}
 use Rattle.station.specs.declared.ends.RunEnd.TheVariants as run
-use Rattle.live_run.specs.Runs.{Ended, Finishes, IsRunOf, IsTaken, Touched, Wanted, WroteFront, WrittenSo}
+use Rattle.live_run.specs.Runs.{Ended, Finishes, IsRunOf, IsTaken, IsUnbegun, Touched, Wanted, WroteFront, WrittenSo}
 use Rattle.live_run.specs.declared.asked.LiveEnd.{LiveEnd}
 use Rattle.live_run.specs.declared.asked.LiveEnd.TheVariants.{Done, ControlFault, ControlLong, Absent, TooLong, Config, ReadFault, WriteFault, NoMemory}
 
@@ -78,6 +78,26 @@ module _ (w : Wanted) (t : Touched) (es : List Event) (seats : List ℕ) where
       let r = run_of run.TooLong k (λ no. absurd cc) in
       written ControlLong (λ a b. record { writes = record { journal = es; run = r; trail = a; book = b }; began = tt; shelf = k.shelf; err = k.err })
       (cut k.shelf k.err _ r) (none k.shelf k.err) e h
+
+-- a run that is over did not end as one that never began
+written_begun : (end e : LiveEnd) (kept : Bool) (es : List Event) (trail out : Use SinkSeen) →
+    (IsUnbegun end → ⊥) → WrittenSo end e kept es trail out → IsUnbegun e → ⊥
+written_begun end Done kept es trail out never h u = u
+written_begun end ControlFault kept es trail out never h u = u
+written_begun end ControlLong kept es trail out never h u = u
+written_begun end Absent kept es trail out never h u = never (subst IsUnbegun h.0 u)
+written_begun end TooLong kept es trail out never h u = never (subst IsUnbegun h.0 u)
+written_begun end (Config fault) kept es trail out never h u = never (subst IsUnbegun h.0 u)
+written_begun end ReadFault kept es trail out never h u = never (subst IsUnbegun h.0 u)
+written_begun end WriteFault kept es trail out never h u = u
+written_begun end NoMemory kept es trail out never h u = u
+
+pub begun : (end : RunEnd) (e : LiveEnd) (kept : Bool) (es : List Event) (trail out : Use SinkSeen) → Finishes end kept es e trail out → IsUnbegun e → ⊥
+begun run.NoMemory e kept es trail out h u = subst IsUnbegun h.0 u
+begun run.WriteFault e kept es trail out h u = subst IsUnbegun h.0 u
+begun run.Done e kept es trail out h u = written_begun Done e kept es trail out (λ x. x) h u
+begun run.ReadFault e kept es trail out h u = written_begun ControlFault e kept es trail out (λ x. x) h u
+begun run.TooLong e kept es trail out h u = written_begun ControlLong e kept es trail out (λ x. x) h u
 
 -- a fact of an option that has a value
 pub of_some : {X : Type 0} (P : Type 0) (o : Option X) → IsTrue (is_some o) → IfSome o (λ _. P) → P

@@ -1,12 +1,13 @@
 -- How a run from the command line ends, and what it leaves of each outside object ("Storage" of the Prometheus documentation: what was scraped
 -- outlives the process; "Configuration": a configuration that is refused starts nothing).
-use Rattle.std.specs.Prelude.{◌≡◌, ◌≤◌, ◌<◌, ◌⊎◌, ⊤, ℕ, ℤ, ◌+◌, Bool, List, [], ◌∷◌, ◌++◌, length, Option, Ok, Err}
+use Rattle.std.specs.Prelude.{◌≡◌, ◌≤◌, ◌<◌, ◌⊎◌, ⊤, ℕ, ℤ, ◌+◌, Bool, List, [], ◌∷◌, ◌++◌, length, Option, IfSome, Ok, Err}
 use Rattle.config_fields.specs.declared.fault.ConfFault.{ConfFault}
 use Rattle.jobs_in_force.specs.Jobs.{loaded}
 use Rattle.jobs_in_force.specs.declared.jobs.Filed.{Filed}
 use Rattle.journal_text.specs.declared.events.Event.{Event}
 use Rattle.journal_text.specs.declared.events.Event.TheVariants.{Load}
 use Rattle.journal_text.specs.Events.{journal_text}
+use Rattle.outside.specs.Clocks.{ClockSeen, Reads}
 use Rattle.outside.specs.Fetches.{FetchSeen}
 use Rattle.outside.specs.Objects.{ShelfSeen, SinkSeen, Use, Adds, Cut, FailedToRead, HasFile, HasLongerFile, IsUntouched, LacksFile, MetLonger, Missed, Rose, Took}
 use Rattle.outside.specs.Sizes.{most_text_bytes}
@@ -157,6 +158,18 @@ Began TooLong w t = IsUnstarted TooLong w.file t.shelf × IsUntouched t.err
 Began (Config fault) w t = IsUnstarted (Config fault) w.file t.shelf × IsUntouched t.err
 Began ReadFault w t = IsUnstarted ReadFault w.file t.shelf × IsUntouched t.err
 Began _ w t = ⊤
+
+-- nothing began: the file was not read, or its configuration is refused
+abbrev pub IsUnbegun : LiveEnd → Type 0
+IsUnbegun Absent = ⊤
+IsUnbegun TooLong = ⊤
+IsUnbegun (Config fault) = ⊤
+IsUnbegun ReadFault = ⊤
+IsUnbegun _ = ⊥
+
+-- a clock gave one reading, the next of those that it tells
+abbrev pub IsReadOnce : Use ClockSeen → Type 0
+IsReadOnce clock = (reading : ℤ) × IfSome clock.before.readings (λ readings. Reads reading readings clock.after.readings)
 
 -- how a run ends
 pub record Ended (e : LiveEnd) (w : Wanted) (t : Touched) : Type 0 where

@@ -1,5 +1,5 @@
 -- Stale markers: that a series has ended ("Staleness" of the Prometheus documentation).
-use Rattle.std.specs.Prelude.{ℕ, ℤ, List, map, None}
+use Rattle.std.specs.Prelude.{ℕ, ℤ, List, map, None, refl}
 use Rattle.label_set.specs.declared.texts.Pair.{Pair}
 use Rattle.report_samples.specs.declared.entries.Kind.TheVariants as kind
 use Rattle.report_samples.specs.declared.entries.Entry.{Entry}
@@ -8,11 +8,11 @@ use Rattle.report_samples.specs.Reports.{report_order, report_set}
 
 -- the stale marker of a set at m
 abbrev pub stale_entry : ℕ → ℤ → List Pair → Entry
-stale_entry life m x = record { life = life; kind = kind.Stale; series = x; moment = m; value = None }
+stale_entry life m x = record { life = life; kind = kind.Stale; series = x; moment = m; value = None; marked = refl }
 
 -- the stale marker of a report's series at m
 abbrev pub report_marker : ℕ → List Pair → ℤ → Report → Entry
-report_marker life target m r = record { life = life; kind = kind.ReportStale; series = report_set target r; moment = m; value = None }
+report_marker life target m r = record { life = life; kind = kind.ReportStale; series = report_set target r; moment = m; value = None; marked = refl }
 
 -- those of the five reports, in their order
 abbrev pub report_markers : ℕ → List Pair → ℤ → List Entry

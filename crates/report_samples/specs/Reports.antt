@@ -1,5 +1,5 @@
 -- The report samples of a scrape ("Jobs and instances" of the Prometheus documentation, automatically generated labels and time series).
-use Rattle.std.specs.Prelude.{ℕ, ℤ, Bool, List, [], ◌∷◌, codes, map, Some, if◌then◌else◌}
+use Rattle.std.specs.Prelude.{ℕ, ℤ, Bool, List, [], ◌∷◌, codes, map, Some, if◌then◌else◌, refl}
 use Rattle.std.specs.Fmt.{decimal}
 use Rattle.label_set.specs.declared.texts.Pair.{Pair}
 use Rattle.label_set.specs.Sets.{with_label}
@@ -28,7 +28,7 @@ report_set target r = named target (report_name r)
 
 -- one report sample of a scrape that started at m
 abbrev pub report_entry : ℕ → List Pair → ℤ → Report → List ℕ → Entry
-report_entry life target m r value = record { life = life; kind = kind.Report; series = report_set target r; moment = m; value = Some value }
+report_entry life target m r value = record { life = life; kind = kind.Report; series = report_set target r; moment = m; value = Some value; marked = refl }
 
 -- the value of `up`: 1 where the scrape is good, else 0
 abbrev pub up_text : Bool → List ℕ

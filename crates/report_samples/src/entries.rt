@@ -1,4 +1,7 @@
 //! What a book is made of.
+ghost use Rattle.std.specs.Prelude.{◌≡◌, is_none};
+ghost use Rattle.report_samples.specs.Kinds.{marks_end};
+
 use label_set::LabelSet;
 use std::marker::Model;
 use value_text::ValueText;
@@ -16,7 +19,7 @@ pub enum Kind {
     ReportStale,
 }
 
-/// One entry of the book. The value is absent exactly for the two markers.
+/// One entry of the book. The value is absent exactly for the two markers, which the type keeps.
 #[derive(Debug, Drop)]
 pub struct Entry {
     /// The number of the life that appended it.
@@ -27,6 +30,7 @@ pub struct Entry {
     /// Milliseconds since the epoch.
     pub moment: i64,
     pub value: Option<ValueText>,
+    pub ghost marked: { is_none value ≡ marks_end kind },
 }
 
 /// Entries, seen as their list.

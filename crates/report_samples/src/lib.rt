@@ -1,7 +1,8 @@
 //! The entries of a book, and the five report samples that each scrape of a target adds to it: `up`, how long the fetch took, and three counts.
 //! A report's series has the target's labels and the report's name as `__name__`.
 //! A series that has ended gets a stale marker, the series of a report too; a `Closing` is what the ending of a life needs to know.
-//! Contracts see an entry as the record of its life, kind, set, moment and value, and label sets and values as their lists;
+//! Contracts see an entry as the record of its life, kind, set, moment and value, and label sets and values as their lists; its type keeps
+//! that the value is absent exactly for the two markers (`specs/Kinds.antt`).
 //! `specs/Reports.antt` says what the reports are, and `specs/Markers.antt` what the markers are.
 //! Tests: `tests_deciding::reports`; cases: `scrape_cases::scripts`.
 #![tactic(auto)]

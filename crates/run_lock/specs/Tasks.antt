@@ -3,14 +3,12 @@ use Rattle.std.specs.Prelude.{◌≡◌, ◌<◌, ◌≤◌, ℕ, ◌+◌, ℤ, 
 use Rattle.journal_text.specs.declared.events.Event.{Event}
 use Rattle.journal_text.specs.declared.events.Event.TheVariants.{Load, Targets, Tick, Sweep, Finish, Halt}
 use Rattle.journal_text.specs.Lines.{number, IsNameLength, IsTextLength}
-use Rattle.outside.specs.Fetches.{IsTimeout}
-use Rattle.outside.specs.Sizes.{most_body_bytes}
 use Rattle.outside.specs.declared.replies.Reply.{Reply}
 use Rattle.outside.specs.declared.requests.Fetched.{Fetched}
-use Rattle.outside.specs.declared.requests.Request.{Request}
 use Rattle.seat_notes.specs.declared.desk.Note.{Note}
 use Rattle.seat_notes.specs.declared.desk.Note.TheVariants.{Took, Brought, Ended}
 use Rattle.seat_notes.specs.declared.desk.View.{View}
+use Rattle.scrape_core.specs.Readers.{MayFetch}
 use Rattle.run_lock.specs.declared.tasks.Order.{Order}
 use Rattle.run_lock.specs.declared.tasks.Order.TheVariants as order
 use Rattle.run_lock.specs.declared.tasks.Task.{Task}
@@ -32,11 +30,6 @@ AfterTask place (Fetch k r) mine v = v ≡ worker (2 + place) (mine ++ Took k �
 AfterTask place Wait mine v = v ≡ worker (2 + place) mine
 AfterTask place End mine v = v ≡ worker (2 + place) (mine ++ Ended ∷ [])
 AfterTask place Fail mine v = v ≡ worker (2 + place) mine
-
--- a request that may be fetched: its limit and its timeout are in their ranges
-pub record MayFetch (r : Request) : Type 0 where
-  pub limit : r.limit ≤ most_body_bytes
-  pub timeout : IsTimeout r.timeout
 
 abbrev pub HasFit : Task → Type 0
 HasFit (Fetch k r) = MayFetch r

@@ -1,23 +1,21 @@
 //! What a worker is to do, and the events of workers and ticker.
-ghost use Rattle.std.specs.Prelude.{◌≡◌, ◌<◌, ◌^◌, List, Result, replicate, true, vec_len, vec_capacity, IfOk, IfSome};
+ghost use Rattle.std.specs.Prelude.{◌≡◌, ◌<◌, ◌^◌, List, Result, replicate, vec_len, vec_capacity, IfOk, IfSome};
 ghost use Rattle.config_fields.specs.declared.fault.ConfFault.{ConfFault};
 ghost use Rattle.jobs_in_force.specs.declared.jobs.Filed.{Filed};
 ghost use Rattle.journal_text.specs.Events as journal;
 ghost use Rattle.journal_text.specs.declared.events.Event.TheVariants.{Sweep};
 ghost use Rattle.journal_text.specs.Lines.{number};
 ghost use Rattle.run_lock.specs.Callers.{LoadAnswered, load_fault};
-ghost use Rattle.run_lock.specs.Tasks.{IsCommand, IsFit, MayFetch, event_at, finish_with, sweep_moment};
+ghost use Rattle.run_lock.specs.Tasks.{IsCommand, IsFit, event_at, finish_with, sweep_moment};
+ghost use Rattle.scrape_core.specs.Readers.{MayFetch};
 
 use config_fields::ConfFault;
 use journal_text::Event;
 use label_set::{Blob, Name, NoMemory};
 use life_roll::Moment;
-use outside::{Fetched, MOST_BODY_BYTES, Request};
+use outside::{Fetched, Request};
 use scrape_core::{Answer, Core};
 use std::alloc::Global;
-
-/// The longest timeout, in milliseconds.
-const LONGEST_TIMEOUT: i64 = 1 << 40;
 
 /// What a worker is to do.
 #[derive(Drop)]
@@ -55,26 +53,13 @@ pub fn first_seats(alloc: Global, count: usize) -> Result<Vec<u32>, NoMemory>
     Ok(seats)
 }
 
-/// Whether a request keeps the limits of a fetch.
-pub fn may_fetch(request: &Request) -> bool
-    ensures { result ≡ true → MayFetch request.now }
-{
-    request.limit <= MOST_BODY_BYTES && request.timeout >= 0 && request.timeout <= LONGEST_TIMEOUT
-}
-
 /// The request of the scrape with a ticket that is ready.
 ///
-/// None comes where memory runs out. A started scrape whose target has no request, or one past the limits of a fetch, would give none too;
-/// no configuration that is read leads to one, which is not proved here.
+/// None comes where memory runs out, or where no scrape with the ticket awaits its finish.
 pub fn request_for(alloc: Global, core: &Core, ticket: u64) -> Option<Request>
     ensures { IfSome result (λ r. MayFetch r) }
 {
-    let request = core.request(alloc, ticket).ok()??;
-    if may_fetch(&request) {
-        Some(request)
-    } else {
-        None
-    }
+    core.request(alloc, ticket).ok()?
 }
 
 /// The sweep at the reading of the clock, or at the last moment where that is later.

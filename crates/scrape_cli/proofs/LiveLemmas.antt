@@ -18,11 +18,13 @@ ended_still status c e = record { ended = e; printed = printed_by status c e; un
 pub still_wanting : (c : Call) (file : List ℕ) → IsUntouched c.shelf → IsUntouched c.out → Speaks (Err refusal.NoMemory) file c.err → EndedStill 8 c
 still_wanting c file shelf out speaks = ended_still 8 c (ended_by (Err refusal.NoMemory) c (record { cause = tt; shelf = shelf; out = out }) speaks)
 
-pub live_wanting : (r : Running) (t : Touched) (file : List ℕ) → IsUntouched t.trail → IsUntouched t.out → ShelfWent t.shelf → SinkWent (used t.err.before t.err.before) → Speaks (Err refusal.NoMemory) file t.err → EndedLive 8 r t
-live_wanting r t file trail out shelf err speaks = record {
+pub live_wanting : (r : Running) (t : Touched) (back : Type 0) (file : List ℕ) →
+    IsUntouched t.trail → IsUntouched t.out → ShelfWent t.shelf → SinkWent (used t.err.before t.err.before) → Speaks (Err refusal.NoMemory) file t.err → EndedLive 8 r t back
+live_wanting r t back file trail out shelf err speaks = record {
   end = NoMemory;
   status_is = refl;
   between = t.err.before;
   run = record { writes = record { trail = trail; out = out }; began = tt; shelf = shelf; err = err };
   speaks = speaks;
+  unbegun = λ u. absurd u;
 }

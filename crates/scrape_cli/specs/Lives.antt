@@ -6,7 +6,7 @@ use Rattle.command_words.specs.Askings.{Running}
 use Rattle.command_words.specs.declared.words.Order.{Order}
 use Rattle.command_words.specs.declared.words.Order.TheVariants.{Still, Run}
 use Rattle.live_run.specs.Runs as run
-use Rattle.live_run.specs.Runs.{Touched, wanted}
+use Rattle.live_run.specs.Runs.{IsUnbegun, Touched, wanted}
 use Rattle.live_run.specs.declared.asked.LiveEnd.{LiveEnd}
 use Rattle.live_run.specs.declared.asked.LiveEnd.TheVariants.{Done, ControlFault, ControlLong, Absent, TooLong, Config, ReadFault, WriteFault, NoMemory}
 use Rattle.scrape_commands.specs.Ends.{Call, Ended, Prints, Speaks, status_at, work_of}
@@ -42,13 +42,15 @@ pub record IsAlone (trail : Use SinkSeen) (fetchers : Use (List FetchSeen)) : Ty
   pub trail_same : IsUntouched trail
   pub fetchers_same : IsUntouched fetchers
 
--- a live run ended with this status; what the run said of control lines stands before the message of its end
-pub record EndedLive (status : ℕ) (r : Running) (t : Touched) : Type 0 where
+-- a live run ended with this status; what the run said of control lines stands before the message of its end; where nothing began, control, clock
+-- and fetchers came back so
+pub record EndedLive (status : ℕ) (r : Running) (t : Touched) (back : Type 0) : Type 0 where
   pub end : LiveEnd
   pub status_is : status ≡ status_at (refusal_of end)
   pub between : SinkSeen
   pub run : run.Ended end (wanted r.file r.turns r.kept) (record t { err = used t.err.before between })
   pub speaks : Speaks (refusal_of end) (file_said end r.file) (used between t.err.after)
+  pub unbegun : IsUnbegun end → back
 
 -- a call of another command ended with this status, by the one table; and what a reader looks for first, which follows from it
 pub record EndedStill (status : ℕ) (c : Call) : Type 0 where

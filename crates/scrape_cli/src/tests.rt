@@ -2,12 +2,13 @@
 mod cases;
 mod live;
 
+use crate::tool::tool_still;
 use label_set::{Blob, Name, NoMemory};
 use md5::{Digest, Md5};
 use outside::{
-    CallList, FileList, MemShelf, MemSink, Shelf, ShelfError, StoredFile, SureShelf, SureSink,
+    CallList, FileList, MemShelf, MemSink, Shelf, ShelfError, Sink, StoredFile, SureShelf,
+    SureSink, SureSource,
 };
-use scrape_commands::still::tool_still;
 use scrape_core::Means;
 use std::alloc::Global;
 use std::hash::RandomState;
@@ -74,6 +75,19 @@ fn fails(alloc: Global, calls: &[u64]) -> Result<CallList, NoMemory> {
     Ok(CallList { items })
 }
 
+/// Runs a command that makes no run, which leaves its trail and control alone.
+fn still<S: Shelf, O: Sink, E: Sink>(
+    means: Means,
+    words: &[String],
+    shelf: &mut S,
+    out: &mut O,
+    err: &mut E,
+) -> Result<u8, NoMemory> {
+    let mut trail = SureSink::new()?;
+    let mut control = SureSource::new(Blob::from_slice(means.alloc, b"")?)?;
+    Ok(tool_still(means, words, shelf, out, err, &mut trail, &mut control))
+}
+
 /// Runs the program over a shelf, and an output of a room of which some puts fail.
 fn run_over<S: Shelf>(
     means: Means,
@@ -85,7 +99,7 @@ fn run_over<S: Shelf>(
     let alloc = means.alloc;
     let mut out = MemSink::new(alloc, room, fails(alloc, put_fails)?)?;
     let mut err = MemSink::new(alloc, ROOM, fails(alloc, &[])?)?;
-    let status = tool_still(means, words, shelf, &mut out, &mut err);
+    let status = still(means, words, shelf, &mut out, &mut err)?;
     Ok(Ran {
         status: status,
         out,
@@ -212,7 +226,7 @@ fn calls_that_fail_have_their_status(rt: HostRuntime) -> Result<(), Fail> {
         let mut out = SureSink::new()?;
         for call in 0..4 {
             let mut err = MemSink::new(alloc, ROOM, fails(alloc, &[call])?)?;
-            let status = tool_still(means, words.as_slice(), &mut shelf, &mut out, &mut err);
+            let status = still(means, words.as_slice(), &mut shelf, &mut out, &mut err)?;
             assert_eq!(rt; status, 3);
             assert!(rt; b"scrape: absent none\n".starts_with(err.bytes()));
         }

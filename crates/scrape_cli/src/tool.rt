@@ -4,13 +4,13 @@ ghost use Rattle.label_set.specs.declared.texts.Pair.{Pair};
 ghost use Rattle.journal_text.specs.declared.events.Event.{Event};
 ghost use Rattle.outside.specs.Objects.{used};
 ghost use Rattle.scrape_machine.specs.Machine.{World};
-ghost use Rattle.scrape_laws.specs.Markers.{MarkerLaw};
+ghost use Rattle.scrape_laws.specs.Markers.{MarkerLaw, ReportMarkerLaw};
 ghost use Rattle.scrape_laws.specs.Runs.{ClosedRunsLaw};
 ghost use Rattle.scrape_laws.specs.Late.{LateLaw};
 ghost use Rattle.command_words.specs.Askings.{Running};
 ghost use Rattle.command_words.specs.Words.{order_in};
 ghost use Rattle.command_words.specs.declared.words.Order.TheVariants.{Run};
-ghost use Rattle.live_run.specs.Runs.{touched};
+ghost use Rattle.live_run.specs.Runs.{IsReadOnce, touched};
 ghost use Rattle.scrape_commands.specs.Ends.{call};
 ghost use Rattle.scrape_cli.specs.Lives as lives;
 ghost use Rattle.scrape_cli.specs.Lives.{EndedLive, EndedStill, IsAlone, IsStill};
@@ -19,9 +19,10 @@ use command_words::{Live, Order, WordsError, order_in};
 use live_run::{Asked as AskedRun, LiveEnd, Lived, run_live};
 use outside::{Clock, Fetch, Shelf, Sink, Source};
 use scrape_commands::Refusal;
-use scrape_commands::still::{status_at, tell, tool_still};
+use scrape_commands::still::{status_at, tell};
+pub use scrape_commands::still::{causes, tool_still};
 use scrape_core::Means;
-use scrape_laws::laws::{closed_runs, late, markers};
+use scrape_laws::laws::{closed_runs, late, markers, report_markers};
 use std::marker::{Send, Sync};
 use std::sync::Wait;
 use std::thread::Threads;
@@ -94,7 +95,8 @@ fn tool_live<
 ) -> Finished<C, K, F>
     requires fetchers { (0 < vec_len fetchers) × (vec_len fetchers ≤ 1000) }
     ensures live { EndedLive result.status live.now (touched (used (S.seen shelf.old) (S.seen shelf.new)) (used (O.seen out.old) (O.seen out.new))
-        (used (E.seen err.old) (E.seen err.new)) (used (R.seen trail.old) (R.seen trail.new)) (C.seen control).left (used (map F.seen fetchers.items) (map F.seen result.fetchers.items))) }
+        (used (E.seen err.old) (E.seen err.new)) (used (R.seen trail.old) (R.seen trail.new)) (C.seen control).left (used (map F.seen fetchers.items) (map F.seen result.fetchers.items)))
+        ((result.control ≡ Some control) × IfSome result.clock (λ k. IsReadOnce (used (K.seen clock) (K.seen k))) × (result.fetchers ≡ fetchers)) }
     ensures back { IsTrue (is_some result.control) × IsTrue (is_some result.clock) × (vec_len result.fetchers ≡ vec_len fetchers) }
 {
     let asked = AskedRun {
@@ -136,8 +138,8 @@ fn handed_back<C, K, F>(status: u8, control: C, clock: K, fetchers: Vec<F>) -> F
 }
 
 /// The program: takes the words after its name, and answers the exit status. All commands but `run` go through `tool_still`, whose table says
-/// how they end; for them the trail is left alone (`alone`), and control, clock and fetchers come back as they were (`same`). There are 1 to 1,000
-/// fetchers.
+/// how they end; for them the trail is left alone (`alone`), and control, clock and fetchers come back as they were (`same`). What each of their
+/// statuses says, taken alone, is the law `causes`. There are 1 to 1,000 fetchers.
 ///
 /// `run` loads the file of the words at the clock's reading, makes so many sweeps while control gives its lines, and writes the text of the
 /// run's journal to the trail, and then the text of its book to `out`:
@@ -152,8 +154,10 @@ fn handed_back<C, K, F>(status: u8, control: C, clock: K, fetchers: Vec<F>) -> F
 /// | 8 | memory ran out: nothing is written |
 /// | 9 | control gave more than 1 MiB: both texts are written |
 ///
+/// Where nothing began, control and fetchers come back as they were, and the clock gave one reading.
+///
 /// `still` says of the other commands how they end, what they print, which status is due, and that no count falls; `live` says it of `run`.
-/// `markers`, `closed_runs` and `late` hold of every journal, so of the one whose book is printed.
+/// `markers`, `closed_runs`, `report_markers` and `late` hold of every journal, so of the one whose book is printed.
 pub fn tool<
     W: Threads + Wait + Sync,
     S: Shelf,
@@ -184,14 +188,17 @@ pub fn tool<
         (result.control ≡ Some control) × (result.clock ≡ Some clock) × (result.fetchers ≡ fetchers) }
     ensures live { (r : Running) → order_in (map string_bytes words.now) ≡ Some (Run r) → EndedLive result.status r
         (touched (used (S.seen shelf.old) (S.seen shelf.new)) (used (O.seen out.old) (O.seen out.new)) (used (E.seen err.old) (E.seen err.new))
-        (used (R.seen trail.old) (R.seen trail.new)) (C.seen control).left (used (map F.seen fetchers.items) (map F.seen result.fetchers.items))) }
+        (used (R.seen trail.old) (R.seen trail.new)) (C.seen control).left (used (map F.seen fetchers.items) (map F.seen result.fetchers.items)))
+        ((result.control ≡ Some control) × IfSome result.clock (λ k. IsReadOnce (used (K.seen clock) (K.seen k))) × (result.fetchers ≡ fetchers)) }
     ensures back { IsTrue (is_some result.control) × IsTrue (is_some result.clock) × (vec_len result.fetchers ≡ vec_len fetchers) }
     ensures markers { (journal : List Event) → MarkerLaw journal }
     ensures closed_runs { (journal : List Event) (n : ℕ) (x : List Pair) → ClosedRunsLaw journal n x }
+    ensures report_markers { (journal : List Event) → ReportMarkerLaw journal }
     ensures late { (w : World) → LateLaw w }
 {
     markers();
     closed_runs();
+    report_markers();
     late();
     match order_in(means.alloc, words) {
         Ok(Order::Run(live)) => tool_live(
@@ -203,7 +210,8 @@ pub fn tool<
             handed_back(status_at(&end), control, clock, fetchers)
         }
         _ => {
-            let status = tool_still(means, words, shelf, out, err);
+            let mut control = control;
+            let status = tool_still(means, words, shelf, out, err, trail, &mut control);
             handed_back(status, control, clock, fetchers)
         }
     }

@@ -4,7 +4,7 @@ ghost use Rattle.label_set.specs.declared.texts.Pair.{Pair};
 ghost use Rattle.journal_text.specs.declared.events.Event.{Event};
 ghost use Rattle.outside.specs.Objects.{SinkSeen, Use, used, IsUntouched};
 ghost use Rattle.scrape_machine.specs.Machine.{World};
-ghost use Rattle.scrape_laws.specs.Markers.{MarkerLaw};
+ghost use Rattle.scrape_laws.specs.Markers.{MarkerLaw, ReportMarkerLaw};
 ghost use Rattle.scrape_laws.specs.Runs.{ClosedRunsLaw};
 ghost use Rattle.scrape_laws.specs.Late.{LateLaw};
 ghost use Rattle.scrape_commands.specs.Ends as spec;
@@ -15,9 +15,9 @@ use crate::commands::perform;
 use crate::messages::say;
 use crate::refusals::Refusal;
 use command_words::{Asked, WordsError, asked_in};
-use outside::{Shelf, Sink};
+use outside::{Shelf, Sink, Source};
 use scrape_core::Means;
-use scrape_laws::laws::{closed_runs, late, markers};
+use scrape_laws::laws::{closed_runs, late, markers, report_markers};
 
 /// How the work ended, and the name of the file that was asked for; no name where the words were not read.
 #[derive(Drop)]
@@ -113,15 +113,18 @@ pub fn status_at(end: &Result<(), Refusal>) -> u8
 /// | 8 | memory ran out |
 /// | 9 | the file is longer than its command takes, and the shelf counted that |
 ///
-/// `ended` is that table; `printed`, `unwritten`, `complete` and `later` are what a reader looks for first, and follow from it.
-/// `markers`, `closed_runs` and `late` hold of every journal, so of the one that a script spells: in the book that is printed each closed run of a tracked series
+/// `ended` is that table; `printed`, `unwritten`, `complete` and `later` are what a reader looks for first, and follow from it. What each status
+/// says, taken alone, is `causes`. Trail and control are left as they are (`trail`, `control`).
+/// `markers`, `closed_runs`, `report_markers` and `late` hold of every journal, so of the one that a script spells: in the book that is printed each closed run of a tracked series
 /// has exactly one stale marker, after it, no marker stands elsewhere, and a fetch that was cancelled adds nothing.
-pub fn tool_still<S: Shelf, O: Sink, E: Sink>(
+pub fn tool_still<S: Shelf, O: Sink, E: Sink, R: Sink, C: Source>(
     means: Means,
     words: &[String],
     shelf: &mut S,
     out: &mut O,
     err: &mut E,
+    trail: &mut R,
+    control: &mut C,
 ) -> u8
     ensures ended { spec.Ended result (spec.call (map string_bytes words.now)
         (used (S.seen shelf.old) (S.seen shelf.new)) (used (O.seen out.old) (O.seen out.new)) (used (E.seen err.old) (E.seen err.new))) }
@@ -132,12 +135,16 @@ pub fn tool_still<S: Shelf, O: Sink, E: Sink>(
         (used (S.seen shelf.old) (S.seen shelf.new)) (used (O.seen out.old) (O.seen out.new)) (used (E.seen err.old) (E.seen err.new))) }
     ensures later { NoCountFell (spec.call (map string_bytes words.now)
         (used (S.seen shelf.old) (S.seen shelf.new)) (used (O.seen out.old) (O.seen out.new)) (used (E.seen err.old) (E.seen err.new))) }
+    ensures trail { trail.new ≡ trail.old }
+    ensures control { control.new ≡ control.old }
     ensures markers { (journal : List Event) → MarkerLaw journal }
     ensures closed_runs { (journal : List Event) (n : ℕ) (x : List Pair) → ClosedRunsLaw journal n x }
+    ensures report_markers { (journal : List Event) → ReportMarkerLaw journal }
     ensures late { (w : World) → LateLaw w }
 {
     markers();
     closed_runs();
+    report_markers();
     late();
     let ending = run(means, words, shelf, out);
     tell(err, ending.file, &ending.end);

@@ -2,6 +2,7 @@ pub mod KeptLemmas
 pub mod StateLemmas
 pub mod RecordLemmas
 pub mod ReaderLemmas
+pub mod AskLemmas
 pub mod NowLemmas
 pub mod FreshLemmas
 pub mod SharingLemmas

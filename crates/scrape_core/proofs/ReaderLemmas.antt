@@ -2,6 +2,7 @@
 use Rattle.std.proofs.Common.{◌≡◌, ℕ, ℤ, ◌+◌, ◌<◌, ◌≤◌, List, [], ◌∷◌, ◌++◌, length, take, drop, get_or, Bool, true, false, cond, refl, sym, ap, ap₂, ◌∙◌, arith, not, ◌&&◌, ◌||◌, pos, ◌^◌, max}
 use Rattle.std.specs.Prelude.{Option, Some, None, nat_lt, is_some, filter}
 use Rattle.std.specs.List.{list_any}
+use Rattle.std.proofs.lemmas.Bool.{false≢true, true≢false}
 use Rattle.std.proofs.lemmas.Bool.Decides.{nat_tests}
 use Rattle.std.proofs.lemmas.List.{take_more, drop_more}
 use Rattle.std.proofs.lemmas.List.Folds.{list_any-append}
@@ -18,13 +19,15 @@ use Rattle.life_roll.specs.Schedules as schedule
 use Rattle.jobs_in_force.specs.declared.jobs.InForce.{InForce}
 use Rattle.scrape_machine.specs.declared.answers.Answer.TheVariants.{Halted}
 use Rattle.scrape_machine.specs.declared.lives.Life.{Life}
-use Rattle.scrape_machine.specs.Lives.{ends, closed_ends}
+use Rattle.scrape_machine.specs.Lives.{is_open, ends, closed_ends}
 use Rattle.scrape_machine.specs.Machine.{World, world_of, answer, live_answer, starts_in, forces_in, is_over}
-use Rattle.scrape_steps.specs.Unended.{is_ended, unended}
-use Rattle.scrape_steps.proofs.UnendedLemmas.{any_unended, ended_closed, ended_ends}
+use Rattle.scrape_steps.specs.Endings.{due_by, ending_by, ending_of, endings_from, waiting, HoldSame}
+use Rattle.scrape_steps.specs.Endings.{is_due as is_late}
+use Rattle.scrape_steps.proofs.EndingLemmas.{open_due}
+use Rattle.scrape_steps.proofs.OrderLemmas.{any_same}
 use Rattle.scrape_core.specs.Readers.{did, is_due, acts, due_in, IsWake}
 use Rattle.scrape_core.specs.declared.state.State.{State}
-use Rattle.scrape_core.specs.Kept.{seen}
+use Rattle.scrape_core.specs.Kept.{seen, IsListed}
 use Rattle.scrape_core.specs.Wakes.{wake_by, wake_of, sooner, reached, IsFirstBy, IsWakeBy}
 
 -- one of some counts is not 0
@@ -99,12 +102,61 @@ more_reached lives i n l first next lt at was now =
     ∙ (ap₂ (λ a b. a || b) was (or_false (acts n l) ∙ acts_by l n)
     ∙ (sooner_reached n first (wake_of l) ∙ ap (reached n) (sym now))))
 
--- a life that has ended is acted on by no sweep
-ended_acts : (n : ℕ) (l : Life) → is_ended l ≡ true → acts n l ≡ false
-ended_acts n l h = ap₂ (λ a b. (a && (not (is_some l.schedule.flight) && not (nat_lt n l.schedule.planned))) || b) (ended_closed l h) (ended_ends n l h)
+-- a sweep acts on a life where it makes a scrape of one that is open, or where an ending that waits is due
+or_front : (a b c : Bool) → (a || (b || c)) ≡ ((a || b) || c)
+or_front true b c = refl
+or_front false b c = refl
 
-pub acts_unended : (n : ℕ) (ls : List Life) → list_any (acts n) (unended ls) ≡ list_any (acts n) ls
-acts_unended n ls = any_unended (acts n) (ended_acts n) ls
+or_middle : (a b c : Bool) → (a || (b || c)) ≡ (b || (a || c))
+or_middle true true c = refl
+or_middle true false c = refl
+or_middle false b c = refl
+
+closed_acts : (n k : ℕ) (l : Life) → is_open l ≡ false → acts n l ≡ list_any (is_late n) (ending_of k l)
+closed_acts n k l h = of l.schedule.closed h
+  where
+    by : (due : ℕ) (ended : Bool) → (not ended && not (nat_lt n due)) ≡ list_any (is_late n) (ending_by k (cond ended None (Some due)))
+    by due true = refl
+    by due false = sym (or_false (not (nat_lt n due)))
+
+    of : (o : Option ℤ) → not (is_some o) ≡ false →
+        ((not (is_some o) && (not (is_some l.schedule.flight) && not (nat_lt n l.schedule.planned))) || closed_ends n l o) ≡ list_any (is_late n) (ending_by k (due_by l o))
+    of None e = absurd (true≢false e)
+    of (Some c) e = by (due_at l.schedule.planned (number c) l.schedule.interval) l.ended
+
+pub acts_parted : (n k : ℕ) (ls : List Life) → list_any (acts n) ls ≡ (list_any (acts n) (filter is_open ls) || list_any (is_late n) (endings_from k ls))
+acts_parted n k [] = refl
+acts_parted n k (l ∷ ls) = of (acts_parted n (k + 1) ls) (is_open l) refl
+  where
+    opens : Bool
+    opens = list_any (acts n) (filter is_open ls)
+
+    waits : Bool
+    waits = list_any (is_late n) (endings_from (k + 1) ls)
+
+    of : list_any (acts n) ls ≡ (opens || waits) → (b : Bool) → is_open l ≡ b → (acts n l || list_any (acts n) ls) ≡ (list_any (acts n) (cond b (l ∷ filter is_open ls) (filter is_open ls)) || list_any (is_late n) (ending_of k l ++ endings_from (k + 1) ls))
+    of rest true h =
+        ap (λ z. acts n l || z) rest ∙ or_front (acts n l) opens waits
+        ∙ ap (λ o. (acts n l || opens) || list_any (is_late n) (ending_by k o ++ endings_from (k + 1) ls)) (sym (open_due l h))
+    of rest false h =
+        ap₂ (λ y z. y || z) (closed_acts n k l h) rest ∙ or_middle (list_any (is_late n) (ending_of k l)) opens waits
+        ∙ ap (λ z. opens || z) (sym (list_any-append (is_late n) (ending_of k l) (endings_from (k + 1) ls)))
+
+pub state_acts : (n : ℕ) (ls : List Life) (waits : List (ℕ × ℕ)) → HoldSame (endings_from 0 ls) waits →
+    list_any (acts n) ls ≡ (list_any (acts n) (filter is_open ls) || list_any (is_late n) waits)
+state_acts n ls waits h = acts_parted n 0 ls ∙ ap (λ z. list_any (acts n) (filter is_open ls) || z) (any_same (is_late n) (endings_from 0 ls) waits h)
+
+-- of a state before any halt
+pub due_parts : (s : State) (n : ℕ) → s.halted ≡ false → IsListed s → due_in s n ≡ (list_any (acts n) (filter is_open s.lives.items) || list_any (is_late n) (waiting s.endings))
+due_parts s n live listed = ap (λ b. not b && list_any (acts n) s.lives.items) live ∙ state_acts n s.lives.items (waiting s.endings) listed.1
+
+pub or_first : (a b : Bool) → a ≡ true → a ≡ (a || b)
+or_first true b h = refl
+or_first false b h = absurd (false≢true h)
+
+pub or_second : (a b : Bool) → a ≡ false → b ≡ (a || b)
+or_second true b h = absurd (true≢false h)
+or_second false b h = refl
 
 -- one life of those that are left of a loop
 pub any_left : (n : ℕ) (ls : List Life) (i : ℕ) (l : Life) → i < length ls → l ≡ get_or ls i l → list_any (acts n) (drop i ls) ≡ (acts n l || list_any (acts n) (drop (i + 1) ls))

@@ -9,12 +9,13 @@ use Rattle.scrape_core.specs.contracts.machine.Core as Core
 use Rattle.scrape_core.specs.contracts.machine.Core.TheInside as CoreInside
 use Rattle.scrape_core.specs.contracts.state.State as State
 use Rattle.scrape_machine.proofs.SharingLemmas.{life_send, life_sync, start_send, start_sync}
+use Rattle.scrape_steps.proofs.SharingLemmas.{endings_send, endings_sync}
 
 pub state_send : IsSend State.the_row
-state_send = search (in_force_send, in_force_sync, life_send, life_sync, start_send, start_sync, sendable, crosses) depth 60 fits 10000
+state_send = search (in_force_send, in_force_sync, life_send, life_sync, start_send, start_sync, endings_send, endings_sync, sendable, crosses) depth 60 fits 10000
 
 pub state_sync : IsSync State.the_row
-state_sync = search (in_force_send, in_force_sync, life_send, life_sync, start_send, start_sync, sendable, crosses) depth 60 fits 10000
+state_sync = search (in_force_send, in_force_sync, life_send, life_sync, start_send, start_sync, endings_send, endings_sync, sendable, crosses) depth 60 fits 10000
 
 inside_core_send : IsSend CoreInside.the_row
 inside_core_send = declared_send CoreInside.the_type (journal_send, (book_send, (state_send, (search sendable depth 20, tt))))

@@ -16,12 +16,6 @@ use Rattle.report_samples.specs.declared.entries.Entry.{Entry}
 use Rattle.scrape_machine.specs.declared.answers.Answer.TheVariants.{Halted}
 use Rattle.scrape_machine.specs.declared.lives.Life.{Life}
 use Rattle.scrape_machine.specs.declared.lives.Start.{Start}
-use Rattle.journal_text.specs.Lines.{number}
-use Rattle.life_roll.specs.Schedules as schedule
-use Rattle.scrape_loop.specs.Tracked.{after_forced}
-use Rattle.scrape_laws.proofs.LifeLemmas.{scanned_closed}
-use Rattle.scrape_machine.specs.Lives.{is_open, forces, scanned_life}
-use Rattle.scrape_steps.specs.Unended.{is_ended}
 use Rattle.scrape_machine.specs.Machine.{World, world, tick_answer, finished, answer, step, gives}
 use Rattle.scrape_steps.specs.Scans.{is_open_life}
 use Rattle.scrape_steps.proofs.EventLemmas.{load_silent, update_silent}
@@ -73,19 +67,6 @@ get_or_at (y ∷ ys) (suc k) d e lt = get_or_at ys k d e (omega arith)
 pub length-finished : (ss : List Start) (k : ℕ) (o : Option Start) → length (finished o ss k) ≡ length ss
 length-finished ss k None = refl
 length-finished ss k (Some s) = length-set ss k (record s { finished = true })
-
--- an open life that is scanned has not ended by that
-pub scanned_open : (m : ℤ) (t : ℕ) (over : Bool) (x : Life) → is_open x ≡ true → is_ended (scanned_life m t over x x.schedule.closed) ≡ is_ended x
-scanned_open m t over x h = of x.schedule.closed h
-  where
-    by : (b : Bool) →
-        is_ended (cond b (record x { state = after_forced x.state; schedule = schedule.scanned m t over x.schedule }) (record x { schedule = schedule.scanned m t over x.schedule })) ≡ is_ended x
-    by true = ap (λ o. not (not (is_some o)) && x.ended) (scanned_closed m t over x.schedule)
-    by false = ap (λ o. not (not (is_some o)) && x.ended) (scanned_closed m t over x.schedule)
-
-    of : (o : Option ℤ) → not (is_some o) ≡ true → is_ended (scanned_life m t over x o) ≡ is_ended x
-    of None k = by (forces (number m) over x)
-    of (Some c) k = absurd (false≢true k)
 
 -- one more of the numbers from one on
 pub range_push : (a n : ℕ) → range_with_len a (n + 1) ≡ range_with_len a n ++ (a + n) ∷ []

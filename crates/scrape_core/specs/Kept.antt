@@ -3,10 +3,11 @@ use Rattle.std.specs.Prelude.{◌≡◌, ℕ, ◌<◌, ◌≤◌, ◌^◌, ◌++
 use Rattle.journal_text.specs.declared.events.Event.{Event}
 use Rattle.journal_text.specs.Events.{JournalView}
 use Rattle.report_samples.specs.declared.entries.Entry.{Entry}
-use Rattle.scrape_machine.specs.Lives.{IsRightLife}
+use Rattle.scrape_machine.specs.Lives.{is_open, IsRightLife}
 use Rattle.scrape_machine.specs.Machine.{World, world, world_of, book_of, gives}
 use Rattle.scrape_machine.specs.Runs.{runs_of}
-use Rattle.scrape_steps.specs.Unended.{unended_from}
+use Rattle.scrape_steps.specs.Concerned.{places_where}
+use Rattle.scrape_steps.specs.Endings.{endings_from, waiting, HoldSame}
 use Rattle.scrape_core.specs.declared.state.State.{State}
 
 -- the world that a state is
@@ -21,9 +22,9 @@ live s = world s.jobs.items s.lives.items s.started.items
 abbrev pub HasFew : State → Type 0
 HasFew s = length s.lives.items < 2 ^ 32
 
--- the lives that have not ended are listed
+-- the open lives are listed, and the endings that wait are kept
 abbrev pub IsListed : State → Type 0
-IsListed s = s.unended.items ≡ unended_from 0 s.lives.items
+IsListed s = (s.open_lives.items ≡ places_where is_open 0 s.lives.items) × HoldSame (endings_from 0 s.lives.items) (waiting s.endings)
 
 -- of each life what is known of the raw texts of its rows is right
 abbrev pub AreRightLives : State → Type 0

@@ -1,9 +1,11 @@
 -- What a core says of its journal between events: what a sweep would do, from when on, and the request of a started scrape.
-use Rattle.std.specs.Prelude.{ℕ, ℤ, ◌+◌, pos, Bool, false, not, ◌&&◌, ◌||◌, List, nat_lt, slice_get, Option, Some, None, if◌then◌else◌}
+use Rattle.std.specs.Prelude.{ℕ, ℤ, ◌+◌, ◌≤◌, pos, Bool, false, not, ◌&&◌, ◌||◌, List, nat_lt, slice_get, Option, Some, None, if◌then◌else◌}
 use Rattle.std.specs.List.{list_any}
 use Rattle.journal_text.specs.declared.events.Event.{Event}
 use Rattle.journal_text.specs.declared.events.Event.TheVariants.{Sweep}
 use Rattle.journal_text.specs.Events.{now_of}
+use Rattle.outside.specs.Fetches.{IsTimeout}
+use Rattle.outside.specs.Sizes.{most_body_bytes}
 use Rattle.outside.specs.declared.requests.Request.{Request}
 use Rattle.scrape_config.specs.declared.conf.JobConf.{JobConf}
 use Rattle.target_set.specs.Requests.{request_of}
@@ -60,6 +62,19 @@ life_request conf (Some l) = request_of conf l.identity
 abbrev pub start_request : List Life → Option Start → Option Request
 start_request ls None = None
 start_request ls (Some s) = if s.finished then None else life_request s.settings.conf (slice_get ls s.life)
+
+-- a scrape was started, and had no finish so far
+abbrev pub is_unfinished : Option Start → Bool
+is_unfinished None = false
+is_unfinished (Some s) = not s.finished
+
+unfoldable pub awaits : List Event → ℕ → Bool
+awaits es k = is_unfinished (slice_get (world_of es).started k)
+
+-- a request that may be fetched: its limit and its timeout are in their ranges
+pub record MayFetch (r : Request) : Type 0 where
+  pub limit : r.limit ≤ most_body_bytes
+  pub timeout : IsTimeout r.timeout
 
 -- the request of the scrape with ticket k as it was at its start
 unfoldable pub request : List Event → ℕ → Option Request

@@ -1,8 +1,9 @@
 -- From when on a sweep acts on a life: one number for a life, and the least of them.
-use Rattle.std.specs.Prelude.{◌≡◌, ◌≤◌, ◌<◌, ◌^◌, pos, ℕ, ℤ, Bool, true, false, not, nat_lt, min, is_some, Option, Some, None, if◌then◌else◌}
+use Rattle.std.specs.Prelude.{◌≡◌, ◌≤◌, ◌<◌, ◌^◌, pos, ℕ, ℤ, Bool, true, false, min, is_some, Option, Some, None, if◌then◌else◌}
 use Rattle.journal_text.specs.Lines.{number}
 use Rattle.end_of_run.specs.Endings.{due_at}
 use Rattle.scrape_machine.specs.declared.lives.Life.{Life}
+pub use Rattle.scrape_steps.specs.Endings.{reached}
 
 abbrev pub wake_by : Life → Option ℤ → Option ℕ
 wake_by l None = if is_some l.schedule.flight then None else Some l.schedule.planned
@@ -17,11 +18,6 @@ abbrev pub sooner : Option ℕ → Option ℕ → Option ℕ
 sooner None o = o
 sooner (Some a) None = Some a
 sooner (Some a) (Some b) = Some (min a b)
-
--- a moment is at or behind that, where it is there
-abbrev pub reached : ℕ → Option ℕ → Bool
-reached n None = false
-reached n (Some m) = not (nat_lt n m)
 
 -- m is the least moment from `now` on that is due
 pub record IsFirstBy (due : ℕ → Bool) (now m : ℕ) : Type 0 where

@@ -1,12 +1,13 @@
 //! Loads of a configuration and updates of a file's targets.
-ghost use Rattle.std.specs.Prelude.{◌≡◌, ◌≤◌, ◌<◌, ◌+◌, ◌^◌, ◌++◌, [], List, length, map, filter, vec_len, vec_capacity, Ok, IfOk, OnOk, OnErr};
+ghost use Rattle.std.specs.Prelude.{◌≡◌, ◌≤◌, ◌<◌, ◌+◌, ◌^◌, ◌++◌, [], List, length, map, filter, vec_len, vec_capacity, None, Ok, IfOk, OnOk, OnErr};
 ghost use Rattle.std.specs.List.{range_with_len};
 ghost use Rattle.journal_text.specs.declared.events.Event.TheVariants.{Load, Targets};
+ghost use Rattle.scrape_machine.specs.Lives as lives_of;
 ghost use Rattle.scrape_machine.specs.Machine as spec;
 ghost use Rattle.scrape_steps.specs.Plans as plan;
 ghost use Rattle.scrape_steps.specs.Reloads as reloads;
 ghost use Rattle.scrape_machine.specs.Runs.{runs};
-ghost use Rattle.scrape_steps.specs.Unended as listed;
+ghost use Rattle.scrape_steps.specs.Concerned as concerned;
 ghost use Rattle.scrape_core.specs.Kept as kept;
 
 use crate::state::State;
@@ -21,15 +22,16 @@ use scrape_config::ConfError;
 use scrape_machine::Answer;
 use scrape_machine::lives::Life;
 use scrape_steps::acts::{Fate, meet_all};
+use scrape_steps::closings::push_endings;
+use scrape_steps::concerned::{Lives, drop_closed};
 use scrape_steps::reloads::{births_of, count_closed, fates_of, held_of, names_of, verdicts_of};
-use scrape_steps::unended::{Lives, drop_ended};
 use std::alloc::Global;
 use std::sync::ledger::Ledger;
 
 /// The most lives that there can be, plus one.
 const LIVES: u64 = 1 << 32;
 
-/// A change of the configuration in force: what becomes of each life, and the lives that begin.
+/// A change of the configuration in force: what becomes of each open life, and the lives that begin.
 #[derive(Drop)]
 pub struct Change {
     fates: Vec<Fate>,
@@ -43,7 +45,7 @@ pub struct Synced {
     pub begun: u32,
 }
 
-/// What becomes of each life that has not ended, where some jobs give way to others; nothing changes yet.
+/// What becomes of each life that is concerned, where some jobs give way to others; nothing changes yet.
 fn fates_to(
     alloc: Global,
     olds: &[InForce],
@@ -51,7 +53,7 @@ fn fates_to(
     news: &[InForce],
     lives: &Lives<'_>,
 ) -> Result<Vec<Fate>, NoMemory>
-    ensures { IfOk result (λ v. v.items ≡ map (plan.fate_of names.now news.now (map (spec.verdict olds.now) news.now)) (listed.unended lives.now)) }
+    ensures { IfOk result (λ v. v.items ≡ map (plan.fate_of names.now news.now (map (spec.verdict olds.now) news.now)) (concerned.concerned lives.now)) }
 {
     let old_names = names_of(alloc, olds)?;
     let verdicts = verdicts_of(alloc, &old_names, olds, news)?;
@@ -66,11 +68,12 @@ fn change_to(
     lives: &Lives<'_>,
     news: &[InForce],
 ) -> Result<Change, NoMemory>
-    requires { length lives.now < 2 ^ 32 }
-    ensures each { IfOk result (λ c. length c.fates.items ≡ length (listed.unended lives.now)) }
-    ensures lives { IfOk result (λ c. plan.after_each moment (listed.all_fates c.fates.items lives.now) lives.now ≡ reloads.reload_lives moment news.now (spec.world olds.now lives.now [])) }
-    ensures closed { IfOk result (λ c. length (filter plan.closes c.fates.items) ≡ reloads.closed_by moment news.now (spec.world olds.now lives.now [])) }
-    ensures begun { IfOk result (λ c. c.begun.items ≡ reloads.reload_births moment news.now (spec.world olds.now lives.now [])) }
+    requires few { length lives.now.all < 2 ^ 32 }
+    requires opens { lives.now.moment ≡ None }
+    ensures each { IfOk result (λ c. length c.fates.items ≡ length (filter lives_of.is_open lives.now.all)) }
+    ensures lives { IfOk result (λ c. plan.after_each moment (concerned.all_fates lives_of.is_open c.fates.items lives.now.all) lives.now.all ≡ reloads.reload_lives moment news.now (spec.world olds.now lives.now.all [])) }
+    ensures closed { IfOk result (λ c. length (filter plan.closes c.fates.items) ≡ reloads.closed_by moment news.now (spec.world olds.now lives.now.all [])) }
+    ensures begun { IfOk result (λ c. c.begun.items ≡ reloads.reload_births moment news.now (spec.world olds.now lives.now.all [])) }
 {
     let names = names_of(alloc, news)?;
     let fates = fates_to(alloc, olds, &names, news, lives)?;
@@ -118,7 +121,7 @@ fn reload(
     ensures same { state.new.halted ≡ state.old.halted }
     ensures err { OnErr result (kept.live state.new ≡ kept.live state.old) }
 {
-    let lives = Lives::of(&state.lives, &state.unended);
+    let lives = Lives::open(&state.lives, &state.open_lives);
     let change = change_to(alloc, moment, &state.jobs, &lives, &jobs)?;
     let (fates, begun) = (change.fates, change.begun);
     let first = state.lives.len();
@@ -130,10 +133,12 @@ fn reload(
         begun: begun.len() as u32,
     };
     state.lives.reserve(begun.len())?;
-    state.unended.reserve(begun.len())?;
-    meet_all(&mut state.lives, &state.unended, moment, fates);
-    drop_ended(&mut state.unended, &state.lives);
-    push_places(&mut state.unended, first, begun.len());
+    state.open_lives.reserve(begun.len())?;
+    state.endings.reserve(state.open_lives.len())?;
+    meet_all(&mut state.lives, &state.open_lives, moment, fates);
+    push_endings(&mut state.endings, &state.open_lives, &state.lives);
+    drop_closed(&mut state.open_lives, &state.lives);
+    push_places(&mut state.open_lives, first, begun.len());
     push_lives(&mut state.lives, begun);
     state.jobs = jobs;
     Ok(synced)
@@ -152,6 +157,8 @@ pub fn take_load<L: Ledger>(
     ensures answer { IfOk result (λ t. t.answer ≡ spec.answer (kept.live state.old) (Load moment text.now)) }
     ensures runs { IfOk result (λ t. t.runs ≡ runs (kept.live state.old) (Load moment text.now)) }
     ensures steps { OnOk result (steps.new ≡ steps.old + runs (kept.live state.old) (Load moment text.now)) }
+    ensures at_least { steps.old ≤ steps.new }
+    ensures at_most { steps.new ≤ steps.old + runs (kept.live state.old) (Load moment text.now) }
     ensures state { OnOk result (kept.live state.new ≡ spec.step (kept.live state.old) (Load moment text.now)) }
     ensures few { OnOk result (kept.HasFew state.new) }
     ensures listed { kept.IsListed state.new }
@@ -189,6 +196,8 @@ pub fn take_update<L: Ledger>(
     ensures answer { IfOk result (λ t. t.answer ≡ spec.answer (kept.live state.old) (Targets moment job.now file.now text.now)) }
     ensures runs { IfOk result (λ t. t.runs ≡ runs (kept.live state.old) (Targets moment job.now file.now text.now)) }
     ensures steps { OnOk result (steps.new ≡ steps.old + runs (kept.live state.old) (Targets moment job.now file.now text.now)) }
+    ensures at_least { steps.old ≤ steps.new }
+    ensures at_most { steps.new ≤ steps.old + runs (kept.live state.old) (Targets moment job.now file.now text.now) }
     ensures state { OnOk result (kept.live state.new ≡ spec.step (kept.live state.old) (Targets moment job.now file.now text.now)) }
     ensures few { OnOk result (kept.HasFew state.new) }
     ensures listed { kept.IsListed state.new }

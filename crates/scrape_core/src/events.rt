@@ -37,6 +37,8 @@ fn take_other<L: Ledger>(
     ensures answer { IfOk result (λ t. t.answer ≡ spec.answer (kept.live state.old) event.now) }
     ensures runs { IfOk result (λ t. t.runs ≡ runs (kept.live state.old) event.now) }
     ensures steps { OnOk result (steps.new ≡ steps.old + runs (kept.live state.old) event.now) }
+    ensures at_least { steps.old ≤ steps.new }
+    ensures at_most { steps.new ≤ steps.old + runs (kept.live state.old) event.now }
     ensures state { OnOk result (kept.seen state.new ≡ spec.step (kept.live state.old) event.now) }
     ensures book { OnOk result (kept.Appends (kept.live state.old) event.now book.old.entries book.new.entries) }
     ensures few { OnOk result (kept.HasFew state.new) }
@@ -86,6 +88,8 @@ fn take_live<L: Ledger>(
     ensures answer { IfOk result (λ t. t.answer ≡ spec.answer (kept.live state.old) event.now) }
     ensures runs { IfOk result (λ t. t.runs ≡ runs (kept.live state.old) event.now) }
     ensures steps { OnOk result (steps.new ≡ steps.old + runs (kept.live state.old) event.now) }
+    ensures at_least { steps.old ≤ steps.new }
+    ensures at_most { steps.new ≤ steps.old + runs (kept.live state.old) event.now }
     ensures state { OnOk result (kept.seen state.new ≡ spec.step (kept.live state.old) event.now) }
     ensures book { OnOk result (kept.Appends (kept.live state.old) event.now book.old.entries book.new.entries) }
     ensures few { OnOk result (kept.HasFew state.new) }
@@ -118,6 +122,8 @@ pub fn take<L: Ledger>(
     ensures answer { IfOk result (λ t. t.answer ≡ spec.answer (kept.seen state.old) event.now) }
     ensures runs { IfOk result (λ t. t.runs ≡ runs (kept.seen state.old) event.now) }
     ensures steps { OnOk result (steps.new ≡ steps.old + runs (kept.seen state.old) event.now) }
+    ensures at_least { steps.old ≤ steps.new }
+    ensures at_most { steps.new ≤ steps.old + runs (kept.seen state.old) event.now }
     ensures state { OnOk result (kept.seen state.new ≡ spec.step (kept.seen state.old) event.now) }
     ensures book { OnOk result (kept.Appends (kept.seen state.old) event.now book.old.entries book.new.entries) }
     ensures few { OnOk result (kept.HasFew state.new) }

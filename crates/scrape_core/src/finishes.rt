@@ -40,6 +40,8 @@ fn finish_counted<L: Ledger>(
     ensures answer { IfOk result (λ t. t.answer ≡ spec.answer (kept.live state.old) (Finish ticket took reply.now)) }
     ensures runs { IfOk result (λ t. t.runs ≡ runs (kept.live state.old) (Finish ticket took reply.now)) }
     ensures steps { OnOk result (steps.new ≡ steps.old + runs (kept.live state.old) (Finish ticket took reply.now)) }
+    ensures at_least { steps.old ≤ steps.new }
+    ensures at_most { steps.new ≤ steps.old + runs (kept.live state.old) (Finish ticket took reply.now) }
     ensures state { OnOk result (kept.live state.new ≡ spec.step (kept.live state.old) (Finish ticket took reply.now)) }
     ensures book { OnOk result (kept.Appends (kept.live state.old) (Finish ticket took reply.now) book.old.entries book.new.entries) }
     ensures few { kept.HasFew state.new }
@@ -73,6 +75,8 @@ pub fn take_finish<L: Ledger>(
     ensures answer { IfOk result (λ t. t.answer ≡ spec.answer (kept.live state.old) (Finish ticket took reply.now)) }
     ensures runs { IfOk result (λ t. t.runs ≡ runs (kept.live state.old) (Finish ticket took reply.now)) }
     ensures steps { OnOk result (steps.new ≡ steps.old + runs (kept.live state.old) (Finish ticket took reply.now)) }
+    ensures at_least { steps.old ≤ steps.new }
+    ensures at_most { steps.new ≤ steps.old + runs (kept.live state.old) (Finish ticket took reply.now) }
     ensures state { OnOk result (kept.live state.new ≡ spec.step (kept.live state.old) (Finish ticket took reply.now)) }
     ensures book { OnOk result (kept.Appends (kept.live state.old) (Finish ticket took reply.now) book.old.entries book.new.entries) }
     ensures few { kept.HasFew state.new }

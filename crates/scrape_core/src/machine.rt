@@ -1,10 +1,10 @@
 //! The core: what a scrape manager has taken so far, and the call that takes an event.
-ghost use Rattle.std.specs.Prelude.{◌≡◌, ◌+◌, ◌^◌, nat_lt, ◌++◌, [], ◌∷◌, length, pos, true, IfOk, OnOk, OnErr};
+ghost use Rattle.std.specs.Prelude.{◌≡◌, ◌+◌, ◌≤◌, ◌^◌, nat_lt, ◌++◌, [], ◌∷◌, length, pos, true, is_some, IfOk, IfSome, OnOk, OnErr};
 ghost use Rattle.journal_text.specs.declared.events.Event.{Event};
 ghost use Rattle.journal_text.specs.declared.events.Event.TheVariants.{Finish, Halt};
 ghost use Rattle.journal_text.specs.Events.{IsInLimits, MayFollow, now_of};
 ghost use Rattle.journal_text.specs.Lines.{IsMoment, number};
-ghost use Rattle.scrape_core.specs.Readers.{IsWake, is_due, request};
+ghost use Rattle.scrape_core.specs.Readers.{IsWake, MayFetch, awaits, is_due, request};
 ghost use Rattle.scrape_core.specs.Records.{is_live, started_of};
 ghost use Rattle.scrape_machine.specs.Machine as spec;
 ghost use Rattle.scrape_machine.specs.Runs as relabelling;
@@ -21,6 +21,7 @@ use life_roll::Moment;
 use outside::Request;
 use scrape_loop::ReadReply;
 use scrape_machine::Answer;
+use scrape_steps::endings::Endings;
 use std::alloc::Global;
 use std::hash::RandomState;
 use std::marker::Model;
@@ -104,7 +105,8 @@ impl Core {
             state: State {
                 jobs: Vec::new(alloc),
                 lives: Vec::new(alloc),
-                unended: Vec::new(alloc),
+                open_lives: Vec::new(alloc),
+                endings: Endings::new(alloc),
                 started: Vec::new(alloc),
                 halted: false,
             },
@@ -128,6 +130,8 @@ impl Core {
         ensures joined { OnOk result (self.new ≡ self.old ++ event ∷ []) }
         ensures err { OnErr result (self.new ≡ self.old) }
         ensures steps { OnOk result (steps.new ≡ steps.old + relabelling.runs (spec.world_of self.old) event) }
+        ensures at_least { steps.old ≤ steps.new }
+        ensures at_most { steps.new ≤ steps.old + relabelling.runs (spec.world_of self.old) event }
     {
         if !has_room_for_runs(self.runs) {
             return Err(NoMemory);
@@ -157,6 +161,8 @@ impl Core {
         ensures joined { OnOk result (self.new ≡ self.old ++ event ∷ []) }
         ensures err { OnErr result (self.new ≡ self.old) }
         ensures steps { OnOk result (steps.new ≡ steps.old + relabelling.runs (spec.world_of self.old) event) }
+        ensures at_least { steps.old ≤ steps.new }
+        ensures at_most { steps.new ≤ steps.old + relabelling.runs (spec.world_of self.old) event }
     {
         let event = ReadEvent::of(alloc, event)?;
         self.take_told(alloc, event, steps)
@@ -178,6 +184,8 @@ impl Core {
         ensures joined { OnOk result (self.new ≡ self.old ++ Finish ticket took reply ∷ []) }
         ensures err { OnErr result (self.new ≡ self.old) }
         ensures steps { OnOk result (steps.new ≡ steps.old + relabelling.runs (spec.world_of self.old) (Finish ticket took reply)) }
+        ensures at_least { steps.old ≤ steps.new }
+        ensures at_most { steps.new ≤ steps.old + relabelling.runs (spec.world_of self.old) (Finish ticket took reply) }
     {
         self.take_told(alloc, ReadEvent::finish(ticket, took, reply), steps)
     }
@@ -242,10 +250,12 @@ impl Core {
         wake_in(&self.state, self.moment().number())
     }
 
-    /// The request of the scrape with a ticket, as it was at the start of the scrape. There is none where no scrape with the ticket was started,
-    /// or where it had its finish.
+    /// The request of the scrape with a ticket, as it was at the start of the scrape. There is none exactly where no scrape with the ticket was
+    /// started, or where it had its finish. It may be fetched: its limit and its timeout are in their ranges.
     pub fn request(&self, alloc: Global, ticket: u64) -> Result<Option<Request>, NoMemory>
-        ensures { IfOk result (λ o. o ≡ request self.now ticket) }
+        ensures request { IfOk result (λ o. o ≡ request self.now ticket) }
+        ensures awaited { IfOk result (λ o. is_some o ≡ awaits self.now ticket) }
+        ensures fetched { IfOk result (λ o. IfSome o (λ r. MayFetch r)) }
     {
         request_in(alloc, &self.state.lives, &self.state.started, ticket)
     }

@@ -1,10 +1,11 @@
 //! What a core says of its journal between events.
-ghost use Rattle.std.specs.Prelude.{◌≡◌, ◌<◌, ◌^◌, ℕ, slice_get, option_copied, IfOk};
+ghost use Rattle.std.specs.Prelude.{◌≡◌, ◌<◌, ◌^◌, ℕ, slice_get, option_copied, IfOk, IfSome};
 ghost use Rattle.std.specs.List.{list_any};
 ghost use Rattle.journal_text.specs.Lines.{number};
 ghost use Rattle.scrape_core.specs.Kept as kept;
 ghost use Rattle.scrape_core.specs.Readers as spec;
 ghost use Rattle.scrape_core.specs.Wakes as wakes;
+ghost use Rattle.scrape_steps.specs.Concerned as concerned;
 
 use crate::state::State;
 use end_of_run::due_at;
@@ -13,7 +14,7 @@ use life_roll::Moment;
 use outside::Request;
 use scrape_machine::lives::{Life, Start};
 use scrape_steps::acts::ends;
-use scrape_steps::unended::Lives;
+use scrape_steps::concerned::Lives;
 use std::alloc::Global;
 use target_set::request_of;
 
@@ -24,11 +25,11 @@ fn acts(moment: Moment, life: &Life) -> bool
     life.schedule.is_due(moment) || ends(moment, life)
 }
 
-/// Whether a sweep at a moment would do so for one of these lives.
+/// Whether a sweep at a moment would do so for one of those of these lives that are concerned.
 fn any_due(lives: &Lives<'_>, moment: Moment) -> bool
-    ensures { result ≡ list_any (spec.acts (number moment)) lives.now }
+    ensures { result ≡ list_any (spec.acts (number moment)) (concerned.concerned lives.now) }
 {
-    for index in 0..lives.unended() {
+    for index in 0..lives.count() {
         if acts(moment, lives.at(index)) {
             return true;
         }
@@ -72,12 +73,12 @@ fn sooner(one: Option<u64>, other: Option<u64>) -> Option<u64>
     }
 }
 
-/// The moment from which on a sweep would act on one of these lives.
+/// The moment from which on a sweep would act on one of those of these lives that are concerned.
 fn first_wake(lives: &Lives<'_>) -> Option<u64>
-    ensures { (n : ℕ) → list_any (spec.acts n) lives.now ≡ wakes.reached n result }
+    ensures { (n : ℕ) → list_any (spec.acts n) (concerned.concerned lives.now) ≡ wakes.reached n result }
 {
     let mut first = None;
-    for index in 0..lives.unended() {
+    for index in 0..lives.count() {
         first = sooner(first, wake_of(lives.at(index)));
     }
     first
@@ -109,8 +110,8 @@ pub fn due_in(state: &State, moment: Moment) -> bool
     requires { kept.IsListed state.now }
     ensures { result ≡ spec.due_in state.now (number moment) }
 {
-    let lives = Lives::of(&state.lives, &state.unended);
-    !state.halted && any_due(&lives, moment)
+    let lives = Lives::open(&state.lives, &state.open_lives);
+    !state.halted && (any_due(&lives, moment) || state.endings.is_due(moment.number()))
 }
 
 /// The least moment from `now` on at which a sweep would act on a life.
@@ -122,8 +123,8 @@ pub fn wake_in(state: &State, now: u64) -> Option<i64>
     if state.halted {
         return None;
     }
-    let lives = Lives::of(&state.lives, &state.unended);
-    wake_from(first_wake(&lives), now)
+    let lives = Lives::open(&state.lives, &state.open_lives);
+    wake_from(sooner(first_wake(&lives), state.endings.first()), now)
 }
 
 /// The request of a scrape of a life, by the settings at its start.
@@ -132,7 +133,8 @@ fn request_for(
     start: &Start,
     life: Option<&Life>,
 ) -> Result<Option<Request>, NoMemory>
-    ensures { IfOk result (λ o. o ≡ spec.life_request start.now.settings.conf (option_copied life.entry)) }
+    ensures request { IfOk result (λ o. o ≡ spec.life_request start.now.settings.conf (option_copied life.entry)) }
+    ensures fetched { IfOk result (λ o. IfSome o (λ r. spec.MayFetch r)) }
 {
     match life {
         None => Ok(None),
@@ -164,7 +166,8 @@ pub fn request_in(
     started: &[Start],
     ticket: u64,
 ) -> Result<Option<Request>, NoMemory>
-    ensures { IfOk result (λ o. o ≡ spec.start_request lives.now (slice_get started.now ticket)) }
+    ensures request { IfOk result (λ o. o ≡ spec.start_request lives.now (slice_get started.now ticket)) }
+    ensures fetched { IfOk result (λ o. IfSome o (λ r. spec.MayFetch r)) }
 {
     match start_at(started, ticket) {
         None => Ok(None),

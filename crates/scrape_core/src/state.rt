@@ -1,6 +1,7 @@
 //! What a core keeps of the events that it took.
 use jobs_in_force::jobs::InForce;
 use scrape_machine::lives::{Life, Start};
+use scrape_steps::endings::Endings;
 
 /// What the events so far come to.
 #[derive(Drop)]
@@ -9,8 +10,10 @@ pub struct State {
     pub jobs: Vec<InForce>,
     /// The lives, by number.
     pub lives: Vec<Life>,
-    /// The numbers of the lives that have not ended, rising.
-    pub unended: Vec<usize>,
+    /// The numbers of the open lives, rising.
+    pub open_lives: Vec<usize>,
+    /// The endings of closed lives that weren't taken.
+    pub endings: Endings,
     /// The started scrapes, by ticket.
     pub started: Vec<Start>,
     /// Whether a halt came.

@@ -13,6 +13,7 @@ use Rattle.report_samples.specs.Markers.{stale_entry, report_markers}
 use Rattle.report_samples.specs.Reports.{report_entries}
 use Rattle.end_of_run.specs.Endings.{ending_entries, marker_moment}
 use Rattle.series_cache.specs.Sets.{gone}
+use Rattle.scrape_loop.specs.Texts.{no_texts}
 use Rattle.scrape_loop.specs.Tracked.{LifeView, after_forced, samples_of, tracked_sets}
 use Rattle.scrape_loop.specs.Entries.{sample_entry, counts_of, entries_of}
 use Rattle.life_roll.specs.Schedules as schedule
@@ -33,6 +34,9 @@ numbered n l = record l { state = record l.state { life = n } }
 
 abbrev pub ticketless : Life → Life
 ticketless l = record l { schedule = record l.schedule { flight = without_ticket l.schedule.flight } }
+
+abbrev pub textless : Life → Life
+textless l = record l { state = record l.state { cache = no_texts } }
 
 -- entries with another number
 remap : {A : Type 0} (n : ℕ) (f g : A → Entry) (xs : List A) → ((x : A) → renumbered n (f x) ≡ g x) → map (renumbered n) (map f xs) ≡ map g xs
@@ -106,9 +110,26 @@ gives_ticketless (Answered took r) l = counting_ticketless l took (outcome_for l
 gives_ticketless (Change m s) l = refl
 gives_ticketless (Close m) l = refl
 
+-- what is known of raw texts
+scan_textless : (m : ℤ) (over : Bool) (l : Life) (o : Option ℤ) → scan_entries m over l o ≡ scan_entries m over (textless l) o
+scan_textless m over l None = refl
+scan_textless m over l (Some c) = refl
+
+counting_textless : (l : Life) (took : ℤ) (s : Scrape) (o : Option InFlight) → counting_entries l took s o ≡ counting_entries (textless l) took s o
+counting_textless l took s None = refl
+counting_textless l took s (Some f) = refl
+
+gives_textless : (loc : Local) (l : Life) → life_gives loc l ≡ life_gives loc (textless l)
+unfolding outcome_for
+gives_textless Nothing l = refl
+gives_textless (Scan m t over) l = scan_textless m over l l.schedule.closed
+gives_textless (Answered took r) l = counting_textless l took (outcome_for l took r) l.schedule.flight
+gives_textless (Change m s) l = refl
+gives_textless (Close m) l = refl
+
 -- the entries of a life are those of the bare one, but for the number
 pub gives_bare : (loc : Local) (l : Life) → map (renumbered 0) (life_gives loc l) ≡ life_gives (bare_local loc) (bare l)
-gives_bare loc l = gives_numbered 0 loc l ∙ gives_ticketless loc (numbered 0 l)
+gives_bare loc l = gives_numbered 0 loc l ∙ (gives_textless loc (numbered 0 l) ∙ gives_ticketless loc (textless (numbered 0 l)))
 
 -- a life goes on as the bare one
 without_twice : (o : Option InFlight) → without_ticket o ≡ without_ticket (without_ticket o)
@@ -116,7 +137,7 @@ without_twice None = refl
 without_twice (Some f) = refl
 
 pub bare_twice : (l : Life) → bare l ≡ bare (bare l)
-bare_twice l = ap (λ z. record l { state = record l.state { life = 0 }; schedule = record l.schedule { flight = z } }) (without_twice l.schedule.flight)
+bare_twice l = ap (λ z. record l { state = record l.state { life = 0; cache = no_texts }; schedule = record l.schedule { flight = z } }) (without_twice l.schedule.flight)
 
 scan_bare : (m : ℤ) (t : ℕ) (over : Bool) (l : Life) (o : Option ℤ) → bare (scanned_life m t over l o) ≡ bare (scanned_life m 0 over (bare l) o)
 scan_bare m t over l None = by over (schedule.is_due (number m) l.schedule) (schedule.is_due (number m) (bare l).schedule) (sym (same_due (number m) l))

@@ -18,3 +18,5 @@ pub mod RefusedLemmas
 pub mod ConfLemmas
 pub mod JobLemmas
 pub mod RightLemmas
+pub mod AskedLemmas
+pub mod RequestLemmas

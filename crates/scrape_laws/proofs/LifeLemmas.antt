@@ -9,7 +9,7 @@ use Rattle.sample_rows.specs.Outcomes.{forced}
 use Rattle.sample_rows.specs.declared.scrape.Scrape.{Scrape}
 use Rattle.report_samples.specs.declared.entries.Entry.{Entry}
 use Rattle.end_of_run.specs.Endings.{ending_entries, marker_moment}
-use Rattle.scrape_loop.specs.Tracked.{LifeView, after_forced, after_scrape}
+use Rattle.scrape_loop.specs.Tracked.{LifeView, after_forced, after_scrape, known_after}
 use Rattle.scrape_loop.specs.Entries.{entries_of}
 use Rattle.life_roll.specs.Schedules as schedule
 use Rattle.life_roll.specs.declared.schedule.InFlight.{InFlight}
@@ -20,9 +20,10 @@ use Rattle.scrape_machine.specs.declared.lives.Local.TheVariants.{Nothing, Scan,
 use Rattle.scrape_machine.specs.Lives.{is_open, forces, ends_at, closing_at, outcome_for, scanned_life, with_ending, counted, changed, closed, life_after, scan_entries, counting_entries, life_gives}
 use Rattle.scrape_laws.specs.Scrapes.{LifeScrape, tracks}
 use Rattle.scrape_laws.specs.Markers.{told, is_of, ending_of, reports_at, ending_reports, is_report_marker_of}
+use Rattle.scrape_laws.specs.Past.{tracked_by, known_by}
 use Rattle.scrape_laws.specs.Runs.{is_any}
 use Rattle.scrape_laws.proofs.SetLemmas.{copies, one_if, tracked_copies}
-use Rattle.scrape_laws.proofs.ToldLemmas.{ends_with, ends_with_push, any_push, told_more, told_ended}
+use Rattle.scrape_laws.proofs.ToldLemmas.{ends_with, ends_with_push, any_push, tracked_push, known_push, told_more, told_ended}
 use Rattle.scrape_laws.proofs.EntryLemmas.{Skips, other_scrape, other_ending, own_scrape, own_ending, no_reports, own_reports}
 
 -- entries of another life
@@ -53,6 +54,8 @@ other_life p (Close m) l e = refl
 pub record Knows (n : ℕ) (x : List Pair) (ss : List LifeScrape) (l : Life) : Type 0 where
   pub named : l.state.life ≡ n
   pub tracked : l.ended ≡ false → copies x l.state.tracked ≡ one_if x (ends_with (tracks x) false ss)
+  pub before : l.ended ≡ false → l.state.tracked ≡ tracked_by [] ss
+  pub known : l.ended ≡ false → l.state.known ≡ known_by [] ss
   pub scraped : l.state.scraped ≡ is_any ss
   pub quiet : is_open l ≡ false → l.schedule.flight ≡ None
   pub ended : is_open l ≡ true → l.ended ≡ false
@@ -125,6 +128,8 @@ module _ (n : ℕ) (x : List Pair) (ss : List LifeScrape) (l : Life) where
         knows = record {
           named = ap (λ (z : LifeView). z.life) at ∙ w.named;
           tracked = λ h. ap (λ (z : LifeView). copies x z.tracked) at ∙ w.tracked d;
+          before = λ h. ap (λ (z : LifeView). z.tracked) at ∙ w.before d;
+          known = λ h. ap (λ (z : LifeView). z.known) at ∙ w.known d;
           scraped = ap (λ (z : LifeView). z.scraped) at ∙ w.scraped;
           quiet = q;
           ended = λ h. en ∙ d;
@@ -142,6 +147,8 @@ module _ (n : ℕ) (x : List Pair) (ss : List LifeScrape) (l : Life) where
         knows = record {
           named = ap (λ (z : LifeView). z.life) at ∙ w.named;
           tracked = λ h. ap (λ (z : LifeView). copies x z.tracked) at ∙ (tracked_copies x s ∙ ap (one_if x) (sym (ends_with_push (tracks x) false ss s)));
+          before = λ h. ap (λ (z : LifeView). z.tracked) at ∙ sym (tracked_push [] ss s);
+          known = λ h. ap (λ (z : LifeView). z.known) at ∙ (ap (λ zs. known_after zs s.outcome) (w.known d) ∙ sym (known_push [] ss s));
           scraped = ap (λ (z : LifeView). z.scraped) at ∙ sym (any_push ss s);
           quiet = λ h. absurd (true≢false (sym p ∙ h));
           ended = λ h. en ∙ d;
@@ -179,6 +186,8 @@ module _ (n : ℕ) (x : List Pair) (ss : List LifeScrape) (l : Life) where
         knows = record {
           named = w.named;
           tracked = λ h. absurd (true≢false h);
+          before = λ h. absurd (true≢false h);
+          known = λ h. absurd (true≢false h);
           scraped = w.scraped;
           quiet = w.quiet;
           ended = λ h. absurd (false≢true (sym (ap (λ z. not (is_some z)) o) ∙ h));

@@ -19,6 +19,7 @@ use Rattle.scrape_machine.specs.Machine.{World, beginning, local, step, gives, r
 use Rattle.scrape_laws.specs.Scrapes.{LifeScrape, same_series, is_sample_of, tracks, scrape_at, scrapes_from, scrapes_of}
 use Rattle.scrape_laws.specs.Markers.{samples, mark_if, last_mark, told, ending_of, is_sample_or_marker, is_of, MarkerLaw, ending_reports, is_report_marker, is_report_marker_of, ReportMarkerLaw}
 use Rattle.scrape_laws.specs.Runs.{Run, run_of, runs_from, runs, closing_moment, is_closed, one_marker, run_marker, loose, closing_entries, run_entries, is_marker, is_marker_of, is_scraped, is_scraped_of, ClosedRunsLaw, is_any}
+use Rattle.scrape_laws.specs.Past.{PastLaw}
 use Rattle.scrape_laws.proofs.SetLemmas.{same_itself}
 use Rattle.scrape_laws.proofs.ToldLemmas.{any_push}
 use Rattle.scrape_laws.proofs.EntryLemmas.{filter_map_none, filter_map_some}
@@ -41,7 +42,7 @@ unfolding born
 fresh_goes n x w e l f =
     subst (λ (z : Life). GoesAt n x [] [] w e None (Some z)) (sym f.3)
     (record {
-      knows = record { named = refl; tracked = λ h. refl; scraped = refl; quiet = λ h. refl; ended = λ h. refl };
+      knows = record { named = refl; tracked = λ h. refl; before = λ h. refl; known = λ h. refl; scraped = refl; quiet = λ h. refl; ended = λ h. refl };
       tells = refl;
       reports = refl;
     })
@@ -98,6 +99,20 @@ run_goes n x (e ∷ es) w ss h k =
       tells = one_on n (is_of n x) (is_of_only n x) (λ o ts. told n x (ending_of o) false ts) w e es ss h g.tells r.tells;
       reports = one_on n (is_report_marker_of n) (report_only n) (ending_reports n) w e es ss h g.reports r.reports;
     }
+
+run_knows : (n : ℕ) (x : List Pair) (es : List Event) (w : World) (ss : List LifeScrape) → KnowsAt n x ss (slice_get w.lives n) →
+    KnowsAt n x (ss ++ scrapes_from w n es) (slice_get (run w es).lives n)
+run_knows n x [] w ss k = subst (λ zs. KnowsAt n x zs (slice_get w.lives n)) (sym (append-nil ss)) k
+run_knows n x (e ∷ es) w ss k =
+    let g = goes_at n x ss w e (slice_get w.lives n) (slice_get (step w e).lives n) refl (follows w e n) k in
+    subst (λ zs. KnowsAt n x zs (slice_get (run (step w e) es).lives n)) (append_assoc ss (scrape_at w e n (slice_get w.lives n)) (scrapes_from (step w e) n es))
+    (run_knows n x es (step w e) (ss ++ scrape_at w e n (slice_get w.lives n)) g.knows)
+
+-- what a life keeps is what its scrapes say
+pub past_law : (journal : List Event) → PastLaw journal
+past_law journal n l at =
+    let k : Knows n [] (scrapes_of n journal) l = subst (KnowsAt n [] (scrapes_of n journal)) at (run_knows n [] journal beginning [] refl) in
+    (k.scraped, λ h. record { tracked = k.before h; known = k.known h })
 
 pub marker_law : (journal : List Event) → MarkerLaw journal
 marker_law journal n x = sym ((run_goes n x journal beginning [] tt refl).tells)

@@ -1,9 +1,13 @@
 -- What is told of a series, one scrape on and at the ending.
-use Rattle.std.proofs.Common.{◌≡◌, ℕ, ℤ, Bool, true, not, ◌&&◌, List, [], ◌∷◌, ◌++◌, Some, None, refl, sym, ap, ◌∙◌, append_assoc, append-nil}
+use Rattle.std.proofs.Common.{◌≡◌, ℕ, ℤ, Bool, true, not, ◌&&◌, cond, List, [], ◌∷◌, ◌++◌, Some, None, refl, sym, ap, ◌∙◌, append_assoc, append-nil}
 use Rattle.label_set.specs.declared.texts.Pair.{Pair}
 use Rattle.report_samples.specs.declared.entries.Entry.{Entry}
+use Rattle.sample_rows.specs.declared.scrape.Scrape.{Scrape}
+use Rattle.sample_rows.specs.declared.scrape.Scrape.TheVariants.{Good, Bad}
+use Rattle.scrape_loop.specs.Tracked.{all_sets, is_good, known_after, tracked_sets}
 use Rattle.scrape_laws.specs.Scrapes.{LifeScrape, tracks}
 use Rattle.scrape_laws.specs.Markers.{samples, mark_if, told}
+use Rattle.scrape_laws.specs.Past.{tracked_by, known_by}
 use Rattle.scrape_laws.specs.Runs.{is_any}
 
 -- the last of the scrapes passes the test, or there is none and b
@@ -18,6 +22,19 @@ ends_with_push p b (t ∷ ss) s = ends_with_push p (p t) ss s
 pub any_push : (ss : List LifeScrape) (s : LifeScrape) → is_any (ss ++ s ∷ []) ≡ true
 any_push [] s = refl
 any_push (t ∷ ss) s = refl
+
+-- what is tracked and known, one scrape on
+pub tracked_push : (xs : List (List Pair)) (ss : List LifeScrape) (s : LifeScrape) → tracked_by xs (ss ++ s ∷ []) ≡ tracked_sets s.outcome
+tracked_push xs [] s = refl
+tracked_push xs (t ∷ ss) s = tracked_push (tracked_sets t.outcome) ss s
+
+known_then : (xs : List (List Pair)) (s : Scrape) → cond (is_good s) (all_sets s) xs ≡ known_after xs s
+known_then xs (Good rows scraped) = refl
+known_then xs (Bad f scraped left) = refl
+
+pub known_push : (xs : List (List Pair)) (ss : List LifeScrape) (s : LifeScrape) → known_by xs (ss ++ s ∷ []) ≡ known_after (known_by xs ss) s.outcome
+known_push xs [] s = known_then xs s.outcome
+known_push xs (t ∷ ss) s = known_push (cond (is_good t.outcome) (all_sets t.outcome) xs) ss s
 
 -- what one scrape adds
 abbrev pub tells : ℕ → List Pair → Bool → LifeScrape → List Entry

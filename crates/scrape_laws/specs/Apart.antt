@@ -2,6 +2,7 @@
 use Rattle.std.specs.Prelude.{◌≡◌, ℕ, true, List, [], ◌∷◌, ◌++◌, map, filter, slice_get, Option, Some, None, option_map}
 use Rattle.journal_text.specs.declared.events.Event.{Event}
 use Rattle.report_samples.specs.declared.entries.Entry.{Entry}
+use Rattle.scrape_loop.specs.Texts.{no_texts}
 use Rattle.life_roll.specs.declared.schedule.InFlight.{InFlight}
 use Rattle.scrape_machine.specs.declared.lives.Life.{Life}
 use Rattle.scrape_machine.specs.declared.lives.Local.{Local}
@@ -14,9 +15,9 @@ abbrev pub without_ticket : Option InFlight → Option InFlight
 without_ticket None = None
 without_ticket (Some f) = Some (record f { ticket = 0 })
 
--- a life without its number and the ticket of its scrape in flight
+-- a life without its number, what it knows of raw texts, and the ticket of its scrape in flight
 abbrev pub bare : Life → Life
-bare l = record l { state = record l.state { life = 0 }; schedule = record l.schedule { flight = without_ticket l.schedule.flight } }
+bare l = record l { state = record l.state { life = 0; cache = no_texts }; schedule = record l.schedule { flight = without_ticket l.schedule.flight } }
 
 -- what an event is to a life, without the ticket
 abbrev pub bare_local : Local → Local

@@ -1,11 +1,11 @@
 -- The late law: a fetch that was cancelled before it finished adds nothing.
-use Rattle.std.specs.Prelude.{◌≡◌, ℕ, ℤ, Bool, true, false, [], slice_get}
+use Rattle.std.specs.Prelude.{◌≡◌, ℕ, ℤ, Bool, true, false, List, [], ◌++◌, slice_get}
 use Rattle.outside.specs.declared.replies.Reply.{Reply}
 use Rattle.journal_text.specs.declared.events.Event.{Event}
 use Rattle.journal_text.specs.declared.events.Event.TheVariants.{Finish}
 use Rattle.scrape_machine.specs.declared.answers.Answer.{Answer}
 use Rattle.scrape_machine.specs.declared.answers.Answer.TheVariants.{Counted}
-use Rattle.scrape_machine.specs.Machine.{World, step, gives, answer}
+use Rattle.scrape_machine.specs.Machine.{World, world_of, step, gives, answer}
 
 -- a finish counts
 abbrev pub is_counted : Answer → Bool
@@ -23,3 +23,7 @@ pub record IsLate (w : World) (e : Event) (k : ℕ) : Type 0 where
 -- a finish that doesn't count is late
 abbrev pub LateLaw : World → Type 0
 LateLaw w = (k : ℕ) (took : ℤ) (r : Reply) → is_counted (answer w (Finish k took r)) ≡ false → IsLate w (Finish k took r) k
+
+-- so it is wherever it stands in a journal
+abbrev pub LateFronts : List Event → Type 0
+LateFronts journal = (front behind : List Event) → journal ≡ front ++ behind → LateLaw (world_of front)

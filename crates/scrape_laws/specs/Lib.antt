@@ -5,3 +5,4 @@ pub mod Late
 pub mod Flights
 pub mod Undisturbed
 pub mod Apart
+pub mod Past

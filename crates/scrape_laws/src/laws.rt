@@ -7,7 +7,8 @@ ghost use Rattle.scrape_machine.specs.Machine.{World};
 ghost use Rattle.scrape_laws.specs.Scrapes.{LifeScrape};
 ghost use Rattle.scrape_laws.specs.Markers.{MarkerLaw, ReportMarkerLaw};
 ghost use Rattle.scrape_laws.specs.Runs.{ClosedRunsLaw, RunsLaw};
-ghost use Rattle.scrape_laws.specs.Late.{LateLaw};
+ghost use Rattle.scrape_laws.specs.Past.{PastLaw};
+ghost use Rattle.scrape_laws.specs.Late.{LateFronts, LateLaw};
 ghost use Rattle.scrape_laws.specs.Flights.{Starts, FlightLaw, FinishLaw, UnstartedLaw};
 ghost use Rattle.scrape_laws.specs.Undisturbed.{NothingLaw, TicketLaw, UndisturbedLaw, IdleLaw, RefusedLaw};
 ghost use Rattle.scrape_laws.specs.Apart.{ApartLaw, ApartRunsLaw, ReloadLaw};
@@ -33,9 +34,15 @@ pub fn report_markers()
     ensures { (journal : List Event) → ReportMarkerLaw journal }
 {}
 
-/// A finish that doesn't count gives no entry and changes no life.
+/// What a life keeps from scrape to scrape: the sets that its last counted scrape tracks, all sets of its last good one, and whether there was one.
+pub fn past()
+    ensures { (journal : List Event) → PastLaw journal }
+{}
+
+/// A finish that doesn't count gives no entry and changes no life, wherever it stands in a journal.
 pub fn late()
-    ensures { (w : World) → LateLaw w }
+    ensures worlds { (w : World) → LateLaw w }
+    ensures fronts { (journal : List Event) → LateFronts journal }
 {}
 
 /// A scrape is in flight from its start until the first finish of its ticket, or until an event closes or changes its life.

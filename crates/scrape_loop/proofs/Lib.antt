@@ -1,5 +1,6 @@
 pub mod CountLemmas
 pub mod ForcedLemmas
+pub mod FreshLemmas
 pub mod ReplyLemmas
 pub mod RightLemmas
 pub mod ShownLemmas

@@ -1,5 +1,5 @@
 -- The entries that a scrape appends to the book ("Staleness" of the Prometheus documentation; "Configuration", scrape_config: honor_timestamps).
-use Rattle.std.specs.Prelude.{ℕ, ℤ, pos, false, List, ◌++◌, map, length, Some, unwrap_or}
+use Rattle.std.specs.Prelude.{ℕ, ℤ, pos, false, List, ◌++◌, map, length, Some, unwrap_or, refl}
 use Rattle.label_set.specs.declared.texts.Pair.{Pair}
 use Rattle.report_samples.specs.declared.entries.Kind.TheVariants as kind
 use Rattle.report_samples.specs.declared.entries.Entry.{Entry}
@@ -13,7 +13,7 @@ use Rattle.scrape_loop.specs.Tracked.{LifeView, samples_of, tracked_sets, all_se
 
 -- the sample of a row of a scrape that started at m: at its own timestamp, or at m
 abbrev pub sample_entry : ℕ → ℤ → Sample → Entry
-sample_entry life m r = record { life = life; kind = kind.Scraped; series = r.set; moment = unwrap_or r.stamp m; value = Some r.value }
+sample_entry life m r = record { life = life; kind = kind.Scraped; series = r.set; moment = unwrap_or r.stamp m; value = Some r.value; marked = refl }
 
 -- how many sets of a scrape the last good one didn't have; a bad scrape has no sets
 abbrev pub added_count : List (List Pair) → Scrape → ℕ

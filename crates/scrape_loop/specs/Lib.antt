@@ -4,3 +4,4 @@ pub mod Tracked
 pub mod Shown
 pub mod Entries
 pub mod Closings
+pub mod Fresh

@@ -80,6 +80,7 @@ fn put_series<L: Ledger>(
     ensures undone { undone cache.new ≡ undone cache.old }
     ensures steps { OnOk result (steps.new ≡ steps.old + 1) }
     ensures at_least { steps.old ≤ steps.new }
+    ensures at_most { steps.new ≤ steps.old + 1 }
 {
     let series = row_set(alloc, rules, metric, target, row, steps)?;
     let kept = shared(&series)?;
@@ -106,6 +107,7 @@ fn series_of<L: Ledger>(
     ensures undone { undone cache.new ≡ undone cache.old }
     ensures steps { OnOk result (steps.new + length cache.old.texts ≡ steps.old + length cache.new.texts) }
     ensures at_least { steps.old ≤ steps.new }
+    ensures at_most { steps.new + length cache.old.texts ≤ steps.old + length (spec.noted rules.now metric.old target.now cache.old row.now).texts }
 {
     match known(cache.look(row.raw()))? {
         Some(series) => Ok(series),
@@ -133,6 +135,7 @@ fn show_row<L: Ledger>(
     ensures undone { undone cache.new ≡ undone cache.old }
     ensures steps { OnOk result (steps.new + length cache.old.texts ≡ steps.old + length cache.new.texts) }
     ensures at_least { steps.old ≤ steps.new }
+    ensures at_most { steps.new + length cache.old.texts ≤ steps.old + length (spec.shown_row rules.now metric.old target.now cache.old row.now).texts }
 {
     let series = series_of(alloc, rules, metric, target, row, cache, steps)?;
     cache.stamp(row.raw(), own_stamp(rules, row).is_none());
@@ -156,6 +159,8 @@ fn sift_known<L: Ledger>(
     ensures undone { undone cache.new ≡ undone cache.old }
     ensures steps { OnOk result (steps.new + length cache.old.texts ≡ steps.old + length cache.new.texts) }
     ensures at_least { steps.old ≤ steps.new }
+    ensures at_most { steps.new + length cache.old.texts
+        ≤ steps.old + length (spec.shown_all terms.now.rules.now terms.now.metric.now terms.now.target.now cache.old body.now.rows).texts }
 {
     let mut runner = terms.metric.runner(alloc)?;
     let labels = labels_in(alloc, terms.target)?;
@@ -186,6 +191,8 @@ fn of_page<L: Ledger>(
     ensures undone { undone cache.new ≡ undone cache.old }
     ensures steps { OnOk result (steps.new + length cache.old.texts ≡ steps.old + length cache.new.texts) }
     ensures at_least { steps.old ≤ steps.new }
+    ensures at_most { steps.new + length cache.old.texts
+        ≤ steps.old + length (spec.texts_by terms.now.rules.now terms.now.metric.now terms.now.target.now cache.old (or_line (reading (body_of reply.now)))).texts }
 {
     let body = match reply.page() {
         Page::Rows { status: _, body } => body,
@@ -222,6 +229,7 @@ fn known_rows<L: Ledger>(
     ensures undone { undone cache.new ≡ undone cache.old }
     ensures steps { OnOk result (steps.new + length cache.old.texts ≡ steps.old + length cache.new.texts) }
     ensures at_least { steps.old ≤ steps.new }
+    ensures at_most { steps.new + length cache.old.texts ≤ steps.old + length (spec.texts_shown terms.now reply.now took cache.old).texts }
 {
     if let Some(fault) = reply.early_fault(terms.rules, took) {
         return Ok(failed(fault));
@@ -255,6 +263,7 @@ pub fn shown_rows<L: Ledger>(
     ensures steps { OnOk result (steps.new + length cache.old.texts ≡ steps.old + length (spec.texts_shown terms.now reply.now took cache.old).texts) }
     ensures runs { IfOk result (λ s. s.runs ≡ length (spec.texts_shown terms.now reply.now took cache.old).texts - length cache.old.texts) }
     ensures at_least { steps.old ≤ steps.new }
+    ensures at_most { steps.new + length cache.old.texts ≤ steps.old + length (spec.texts_shown terms.now reply.now took cache.old).texts }
 {
     match known_rows(alloc, terms, reply, took, cache, steps) {
         Err(e) => {

@@ -1,10 +1,12 @@
 //! What the scrapes of one life leave for the next.
-ghost use Rattle.std.specs.Prelude.{◌≡◌, ◌≤◌, ◌+◌, [], ◌++◌, length, pos, ◌≤ℤ◌, false, true, IfOk, OnOk, OnErr};
+ghost use Rattle.std.specs.Prelude.{◌≡◌, ◌≤◌, ◌+◌, List, [], ◌++◌, length, pos, ◌≤ℤ◌, Bool, false, true, IfOk, OnOk, OnErr};
 ghost use Rattle.label_conflict.specs.Merging.{bears};
 ghost use Rattle.label_set.specs.SetText.{metric_label};
+ghost use Rattle.relabel.specs.declared.conf.RuleConf.{RuleConf};
 ghost use Rattle.sample_rows.specs.Outcomes.{forced};
 ghost use Rattle.scrape_loop.specs.Closings.{closing_of};
 ghost use Rattle.scrape_loop.specs.Entries.{entries_of, forced_entries};
+ghost use Rattle.scrape_loop.specs.Fresh.{FreshLaw, KnownLaw};
 ghost use Rattle.scrape_loop.specs.Shown.{Shows};
 ghost use Rattle.scrape_loop.specs.Texts.{AreRight};
 ghost use Rattle.scrape_loop.specs.Tracked as spec;
@@ -94,7 +96,8 @@ impl LifeState {
     /// Only want of memory refuses.
     pub fn new(alloc: Global, life: u64, target: LabelSet) -> Result<LifeState, NoMemory>
         requires nameless { bears target metric_label ≡ false }
-        ensures { IfOk result (λ s. s ≡ spec.fresh life target) }
+        ensures state { IfOk result (λ s. s ≡ spec.fresh life target) }
+        ensures right { IfOk result (λ s. (honor : Bool) (metric : List RuleConf) → AreRight honor metric target s.cache.texts) }
     {
         Ok(LifeState {
             past: Past {
@@ -119,6 +122,11 @@ impl LifeState {
         ensures { result ≡ self.now.scraped }
     {
         self.past.scraped
+    }
+
+    /// The hash of a raw text: once a scrape was counted, by the hasher of the book of the first one.
+    pub fn hash_of(&self, raw: &[u8]) -> u64 {
+        self.cache.hash_of(raw)
     }
 
     /// What the life leaves behind where it is closed at a moment, with its next scrape planned at another one and this scrape interval.
@@ -156,8 +164,9 @@ impl LifeState {
     /// A sample with an own honoured timestamp isn't tracked, and a scrape that isn't good tracks nothing.
     /// The fetch took `took` milliseconds, 0 or more. The body of the reply is read already.
     ///
-    /// The rules for samples are run once for each raw text that the last good scrape didn't show, which takes one step. So what is known of a text
-    /// has to be right under `honor_labels` and these rules, as it is where each scrape of the life goes by the same ones.
+    /// The rules for samples are run once for each raw text that the last good scrape didn't show (`fresh`), which takes one step; the next scrape
+    /// knows just the texts of this one's rows where it is good, and those of before where it isn't (`known`). So what is known of a text has to be
+    /// right under `honor_labels` and these rules, as it is where each scrape of the life goes by the same ones (`right`).
     ///
     /// The source is "Staleness" of the Prometheus documentation, and "Configuration", scrape_config.
     ///
@@ -186,6 +195,10 @@ impl LifeState {
         ensures err_book { OnErr result (book.new ≡ book.old) }
         ensures steps { OnOk result (steps.new ≡ steps.old + spec.runs_for self.old rules.now metric.now reply.now took) }
         ensures at_least { steps.old ≤ steps.new }
+        ensures at_most { steps.new ≤ steps.old + spec.runs_for self.old rules.now metric.now reply.now took }
+        ensures fresh { FreshLaw self.old rules.now metric.now reply.now took }
+        ensures known { KnownLaw self.old rules.now metric.now reply.now took }
+        ensures right { AreRight rules.now.honor_labels metric.now self.new.target self.new.cache.texts }
     {
         seed(&mut self.cache, alloc, book.hasher());
         let target = self.past.target.set();
@@ -239,6 +252,8 @@ impl LifeState {
     pub fn force(&mut self)
         ensures state { self.new ≡ spec.after_forced self.old }
         ensures none_tracked { self.new ≡ record self.old { tracked = []; cache = turned false self.old.cache; scraped = true } }
+        ensures right { (honor : Bool) (metric : List RuleConf) →
+            AreRight honor metric self.old.target self.old.cache.texts → AreRight honor metric self.new.target self.new.cache.texts }
     {
         self.past.scraped = true;
         self.cache.turn(false);
@@ -248,6 +263,7 @@ impl LifeState {
     /// It takes no memory, and what they took is given back.
     pub fn release(&mut self)
         ensures state { self.new ≡ spec.released self.old }
+        ensures right { (honor : Bool) (metric : List RuleConf) → AreRight honor metric self.new.target self.new.cache.texts }
     {
         self.cache.clear();
     }

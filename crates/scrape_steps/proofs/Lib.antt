@@ -5,7 +5,11 @@ pub mod FinishLemmas
 pub mod HeldLemmas
 pub mod BirthLemmas
 pub mod WholeLemmas
-pub mod UnendedLemmas
+pub mod ConcernedLemmas
 pub mod SweptLemmas
 pub mod ListedLemmas
+pub mod OrderLemmas
+pub mod EndingLemmas
+pub mod WaitingLemmas
+pub mod SharingLemmas
 pub mod SweepLemmas

@@ -1,5 +1,5 @@
--- Lives that are changed in place, by the places of those that have not ended.
-use Rattle.std.proofs.Common.{◌≡◌, ℕ, ℤ, zero, suc, ◌+◌, ◌<◌, Bool, true, false, not, cond, List, [], ◌∷◌, ◌++◌, map, length, length-append, take, drop, get_or, set, refl, sym, ap, ap₂, ◌∙◌, arith, append_assoc}
+-- Lives that are changed in place, by the places of those that an event concerns.
+use Rattle.std.proofs.Common.{◌≡◌, ℕ, ℤ, zero, suc, ◌+◌, ◌<◌, Bool, true, false, cond, List, [], ◌∷◌, ◌++◌, map, length, length-append, take, drop, get_or, set, refl, sym, ap, ap₂, ◌∙◌, arith, append_assoc}
 use Rattle.std.specs.Prelude.{Option, Some, None, filter, slice_get}
 use Rattle.std.proofs.Math.Seq.{take-append_seam}
 use Rattle.std.proofs.lemmas.List.{drop_more, take_more, length-take}
@@ -14,8 +14,8 @@ use Rattle.scrape_machine.specs.declared.lives.Start.{Start}
 use Rattle.scrape_machine.specs.Lives.{scanned_life, life_after}
 use Rattle.scrape_machine.specs.Machine.{world, is_over, starts_in, lives_from, ticket_in_sweep}
 use Rattle.scrape_steps.specs.Plans.{local_of, after_each}
-use Rattle.scrape_steps.specs.Unended.{is_ended, unended, unended_from, all_fates, changed_at}
-use Rattle.scrape_steps.proofs.UnendedLemmas.{fates_skip, fates_take, ended_scanned, ended_starts}
+use Rattle.scrape_steps.specs.Concerned.{concerns, places_where, all_fates, changed_at}
+use Rattle.scrape_steps.proofs.ConcernedLemmas.{fates_skip, fates_take, apart_closed, apart_scanned, closed_starts}
 
 -- a change of the life at a place
 pub length-changed : (k : ℕ) (g : Life → Life) (ls : List Life) → length (changed_at k g ls) ≡ length ls
@@ -74,31 +74,32 @@ met_more m fs ps ls now more f i p n lt at was is =
     ∙ sym (met_push m fs (take i ps) ls f p (sym n ∙ sym (length_front i ps lt)))
     ∙ ap (λ qs. met_at m (fs ++ f ∷ []) qs ls) (ap (λ z. take i ps ++ z ∷ []) at ∙ sym (take_more ps i p lt))
 
-met_after : (m : ℤ) (n : ℕ) (front : List Life) (fs : List Fate) (ls : List Life) → n ≡ length front → length fs ≡ length (unended ls) →
-    met_at m fs (unended_from n ls) (front ++ ls) ≡ front ++ after_each m (all_fates fs ls) ls
-met_after m n front [] [] e k = refl
-met_after m n front (f ∷ fs) [] e k = absurd (omega arith)
-met_after m n front fs (l ∷ ls) e k = of (λ xs gs h j. met_after m (n + 1) xs gs ls h j) (is_ended l) refl fs k
-  where
-    of : ((xs : List Life) (gs : List Fate) → n + 1 ≡ length xs → length gs ≡ length (unended ls) → met_at m gs (unended_from (n + 1) ls) (xs ++ ls) ≡ xs ++ after_each m (all_fates gs ls) ls) →
-        (b : Bool) → is_ended l ≡ b → (gs : List Fate) → length gs ≡ length (cond (not b) (l ∷ unended ls) (unended ls)) →
-        met_at m gs (cond b (unended_from (n + 1) ls) (n ∷ unended_from (n + 1) ls)) (front ++ l ∷ ls) ≡ front ++ after_each m (all_fates gs (l ∷ ls)) (l ∷ ls)
-    of rest true h gs j =
-        ap (met_at m gs (unended_from (n + 1) ls)) (sym (append_assoc front (l ∷ []) ls))
-        ∙ rest (front ++ l ∷ []) gs (one_longer n front l e) j
-        ∙ append_assoc front (l ∷ []) (after_each m (all_fates gs ls) ls)
-        ∙ ap (λ zs. front ++ after_each m zs (l ∷ ls)) (sym (fates_skip gs l ls h))
-    of rest false h [] j = absurd (omega arith)
-    of rest false h (g ∷ gs) j =
-        let y = life_after (local_of m g) l in
-        ap (λ i. met_at m gs (unended_from (n + 1) ls) (changed_at i (life_after (local_of m g)) (front ++ l ∷ ls))) e
-        ∙ ap (met_at m gs (unended_from (n + 1) ls)) (changed_after front (life_after (local_of m g)) l ls ∙ sym (append_assoc front (y ∷ []) ls))
-        ∙ rest (front ++ y ∷ []) gs (one_longer n front y e) (omega arith)
-        ∙ append_assoc front (y ∷ []) (after_each m (all_fates gs ls) ls)
-        ∙ ap (λ zs. front ++ after_each m zs (l ∷ ls)) (sym (fates_take g gs l ls h))
+module _ (m : ℤ) (p : Life → Bool) where
+  met_after : (n : ℕ) (front : List Life) (fs : List Fate) (ls : List Life) → n ≡ length front → length fs ≡ length (filter p ls) →
+      met_at m fs (places_where p n ls) (front ++ ls) ≡ front ++ after_each m (all_fates p fs ls) ls
+  met_after n front [] [] e k = refl
+  met_after n front (f ∷ fs) [] e k = absurd (omega arith)
+  met_after n front fs (l ∷ ls) e k = of (λ xs gs h j. met_after (n + 1) xs gs ls h j) (p l) refl fs k
+    where
+      of : ((xs : List Life) (gs : List Fate) → n + 1 ≡ length xs → length gs ≡ length (filter p ls) → met_at m gs (places_where p (n + 1) ls) (xs ++ ls) ≡ xs ++ after_each m (all_fates p gs ls) ls) →
+          (b : Bool) → p l ≡ b → (gs : List Fate) → length gs ≡ length (cond b (l ∷ filter p ls) (filter p ls)) →
+          met_at m gs (cond b (n ∷ places_where p (n + 1) ls) (places_where p (n + 1) ls)) (front ++ l ∷ ls) ≡ front ++ after_each m (all_fates p gs (l ∷ ls)) (l ∷ ls)
+      of rest true h [] j = absurd (omega arith)
+      of rest true h (g ∷ gs) j =
+          let y = life_after (local_of m g) l in
+          ap (λ i. met_at m gs (places_where p (n + 1) ls) (changed_at i (life_after (local_of m g)) (front ++ l ∷ ls))) e
+          ∙ ap (met_at m gs (places_where p (n + 1) ls)) (changed_after front (life_after (local_of m g)) l ls ∙ sym (append_assoc front (y ∷ []) ls))
+          ∙ rest (front ++ y ∷ []) gs (one_longer n front y e) (omega arith)
+          ∙ append_assoc front (y ∷ []) (after_each m (all_fates p gs ls) ls)
+          ∙ ap (λ zs. front ++ after_each m zs (l ∷ ls)) (sym (fates_take p g gs l ls h))
+      of rest false h gs j =
+          ap (met_at m gs (places_where p (n + 1) ls)) (sym (append_assoc front (l ∷ []) ls))
+          ∙ rest (front ++ l ∷ []) gs (one_longer n front l e) j
+          ∙ append_assoc front (l ∷ []) (after_each m (all_fates p gs ls) ls)
+          ∙ ap (λ zs. front ++ after_each m zs (l ∷ ls)) (sym (fates_skip p gs l ls h))
 
-pub met_whole : (m : ℤ) (fs : List Fate) (ls : List Life) → length fs ≡ length (unended ls) → met_at m fs (unended_from 0 ls) ls ≡ after_each m (all_fates fs ls) ls
-met_whole m fs ls k = met_after m 0 [] fs ls refl k
+  pub met_whole : (fs : List Fate) (ls : List Life) → length fs ≡ length (filter p ls) → met_at m fs (places_where p 0 ls) ls ≡ after_each m (all_fates p fs ls) ls
+  met_whole fs ls k = met_after 0 [] fs ls refl k
 
 -- a sweep, one place after another
 module _ (jobs : List InForce) (m : ℤ) where
@@ -147,33 +148,36 @@ module _ (jobs : List InForce) (m : ℤ) where
         h ∙ ap (λ (zs : List Life). length ss + length (filter (starts_in jobs (number m)) zs)) (sym front)
 
     swept_after : (n t : ℕ) (olds front ls : List Life) → all ≡ olds ++ ls → n ≡ length olds → n ≡ length front → t ≡ length ss + count olds →
-        swept_at t (unended_from n ls) (front ++ ls) ≡ front ++ lives_from (world jobs all ss) (Sweep m) n ls
+        swept_at t (places_where (concerns (Some m)) n ls) (front ++ ls) ≡ front ++ lives_from (world jobs all ss) (Sweep m) n ls
     swept_after n t olds front [] a e f h = refl
     swept_after n t olds front (l ∷ ls) a e f h =
-        of (λ k xs g j. swept_after (n + 1) k (olds ++ l ∷ []) xs ls (a ∙ sym (append_assoc olds (l ∷ []) ls)) (one_longer n olds l e) g j) (is_ended l) refl
+        of (λ k xs g j. swept_after (n + 1) k (olds ++ l ∷ []) xs ls (a ∙ sym (append_assoc olds (l ∷ []) ls)) (one_longer n olds l e) g j) (concerns (Some m) l) refl
       where
+        later : List ℕ
+        later = places_where (concerns (Some m)) (n + 1) ls
+
         tail : List Life
         tail = lives_from (world jobs all ss) (Sweep m) (n + 1) ls
 
         ticket : ℕ
         ticket = ticket_in_sweep (world jobs all ss) (number m) n
 
-        of : ((k : ℕ) (xs : List Life) → n + 1 ≡ length xs → k ≡ length ss + count (olds ++ l ∷ []) → swept_at k (unended_from (n + 1) ls) (xs ++ ls) ≡ xs ++ tail) → (b : Bool) → is_ended l ≡ b →
-            swept_at t (cond b (unended_from (n + 1) ls) (n ∷ unended_from (n + 1) ls)) (front ++ l ∷ ls) ≡ front ++ scanned ticket l ∷ tail
+        of : ((k : ℕ) (xs : List Life) → n + 1 ≡ length xs → k ≡ length ss + count (olds ++ l ∷ []) → swept_at k later (xs ++ ls) ≡ xs ++ tail) → (b : Bool) → concerns (Some m) l ≡ b →
+            swept_at t (cond b (n ∷ later) later) (front ++ l ∷ ls) ≡ front ++ scanned ticket l ∷ tail
         of rest true k =
-            let none : one l ≡ 0 = ap (λ b. cond {A = ℕ} b 1 0) (ended_starts jobs (number m) l k) in
-            ap (swept_at t (unended_from (n + 1) ls)) (sym (append_assoc front (l ∷ []) ls))
-            ∙ rest t (front ++ l ∷ []) (one_longer n front l f) (omega (arith, h, count_push olds l, none))
-            ∙ append_assoc front (l ∷ []) tail
-            ∙ ap (λ z. front ++ z ∷ tail) (sym (ended_scanned m ticket (is_over jobs l) l k))
-        of rest false k =
             let y = scanned t l in
-            ap₂ (λ j zs. swept_at (t + one_at j) (unended_from (n + 1) ls) zs) (ap (slice_get (front ++ l ∷ ls)) f ∙ get_after front l ls)
+            ap₂ (λ j zs. swept_at (t + one_at j) later zs) (ap (slice_get (front ++ l ∷ ls)) f ∙ get_after front l ls)
             (ap (λ j. changed_at j (scanned t) (front ++ l ∷ ls)) f ∙ changed_after front (scanned t) l ls ∙ sym (append_assoc front (y ∷ []) ls))
             ∙ rest (t + one l) (front ++ y ∷ []) (one_longer n front y f) (omega (arith, h, count_push olds l))
             ∙ append_assoc front (y ∷ []) tail
             ∙ ap (λ j. front ++ scanned j l ∷ tail) (ticket_is n t olds (l ∷ ls) a e h)
+        of rest false k =
+            let none : one l ≡ 0 = ap (λ b. cond {A = ℕ} b 1 0) (closed_starts jobs (number m) l (apart_closed (Some m) l k)) in
+            ap (swept_at t later) (sym (append_assoc front (l ∷ []) ls))
+            ∙ rest t (front ++ l ∷ []) (one_longer n front l f) (omega (arith, h, count_push olds l, none))
+            ∙ append_assoc front (l ∷ []) tail
+            ∙ ap (λ z. front ++ z ∷ tail) (sym (apart_scanned m ticket (is_over jobs l) l k))
 
-  pub swept_whole : (ls : List Life) (ss : List Start) → swept_at (length ss) (unended_from 0 ls) ls ≡ lives_from (world jobs ls ss) (Sweep m) 0 ls
+  pub swept_whole : (ls : List Life) (ss : List Start) → swept_at (length ss) (places_where (concerns (Some m)) 0 ls) ls ≡ lives_from (world jobs ls ss) (Sweep m) 0 ls
   unfolding count
   swept_whole ls ss = swept_after ls ss 0 (length ss) [] [] ls refl refl refl (let e : length ss ≡ length ss + 0 = omega arith in e)

@@ -18,9 +18,10 @@ use Rattle.scrape_steps.specs.Reloads.{reload_lives, reload_births, closed_by}
 use Rattle.scrape_steps.specs.Plans as plan
 use Rattle.scrape_steps.specs.Plans.{local_of, after_each, fate_of, IsHeld, births_by}
 use Rattle.scrape_machine.specs.Machine.{name_of}
-use Rattle.scrape_steps.specs.Unended.{unended, all_fates}
+use Rattle.scrape_machine.specs.Lives.{is_open}
+use Rattle.scrape_steps.specs.Concerned.{all_fates}
 use Rattle.scrape_steps.proofs.ReloadLemmas.{fate_local, each_after, has_place, births_alike, HasPlace}
-use Rattle.scrape_steps.proofs.UnendedLemmas.{ended_stays, all_fates_are, closes_unended}
+use Rattle.scrape_steps.proofs.ConcernedLemmas.{closed_stays, all_fates_are, closes_where}
 
 there : {A : Type 0} (xs : List A) (i : ℕ) (d : A) → i < length xs → slice_get xs i ≡ Some (get_or xs i d)
 there [] i d lt = absurd (omega arith)
@@ -51,22 +52,22 @@ closes_alike m f g (l ∷ ls) h =
     of false e = e
 
 module _ (m : ℤ) (olds news : List InForce) (ls : List Life) (ss : List Start) (names : List (List ℕ)) (vs : List Verdict) (fates : List Fate)
-    (n : names ≡ map name_of news) (v : vs ≡ map (spec.verdict olds) news) (f : fates ≡ map (fate_of names news vs) (unended ls)) where
+    (n : names ≡ map name_of news) (v : vs ≡ map (spec.verdict olds) news) (f : fates ≡ map (fate_of names news vs) (filter is_open ls)) where
   local_is : (l : Life) → local_of m (fate_of names news vs l) ≡ reload_local m olds (Some news) l
   local_is l = fate_local m olds news names vs l n v
 
-  pub whole_lives : after_each m (all_fates fates ls) ls ≡ reload_lives m news (world olds ls ss)
+  pub whole_lives : after_each m (all_fates is_open fates ls) ls ≡ reload_lives m news (world olds ls ss)
   whole_lives =
-      ap (λ fs. after_each m fs ls) (ap (λ fs. all_fates fs ls) f ∙ all_fates_are (fate_of names news vs) (ended_stays names news vs) ls)
+      ap (λ fs. after_each m fs ls) (ap (λ fs. all_fates is_open fs ls) f ∙ all_fates_are is_open (fate_of names news vs) (closed_stays names news vs) ls)
       ∙ each_after m (fate_of names news vs) (reload_local m olds (Some news)) ls local_is
 
   pub whole_closed : length (filter plan.closes fates) ≡ closed_by m news (world olds ls ss)
   whole_closed =
-      ap (λ fs. length (filter plan.closes fs)) f ∙ closes_unended (fate_of names news vs) (ended_stays names news vs) ls
+      ap (λ fs. length (filter plan.closes fs)) f ∙ closes_where is_open (fate_of names news vs) (closed_stays names news vs) ls
       ∙ closes_alike m (fate_of names news vs) (reload_local m olds (Some news)) ls local_is
 
-  pub whole_births : (held : Seats) → IsHeld held names (after_each m (all_fates fates ls) ls) →
+  pub whole_births : (held : Seats) → IsHeld held names (after_each m (all_fates is_open fates ls) ls) →
       births_by (number m) (length ls) held names news ≡ reload_births m news (world olds ls ss)
   whole_births held h =
-      births_alike (number m) (length ls) held names (after_each m (all_fates fates ls) ls) news h (subst (λ ns. All (HasPlace ns) news) (sym n) (places news))
+      births_alike (number m) (length ls) held names (after_each m (all_fates is_open fates ls) ls) news h (subst (λ ns. All (HasPlace ns) news) (sym n) (places news))
       ∙ ap (λ zs. births (number m) (length ls) zs news) whole_lives

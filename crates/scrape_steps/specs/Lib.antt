@@ -1,4 +1,5 @@
+pub mod Concerned
+pub mod Endings
 pub mod Plans
 pub mod Reloads
 pub mod Scans
-pub mod Unended

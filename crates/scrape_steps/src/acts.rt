@@ -6,7 +6,7 @@ ghost use Rattle.scrape_machine.specs.declared.lives.Life.{Life};
 ghost use Rattle.scrape_machine.specs.Lives as spec;
 ghost use Rattle.scrape_machine.specs.Machine.{closes};
 ghost use Rattle.scrape_steps.specs.Plans as plan;
-ghost use Rattle.scrape_steps.specs.Unended as listed;
+ghost use Rattle.scrape_steps.specs.Concerned as concerned;
 
 use end_of_run::{due_at, ending_entries};
 use jobs_in_force::jobs::Settings;
@@ -32,13 +32,6 @@ pub fn is_open(life: &Life) -> bool
     ensures { result ≡ spec.is_open life.now }
 {
     life.schedule.is_open()
-}
-
-/// Whether the life has ended: it is closed, and its ending was taken.
-pub fn is_ended(life: &Life) -> bool
-    ensures { result ≡ listed.is_ended life.now }
-{
-    !is_open(life) && life.ended
 }
 
 /// Whether a sweep at a moment takes the ending of a life that was closed at another.
@@ -150,7 +143,7 @@ pub fn place_at(places: &[usize], index: usize) -> usize
 /// Scans the life at a place.
 pub fn scan_at(lives: &mut [Life], place: usize, moment: Moment, ticket: u64, over: bool)
     requires { place < length lives.old }
-    ensures { lives.new ≡ listed.changed_at place (λ (l : Life). spec.scanned_life moment ticket over l l.schedule.closed) lives.old }
+    ensures { lives.new ≡ concerned.changed_at place (λ (l : Life). spec.scanned_life moment ticket over l l.schedule.closed) lives.old }
 {
     scan(&mut lives[place], moment, ticket, over);
 }
@@ -158,16 +151,16 @@ pub fn scan_at(lives: &mut [Life], place: usize, moment: Moment, ticket: u64, ov
 /// The life at a place meets what becomes of it at a moment.
 fn meet_at(lives: &mut [Life], place: usize, moment: Moment, fate: Fate)
     requires { place < length lives.old }
-    ensures { lives.new ≡ listed.changed_at place (λ (l : Life). spec.life_after (plan.local_of moment fate) l) lives.old }
+    ensures { lives.new ≡ concerned.changed_at place (λ (l : Life). spec.life_after (plan.local_of moment fate) l) lives.old }
 {
     meet(&mut lives[place], moment, fate);
 }
 
-/// The lives after what becomes of each at a moment, by the places of those that have not ended and by what becomes of these.
+/// The lives after what becomes of each at a moment, by the places of the open ones and by what becomes of these.
 pub fn meet_all(lives: &mut [Life], places: &[usize], moment: Moment, fates: Vec<Fate>)
-    requires places { places.now ≡ listed.unended_from 0 lives.old }
+    requires places { places.now ≡ concerned.places_where spec.is_open 0 lives.old }
     requires each { length fates.items ≡ length places.now }
-    ensures { lives.new ≡ plan.after_each moment (listed.all_fates fates.items lives.old) lives.old }
+    ensures { lives.new ≡ plan.after_each moment (concerned.all_fates spec.is_open fates.items lives.old) lives.old }
 {
     let mut index: usize = 0;
     for fate in fates {

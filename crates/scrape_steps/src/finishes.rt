@@ -112,6 +112,7 @@ pub fn count<L: Ledger>(
     ensures err_book { OnErr result (book.new.entries ≡ book.old.entries) }
     ensures steps { OnOk result (steps.new ≡ steps.old + scrape_runs took reply.now life.old) }
     ensures at_least { steps.old ≤ steps.new }
+    ensures at_most { steps.new ≤ steps.old + scrape_runs took reply.now life.old }
 {
     let rules = rules_of(life.settings.job());
     let metric = &life.settings.job().metric_rules;

@@ -10,11 +10,11 @@ ghost use Rattle.jobs_in_force.specs.TargetWords.{HasNoName};
 ghost use Rattle.scrape_machine.specs.Lives as lives_of;
 ghost use Rattle.scrape_machine.specs.Machine as spec;
 ghost use Rattle.scrape_steps.specs.Plans as plan;
-ghost use Rattle.scrape_steps.specs.Unended as listed;
+ghost use Rattle.scrape_steps.specs.Concerned as concerned;
 ghost use Rattle.jobs_in_force.specs.Settings.{settings_of};
 
 use crate::acts::{Fate, is_open};
-use crate::unended::Lives;
+use crate::concerned::Lives;
 use jobs_in_force::jobs::{InForce, Settings};
 use jobs_in_force::loads::job_named;
 use label_set::{Name, NoMemory};
@@ -153,7 +153,7 @@ fn fate_of(
     fate_at(life, after, verdict)
 }
 
-/// What becomes of each life that has not ended.
+/// What becomes of each life that is concerned.
 pub fn fates_of(
     alloc: Global,
     names: &JobNames,
@@ -161,10 +161,10 @@ pub fn fates_of(
     verdicts: &[Verdict],
     lives: &Lives<'_>,
 ) -> Result<Vec<Fate>, NoMemory>
-    ensures { IfOk result (λ v. v.items ≡ map (plan.fate_of names.now news.now verdicts.now) (listed.unended lives.now)) }
+    ensures { IfOk result (λ v. v.items ≡ map (plan.fate_of names.now news.now verdicts.now) (concerned.concerned lives.now)) }
 {
-    let mut fates = Vec::with_capacity(alloc, lives.unended())?;
-    for index in 0..lives.unended() {
+    let mut fates = Vec::with_capacity(alloc, lives.count())?;
+    for index in 0..lives.count() {
         let fate = fate_of(names, news, verdicts, lives.at(index))?;
         fates.push(fate)?;
     }
@@ -222,15 +222,15 @@ fn hold(held: &mut Seats, names: &JobNames, fate: &Fate, life: &Life) -> Result<
     }
 }
 
-/// The targets that lives have which stay open, by what becomes of those that have not ended.
+/// The targets that lives have which stay open, by what becomes of those that are concerned.
 pub fn held_of(
     alloc: Global,
     names: &JobNames,
     fates: &[Fate],
     lives: &Lives<'_>,
 ) -> Result<Seats, NoMemory>
-    requires { length fates.now ≡ length (listed.unended lives.now) }
-    ensures { IfOk result (λ s. (moment : ℤ) → plan.IsHeld s names.now (plan.after_each moment (listed.all_fates fates.now lives.now) lives.now)) }
+    requires { length fates.now ≡ length (concerned.concerned lives.now) }
+    ensures { IfOk result (λ s. (moment : ℤ) → plan.IsHeld s names.now (plan.after_each moment (concerned.all_fates (concerned.concerns lives.now.moment) fates.now lives.now.all) lives.now.all)) }
 {
     let mut held = Seats::new(alloc);
     let mut place: usize = 0;

@@ -1,17 +1,17 @@
 //! What sweeps and ticks do to the lives and to the started scrapes.
 ghost use Rattle.std.specs.List.{flat_map};
-ghost use Rattle.std.specs.Prelude.{◌≡◌, ◌≤◌, ◌<◌, ◌+◌, ◌^◌, ◌++◌, map, length, filter, slice_get, option_copied, IfOk, OnOk, OnErr};
+ghost use Rattle.std.specs.Prelude.{◌≡◌, ◌≤◌, ◌<◌, ◌+◌, ◌^◌, ◌++◌, map, length, filter, slice_get, option_copied, Some, IfOk, OnOk, OnErr};
 ghost use Rattle.journal_text.specs.declared.events.Event.TheVariants.{Sweep};
 ghost use Rattle.journal_text.specs.Lines.{number};
 ghost use Rattle.jobs_in_force.specs.Jobs as jobs_of;
 ghost use Rattle.scrape_machine.specs.Lives as lives_of;
 ghost use Rattle.scrape_machine.specs.Machine as spec;
 ghost use Rattle.scrape_steps.specs.Scans as scanned;
-ghost use Rattle.scrape_steps.specs.Unended as listed;
+ghost use Rattle.scrape_steps.specs.Concerned as concerned;
 
 use crate::acts::{ends, forces, is_open, life_at, push_scan, scan_at, starts};
+use crate::concerned::Lives;
 use crate::reloads::{job_at, job_name};
-use crate::unended::Lives;
 use jobs_in_force::jobs::InForce;
 use jobs_in_force::loads::job_named;
 use label_set::NoMemory;
@@ -55,11 +55,11 @@ fn forces_in(names: &JobNames, jobs: &[InForce], moment: Moment, life: &Life) ->
 /// How many lives a sweep starts a scrape of.
 pub fn count_starts(names: &JobNames, jobs: &[InForce], moment: Moment, lives: &Lives<'_>) -> usize
     requires { names.now ≡ map spec.name_of jobs.now }
-    ensures value { result ≡ length (filter (spec.starts_in jobs.now (number moment)) lives.now) }
-    ensures few { result ≤ length lives.now }
+    ensures value { result ≡ length (filter (spec.starts_in jobs.now (number moment)) lives.now.all) }
+    ensures few { result ≤ length lives.now.all }
 {
     let mut count: usize = 0;
-    for index in 0..lives.unended() {
+    for index in 0..lives.count() {
         if starts_in(names, jobs, moment, lives.at(index)) {
             count += 1;
         }
@@ -70,11 +70,11 @@ pub fn count_starts(names: &JobNames, jobs: &[InForce], moment: Moment, lives: &
 /// How many lives a sweep forces a scrape of.
 pub fn count_forced(names: &JobNames, jobs: &[InForce], moment: Moment, lives: &Lives<'_>) -> usize
     requires { names.now ≡ map spec.name_of jobs.now }
-    ensures value { result ≡ length (filter (spec.forces_in jobs.now (number moment)) lives.now) }
-    ensures few { result ≤ length lives.now }
+    ensures value { result ≡ length (filter (spec.forces_in jobs.now (number moment)) lives.now.all) }
+    ensures few { result ≤ length lives.now.all }
 {
     let mut count: usize = 0;
-    for index in 0..lives.unended() {
+    for index in 0..lives.count() {
         if forces_in(names, jobs, moment, lives.at(index)) {
             count += 1;
         }
@@ -84,11 +84,12 @@ pub fn count_forced(names: &JobNames, jobs: &[InForce], moment: Moment, lives: &
 
 /// How many endings a sweep takes.
 pub fn count_ends(moment: Moment, lives: &Lives<'_>) -> usize
-    ensures value { result ≡ length (filter (lives_of.ends (number moment)) lives.now) }
-    ensures few { result ≤ length lives.now }
+    requires { lives.now.moment ≡ Some moment }
+    ensures value { result ≡ length (filter (lives_of.ends (number moment)) lives.now.all) }
+    ensures few { result ≤ length lives.now.all }
 {
     let mut count: usize = 0;
-    for index in 0..lives.unended() {
+    for index in 0..lives.count() {
         if ends(moment, lives.at(index)) {
             count += 1;
         }
@@ -128,10 +129,10 @@ pub fn starts_of(
     lives: &Lives<'_>,
 ) -> Result<Vec<Start>, NoMemory>
     requires { names.now ≡ map spec.name_of jobs.now }
-    ensures { IfOk result (λ v. v.items ≡ spec.starts_from jobs.now (number moment) 0 lives.now) }
+    ensures { IfOk result (λ v. v.items ≡ spec.starts_from jobs.now (number moment) 0 lives.now.all) }
 {
     let mut begun = Vec::new(alloc);
-    for index in 0..lives.unended() {
+    for index in 0..lives.count() {
         let place = lives.place(index) as u64;
         push_start(names, jobs, &mut begun, moment, lives.at(index), place)?;
     }
@@ -146,11 +147,12 @@ pub fn entries_of(
     moment: Moment,
     lives: &Lives<'_>,
 ) -> Result<Vec<Entry>, NoMemory>
-    requires { names.now ≡ map spec.name_of jobs.now }
-    ensures { IfOk result (λ v. v.items ≡ flat_map (scanned.swept_entries jobs.now moment) lives.now) }
+    requires names { names.now ≡ map spec.name_of jobs.now }
+    requires moment { lives.now.moment ≡ Some moment }
+    ensures { IfOk result (λ v. v.items ≡ flat_map (scanned.swept_entries jobs.now moment) lives.now.all) }
 {
     let mut entries = Vec::new(alloc);
-    for index in 0..lives.unended() {
+    for index in 0..lives.count() {
         let life = lives.at(index);
         let over = is_over(names, jobs, life);
         push_scan(alloc, &mut entries, moment, over, life)?;
@@ -158,7 +160,7 @@ pub fn entries_of(
     Ok(entries)
 }
 
-/// Scans each life that has not ended, by their places.
+/// Scans each life that a sweep concerns, by their places.
 pub fn sweep_lives(
     names: &JobNames,
     jobs: &[InForce],
@@ -168,7 +170,7 @@ pub fn sweep_lives(
     moment: Moment,
 )
     requires names { names.now ≡ map spec.name_of jobs.now }
-    requires places { places.now ≡ listed.unended_from 0 lives.old }
+    requires places { places.now ≡ concerned.places_where (concerned.concerns (Some moment)) 0 lives.old }
     ensures { lives.new ≡ spec.lives_from (spec.world jobs.now lives.old started.now) (Sweep moment) 0 lives.old }
 {
     let mut ticket = started.len() as u64;

@@ -70,6 +70,11 @@ impl SeriesCache {
         }
     }
 
+    /// The hash of a raw text, by the hasher with which the cache was made.
+    pub fn hash_of(&self, raw: &[u8]) -> u64 {
+        self.texts.hash_of(raw)
+    }
+
     /// Whether no text is remembered.
     pub fn is_empty(&self) -> bool
         ensures empty { IsTrue result ↔ (self.now.texts ≡ []) }

@@ -10,7 +10,7 @@ use crate::seeded::Seeded;
 use indexmap::IndexMap;
 use label_set::{LabelSet, NoMemory};
 use std::alloc::Global;
-use std::hash::DefaultHasher;
+use std::hash::{BuildHasher, DefaultHasher, Hash, Hasher};
 use std::marker::Model;
 
 /// Where the next text is expected: a target mostly shows the same texts in the same order. Those that it showed later than others stand
@@ -69,6 +69,13 @@ impl Texts {
         Texts {
             entries: IndexMap::with_hasher(alloc, Seeded::new(hasher)),
         }
+    }
+
+    /// The hash of a text.
+    pub(crate) fn hash_of(&self, raw: &[u8]) -> u64 {
+        let mut hasher = self.entries.hasher().build_hasher();
+        raw.hash(&mut hasher);
+        hasher.finish()
     }
 
     /// How many there are.

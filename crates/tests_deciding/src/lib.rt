@@ -14,7 +14,7 @@
 //! | `SeriesCache::{turn, clear, is_empty}` | `caches::what_a_good_scrape_showed_is_remembered` |
 //! | `SeriesCache::{vanished, undo, tracked_list}` | `caches::what_vanishes_is_told` |
 //! | `SeriesCache::{added, put_count}` | `caches::what_is_new_is_counted` |
-//! | `SeriesCache::hashed` | `scrapes`, within `LifeState::count` |
+//! | `SeriesCache::{hashed, hash_of}` | `scrapes::texts_are_hashed_with_the_seed_of_the_book` |
 //! | `reports`, `ReportSets::{of, reports}` | `reports::each_scrape_has_five_reports`; `scripts` |
 //! | `report_set` | `reports::each_scrape_has_five_reports` |
 //! | `stale_entry`, `ReportSets::{target, markers}` | `reports::each_scrape_has_five_reports` |
@@ -25,7 +25,8 @@
 //! | `Schedule`, `JobNames`, `Seats`, `Wishes` | within `Roll`, and `scrape_core`; `reloads` |
 //! | `Book::{new, reserve, append, append_all, verdict, entry, len}` | `books`; `verdicts` |
 //! | `Book::{series_at, series_count, entry_of, longest_value}` | `books::a_series_is_found_in_any_order` |
-//! | `Book::{seeded, hasher}` | `books::a_book_judges_its_entries`, `scrapes` |
+//! | `Book::seeded` | `books::a_book_judges_its_entries` |
+//! | `Book::hasher`, `LifeState::hash_of` | `scrapes::texts_are_hashed_with_the_seed_of_the_book` |
 //! | `laws_of_verdicts` | contract alone |
 //! | `LifeState::{new, count, target, scraped}` | `scrapes`; `scripts`, `texts` |
 //! | `ReadReply::{of, with, into_reply}` | `scrapes::a_reply_that_is_read_is_given_back`, `cores::readers` |

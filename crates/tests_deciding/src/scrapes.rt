@@ -10,7 +10,9 @@ use sample_rows::{RowRules, ScrapeFault};
 use scrape_config::Job;
 use scrape_limits::Limits;
 use scrape_loop::{LifeState, ReadReply};
+use series_cache::SeriesCache;
 use std::alloc::Global;
+use std::hash::RandomState;
 use std::marker::Brand;
 use std::process::Abort;
 use std::sync::ledger::{Blank, Ledger};
@@ -136,6 +138,29 @@ fn a_life_is_counted_forced_and_let_go(rt: HostRuntime) -> Result<(), Fail> {
     assert_eq!(rt; left_behind(rt.alloc(), &life)?, 0);
     life.release();
     assert!(rt; life.scraped());
+    Ok(())
+}
+
+/// Ends the test where the raw text `x` of the life isn't hashed by the hasher of the book.
+fn hashes_as(rt: &impl Abort, alloc: Global, life: &LifeState, book: &Book) {
+    let wanted = SeriesCache::hashed(alloc, book.hasher());
+    assert_eq!(rt; life.hash_of(b"x"), wanted.hash_of(b"x"));
+}
+
+/// The hash of that text where no seed is used.
+fn hash_without_seed(alloc: Global) -> Result<u64, NoMemory> {
+    Ok(SeriesCache::new(alloc)?.hash_of(b"x"))
+}
+
+#[test]
+fn texts_are_hashed_with_the_seed_of_the_book(rt: HostRuntime) -> Result<(), Fail> {
+    let seed = RandomState::new(&rt)?;
+    let mut book = Book::seeded(rt.alloc(), seed)?;
+    let mut life = after_page(&rt, rt.alloc(), &mut book)?;
+    hashes_as(&rt, rt.alloc(), &life, &book);
+    assert!(rt; life.hash_of(b"x") != hash_without_seed(rt.alloc())?);
+    life.release();
+    hashes_as(&rt, rt.alloc(), &life, &book);
     Ok(())
 }
 

@@ -45,6 +45,28 @@ fn three_reads<S: Shelf>(rt: &impl Abort, alloc: Global, shelf: &mut S) {
     assert!(rt; matches!(shelf.read_file(alloc, "b", 3), Err(ShelfError::Absent)));
 }
 
+/// A name that is longer than the name of a file may be.
+fn long_name(alloc: Global) -> Result<String, NoMemory> {
+    let mut name = String::new(alloc);
+    for _ in 0..300 {
+        name.push('n')?;
+    }
+    Ok(name)
+}
+
+/// A shelf answers a fault for what can't be read and is no absent file: a path below the file `a`, a name that no
+/// file may have, and a folder.
+fn unread<S: Shelf>(rt: &impl Abort, alloc: Global, shelf: &mut S) -> Result<(), NoMemory> {
+    let long = long_name(alloc)?;
+    for name in ["a/x", long.as_str(), "."] {
+        assert!(rt;
+            matches!(shelf.read_file(alloc, name, 3), Err(ShelfError::Failed)),
+            "{name}"
+        );
+    }
+    Ok(())
+}
+
 /// Puts two words.
 pub(crate) fn put_two<S: Sink>(rt: &impl Abort, sink: &mut S) {
     assert_eq!(rt; sink.put(b"one "), Ok(()));
@@ -72,12 +94,8 @@ fn shelves_answer_by_their_files(rt: HostRuntime) -> Result<(), Fail> {
         let mut shelf = FileShelf::new(rt.clone()?);
         fs::write(&rt, "a", "one")?;
         three_reads(&rt, rt.alloc(), &mut shelf);
+        unread(&rt, rt.alloc(), &mut shelf)?;
         fs::remove_file(&rt, "a")?;
-    }
-    {
-        let mut shelf = FileShelf::new(rt.clone()?);
-        let folder = shelf.read_file(rt.alloc(), ".", 3);
-        assert!(rt; matches!(folder, Err(ShelfError::Failed)));
     }
     {
         let mut shelf = shelf(rt.alloc(), &[1])?;

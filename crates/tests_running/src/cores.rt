@@ -10,6 +10,7 @@ use label_set::{Blob, Name, NoMemory, Steps};
 use outside::Reply;
 use scrape_core::{Answer, Core};
 use std::alloc::Global;
+use std::hash::{BuildHasher, Hasher, RandomState};
 use std::marker::Brand;
 use std::process::Abort;
 use std::sync::ledger::{Blank, Ledger};
@@ -270,5 +271,27 @@ fn each_event_has_its_answer(rt: HostRuntime) -> Result<(), Fail> {
     let mut core = Core::new(rt.alloc())?;
     answers::<Brand>(&rt, rt.alloc(), &mut core, Blank::new(1))?;
     expect(&rt, core.now() == 60_000);
+    Ok(())
+}
+
+/// What the hashes of a core's book begin with.
+fn first_hash(core: &Core) -> u64 {
+    core.book().hasher().finish()
+}
+
+fn hash_without_seed(alloc: Global) -> Result<u64, NoMemory> {
+    Ok(first_hash(&Core::new(alloc)?))
+}
+
+fn hash_with_seed(alloc: Global, seed: RandomState) -> Result<u64, NoMemory> {
+    Ok(first_hash(&Core::seeded(alloc, seed)?))
+}
+
+#[test]
+fn a_core_hashes_with_its_seed(rt: HostRuntime) -> Result<(), Fail> {
+    let seed = RandomState::new(&rt)?;
+    let first = seed.build_hasher().finish();
+    expect(&rt, hash_with_seed(rt.alloc(), seed)? == first);
+    expect(&rt, hash_without_seed(rt.alloc())? != first);
     Ok(())
 }

@@ -15,7 +15,8 @@
 //! | `Core::{due, wake, request, started, jobs}` | `cores::readers::a_core_says_what_is_due_and_what_is_asked` |
 //! | `Core::halt` | `cores::readers::room_is_kept_for_a_halt` |
 //! | `Core::{finish_read, take_read}`, `ReadEvent` | `cores::readers::a_body_that_is_read_is_counted` |
-//! | `Core::{seeded, let_go}`, `replay` | `scrape_cli`, whose every case goes through them |
+//! | `Core::seeded` | `cores::a_core_hashes_with_its_seed` |
+//! | `Core::let_go`, `replay` | `scrape_cli`, whose every case goes through them |
 //! | the calls of `jobs_in_force` and `scrape_steps` | `cores`, within `Core::step`; `reloads`, `updates` |
 #![tactic(auto)]
 

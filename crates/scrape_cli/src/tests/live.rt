@@ -1,14 +1,13 @@
 //! Live runs over objects in memory: control lines of each kind, and a reload while two fetches are held.
 ghost use Rattle.std.specs.Prelude.{◌≡◌, vec_len, IfOk};
 
-use super::{ROOM, fails, means_of, words_of};
+use super::{ROOM, fails, means_of, still, words_of};
 use crate::tool::{Finished, tool};
 use label_set::{Blob, Name, NoMemory};
 use outside::{
     Clock, Fetch, Fetched, FetchedList, FileList, MemClock, MemFetch, MemShelf, MemSink, MemSource,
     MomentList, Request, Source, SourceFault, StoredFile,
 };
-use scrape_commands::still::tool_still;
 use scrape_core::Means;
 use std::alloc::Global;
 use std::marker::{Send, Sync};
@@ -229,7 +228,7 @@ fn replays(rt: &impl Abort, means: Means, put: &Put) -> Result<(), Fail> {
     let mut shelf = MemShelf::new(FileList { items }, fails(alloc, &[])?)?;
     let mut out = MemSink::new(alloc, ROOM, fails(alloc, &[])?)?;
     let mut err = MemSink::new(alloc, ROOM, fails(alloc, &[])?)?;
-    let status = tool_still(means, words.as_slice(), &mut shelf, &mut out, &mut err);
+    let status = still(means, words.as_slice(), &mut shelf, &mut out, &mut err)?;
     assert_eq!(rt; status, 0);
     assert!(rt; out.bytes() == put.out.bytes());
     Ok(())

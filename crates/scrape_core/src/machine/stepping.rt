@@ -2,12 +2,13 @@
 //!
 //! The clauses that these calls add are laws of `scrape_laws`, which hold of every journal: each closed run of a tracked series in a life has exactly
 //! one stale marker, after it, and no marker stands elsewhere (`markers`, `closed_runs`); the report markers are those of endings (`report_markers`);
-//! a finish that doesn't count adds nothing (`late`); an event that is nothing to a life, an idle scan and a refused event leave the life as it is
+//! a finish that doesn't count adds nothing, at each front of the journal (`late`); what a life keeps from scrape to scrape is what its scrapes that
+//! counted say (`past`); an event that is nothing to a life, an idle scan and a refused event leave the life as it is
 //! (`nothing`, `undisturbed`, `idle`, `refused`); lives that meet the same go alike (`apart`, `runs`), so that a reload doesn't tear the lives that
 //! it leaves alone (`reload`). Each relabelling run takes one step (`steps`).
 //!
 //! Who calls one of them pays for reading all that in its proof, so the crates above call `take` and `take_read`.
-ghost use Rattle.std.specs.Prelude.{◌≡◌, ◌+◌, ℕ, List, ◌++◌, [], ◌∷◌, IfOk, OnOk, OnErr};
+ghost use Rattle.std.specs.Prelude.{◌≡◌, ◌+◌, ◌≤◌, ℕ, List, ◌++◌, [], ◌∷◌, IfOk, OnOk, OnErr};
 ghost use Rattle.label_set.specs.declared.texts.Pair.{Pair};
 ghost use Rattle.journal_text.specs.declared.events.Event.{Event};
 ghost use Rattle.journal_text.specs.Events.{IsInLimits, MayFollow, now_of};
@@ -16,7 +17,8 @@ ghost use Rattle.scrape_machine.specs.Runs as relabelling;
 ghost use Rattle.scrape_core.specs.ReadEvents.{finish_with};
 ghost use Rattle.scrape_laws.specs.Markers.{MarkerLaw, ReportMarkerLaw};
 ghost use Rattle.scrape_laws.specs.Runs.{ClosedRunsLaw};
-ghost use Rattle.scrape_laws.specs.Late.{LateLaw};
+ghost use Rattle.scrape_laws.specs.Late.{LateFronts};
+ghost use Rattle.scrape_laws.specs.Past.{PastLaw};
 ghost use Rattle.scrape_laws.specs.Undisturbed.{NothingLaw, UndisturbedLaw, IdleLaw, RefusedLaw};
 ghost use Rattle.scrape_laws.specs.Apart.{ApartLaw, ApartRunsLaw, ReloadLaw};
 
@@ -25,7 +27,7 @@ use expo_reader::ReadBody;
 use journal_text::Event;
 use label_set::{NoMemory, Steps};
 use scrape_laws::laws::{
-    closed_runs, late, lives_apart, markers, nothing, reloads, report_markers, undisturbed,
+    closed_runs, late, lives_apart, markers, nothing, past, reloads, report_markers, undisturbed,
 };
 use scrape_loop::ReadReply;
 use scrape_machine::Answer;
@@ -50,7 +52,8 @@ impl Core {
         ensures markers { MarkerLaw self.new }
         ensures closed_runs { (n : ℕ) (x : List Pair) → ClosedRunsLaw self.new n x }
         ensures report_markers { ReportMarkerLaw self.new }
-        ensures late { LateLaw (spec.world_of self.new) }
+        ensures late { LateFronts self.new }
+        ensures past { PastLaw self.new }
         ensures nothing { NothingLaw (spec.world_of self.old) event }
         ensures undisturbed { UndisturbedLaw self.old event }
         ensures idle { IdleLaw self.old event }
@@ -59,11 +62,14 @@ impl Core {
         ensures runs { (other : List Event) → ApartRunsLaw self.new other }
         ensures reload { ReloadLaw self.old event }
         ensures steps { OnOk result (steps.new ≡ steps.old + relabelling.runs (spec.world_of self.old) event) }
+        ensures at_least { steps.old ≤ steps.new }
+        ensures at_most { steps.new ≤ steps.old + relabelling.runs (spec.world_of self.old) event }
     {
         markers();
         closed_runs();
         report_markers();
         late();
+        past();
         nothing();
         undisturbed();
         lives_apart();
@@ -90,7 +96,8 @@ impl Core {
         ensures markers { MarkerLaw self.new }
         ensures closed_runs { (n : ℕ) (x : List Pair) → ClosedRunsLaw self.new n x }
         ensures report_markers { ReportMarkerLaw self.new }
-        ensures late { LateLaw (spec.world_of self.new) }
+        ensures late { LateFronts self.new }
+        ensures past { PastLaw self.new }
         ensures nothing { NothingLaw (spec.world_of self.old) (finish_with ticket took status body.bytes) }
         ensures undisturbed { UndisturbedLaw self.old (finish_with ticket took status body.bytes) }
         ensures idle { IdleLaw self.old (finish_with ticket took status body.bytes) }
@@ -99,11 +106,14 @@ impl Core {
         ensures runs { (other : List Event) → ApartRunsLaw self.new other }
         ensures reload { ReloadLaw self.old (finish_with ticket took status body.bytes) }
         ensures steps { OnOk result (steps.new ≡ steps.old + relabelling.runs (spec.world_of self.old) (finish_with ticket took status body.bytes)) }
+        ensures at_least { steps.old ≤ steps.new }
+        ensures at_most { steps.new ≤ steps.old + relabelling.runs (spec.world_of self.old) (finish_with ticket took status body.bytes) }
     {
         markers();
         closed_runs();
         report_markers();
         late();
+        past();
         nothing();
         undisturbed();
         lives_apart();

@@ -10,8 +10,14 @@ use Rattle.outside.specs.Objects.{ShelfSeen, Rose, used}
 use Rattle.station.specs.Ends.{EndsSo, ShelfWent}
 use Rattle.station.specs.declared.ends.RunEnd.{RunEnd}
 use Rattle.live_run.specs.Runs.{touched, wanted}
-use Rattle.live_run.proofs.EndLemmas.{Known, ended, of_some}
+use Rattle.live_run.proofs.EndLemmas.{Known, begun, ended, of_some}
 use Rattle.live_run.proofs.live.run_live.Goals as goal
+
+pub returns-clause-unbegun : goal.returns-clause-unbegun
+returns-clause-unbegun g c =
+    let trail = used (g.R.Sink.seen c.args.trail.now) (g.R.Sink.seen c.finish_run-end.new.trail) in
+    let out = used (g.O.Sink.seen c.args.out.now) (g.O.Sink.seen c.finish_run-end.new.out) in
+    λ u. absurd (begun c.run_station-ran.result.end c.finish_run-end.result c.args.asked.kept c.run_station-ran.result.core trail out c.finish_run-end.ensures u)
 
 pub returns-clause-ended : goal.returns-clause-ended
 returns-clause-ended g c =

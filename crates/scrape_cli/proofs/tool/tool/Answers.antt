@@ -1,6 +1,7 @@
 use Rattle.std.proofs.Common.{◌≡◌, ◌∙◌, [], ℕ, map, refl, string_bytes, subst, sym}
+use Rattle.std.specs.Prelude.{Some, IfSome}
 use Rattle.outside.specs.Objects.{used}
-use Rattle.live_run.specs.Runs.{touched}
+use Rattle.live_run.specs.Runs.{IsReadOnce, touched}
 use Rattle.scrape_commands.specs.Ends.{call}
 use Rattle.scrape_cli.specs.Lives.{EndedLive, EndedStill}
 use Rattle.scrape_cli.proofs.LiveLemmas.{ended_still, live_wanting, still_wanting}
@@ -19,7 +20,9 @@ returns-in-Err-NoMemory-clause-live g c =
     let err = g.E.Sink.seen c.args.err.now in
     let t = touched (used shelf shelf) (used (g.O.Sink.seen c.args.out.now) (g.O.Sink.seen c.args.out.now)) (used err (g.E.Sink.seen c.tell.new.err)) (used (g.R.Sink.seen c.args.trail.now) (g.R.Sink.seen c.args.trail.now))
     (g.C.Source.seen c.args.control).left (used (map g.F.Fetch.seen c.args.fetchers.items) (map g.F.Fetch.seen c.handed_back.result.fetchers.items)) in
-    λ r is. subst (λ (s : ℕ). EndedLive s r t) (sym (c.handed_back.ensures.status ∙ c.status_at.ensures)) (live_wanting r t [] refl refl (shelf_same shelf) (sink_same err) c.tell.ensures)
+    let ran = c.handed_back.result in
+    let back : Type 0 = (ran.control ≡ Some c.args.control) × IfSome ran.clock (λ k. IsReadOnce (used (g.K.Clock.seen c.args.clock) (g.K.Clock.seen k))) × (ran.fetchers ≡ c.args.fetchers) in
+    λ r is. subst (λ (s : ℕ). EndedLive s r t back) (sym (c.handed_back.ensures.status ∙ c.status_at.ensures)) (live_wanting r t back [] refl refl (shelf_same shelf) (sink_same err) c.tell.ensures)
 
 pub returns-in_default-clause-still : goal.returns-in_default-clause-still
 returns-in_default-clause-still g c =

@@ -71,3 +71,31 @@ returns-in-Err-Bad-clause-steps g c =
     let h = ap₂ loaded (sym c.deref.ensures.value) (sym c.as_slice.ensures)
     ∙ subst (IsLoadCause (loaded c.deref.result.now c.as_slice.result.now)) c.in-Err-Bad.field-0-is c.in-Err-Bad.ensures.refused in
     omega (arith, load_refused_runs s.jobs.items s.lives.items s.started.items c.args.moment c.args.text.now (ap after_load h))
+
+pub returns-in_err-jobs-in-Ok-clause-at_most : goal.returns-in_err-jobs-in-Ok-clause-at_most
+returns-in_err-jobs-in-Ok-clause-at_most g c =
+    let s = c.args.state.now in
+    let h = ap₂ loaded (sym c.deref.ensures.value) (sym c.as_slice.ensures) ∙ c.in-Ok.ensures.taken in
+    let runs = load_taken_runs s.jobs.items s.lives.items s.started.items c.args.moment c.args.text.now (map in_force c.in-Ok.filed.items) (ap after_load h) in
+    omega (arith, c.in_force_all.ensures.at_most, runs)
+
+pub returns-in_err-runs-in-Ok-clause-at_most : goal.returns-in_err-runs-in-Ok-clause-at_most
+returns-in_err-runs-in-Ok-clause-at_most g c =
+    let s = c.args.state.now in
+    let h = ap₂ loaded (sym c.deref.ensures.value) (sym c.as_slice.ensures) ∙ c.in-Ok.ensures.taken in
+    let runs = load_taken_runs s.jobs.items s.lives.items s.started.items c.args.moment c.args.text.now (map in_force c.in-Ok.filed.items) (ap after_load h) in
+    omega (arith, c.in_force_all.ensures.at_most, runs)
+
+pub returns-in_err-synced-in-Ok-clause-at_most : goal.returns-in_err-synced-in-Ok-clause-at_most
+returns-in_err-synced-in-Ok-clause-at_most g c =
+    let s = c.args.state.now in
+    let h = ap₂ loaded (sym c.deref.ensures.value) (sym c.as_slice.ensures) ∙ c.in-Ok.ensures.taken in
+    let runs = load_taken_runs s.jobs.items s.lives.items s.started.items c.args.moment c.args.text.now (map in_force c.in-Ok.filed.items) (ap after_load h) in
+    omega (arith, c.in_force_all.ensures.at_most, runs)
+
+pub returns-in_ok-synced-in-Ok-clause-at_most : goal.returns-in_ok-synced-in-Ok-clause-at_most
+returns-in_ok-synced-in-Ok-clause-at_most g c =
+    let s = c.args.state.now in
+    let h = ap₂ loaded (sym c.deref.ensures.value) (sym c.as_slice.ensures) ∙ c.in-Ok.ensures.taken in
+    let runs = load_taken_runs s.jobs.items s.lives.items s.started.items c.args.moment c.args.text.now (map in_force c.in-Ok.filed.items) (ap after_load h) in
+    omega (arith, c.in_force_all.ensures.at_most, runs)

@@ -136,3 +136,47 @@ returns-in-Err-Bad-clause-steps g c =
     let h = ap₂ (λ z t. updated z c.args.job.now c.args.file.now t) (sym c.deref.ensures.value) (sym c.as_slice.ensures)
     ∙ subst (IsUpdateCause (updated c.deref.result.now c.args.job.now c.args.file.now c.as_slice.result.now)) c.in-Err-Bad.field-0-is c.in-Err-Bad.ensures.refused in
     omega (arith, update_refused_runs s.jobs.items s.lives.items s.started.items c.args.moment c.args.job.now c.args.file.now c.args.text.now (ap (after_update s.jobs.items c.args.job.now c.args.file.now) h))
+
+pub returns-in_err-jobs-in-Ok-clause-at_most : goal.returns-in_err-jobs-in-Ok-clause-at_most
+returns-in_err-jobs-in-Ok-clause-at_most g c =
+    let s = c.args.state.now in
+    let h = ap₂ (λ z t. updated z c.args.job.now c.args.file.now t) (sym c.deref.ensures.value) (sym c.as_slice.ensures) ∙ c.in-Ok.ensures.taken in
+    let same = same_update c.deref-in-Ok.result.now s.jobs.items c.args.job.now _ c.args.file.now _ c.in-Ok.update.groups c.deref-in-Ok.ensures.value c.in-Ok.ensures.job c.in-Ok.ensures.file in
+    let runs =
+    ap₂ listed_by_named c.in-Ok.ensures.job same
+    ∙ sym (update_taken_runs s.jobs.items s.lives.items s.started.items c.args.moment c.args.job.now c.args.file.now c.args.text.now _ (ap (after_update s.jobs.items c.args.job.now c.args.file.now) h))
+    in
+    omega (arith, c.jobs_updated.ensures.at_most, runs)
+
+pub returns-in_err-runs-in-Ok-clause-at_most : goal.returns-in_err-runs-in-Ok-clause-at_most
+returns-in_err-runs-in-Ok-clause-at_most g c =
+    let s = c.args.state.now in
+    let h = ap₂ (λ z t. updated z c.args.job.now c.args.file.now t) (sym c.deref.ensures.value) (sym c.as_slice.ensures) ∙ c.in-Ok.ensures.taken in
+    let same = same_update c.deref-in-Ok.result.now s.jobs.items c.args.job.now _ c.args.file.now _ c.in-Ok.update.groups c.deref-in-Ok.ensures.value c.in-Ok.ensures.job c.in-Ok.ensures.file in
+    let runs =
+    ap₂ listed_by_named c.in-Ok.ensures.job same
+    ∙ sym (update_taken_runs s.jobs.items s.lives.items s.started.items c.args.moment c.args.job.now c.args.file.now c.args.text.now _ (ap (after_update s.jobs.items c.args.job.now c.args.file.now) h))
+    in
+    omega (arith, c.jobs_updated.ensures.at_most, runs)
+
+pub returns-in_err-synced-in-Ok-clause-at_most : goal.returns-in_err-synced-in-Ok-clause-at_most
+returns-in_err-synced-in-Ok-clause-at_most g c =
+    let s = c.args.state.now in
+    let h = ap₂ (λ z t. updated z c.args.job.now c.args.file.now t) (sym c.deref.ensures.value) (sym c.as_slice.ensures) ∙ c.in-Ok.ensures.taken in
+    let same = same_update c.deref-in-Ok.result.now s.jobs.items c.args.job.now _ c.args.file.now _ c.in-Ok.update.groups c.deref-in-Ok.ensures.value c.in-Ok.ensures.job c.in-Ok.ensures.file in
+    let runs =
+    ap₂ listed_by_named c.in-Ok.ensures.job same
+    ∙ sym (update_taken_runs s.jobs.items s.lives.items s.started.items c.args.moment c.args.job.now c.args.file.now c.args.text.now _ (ap (after_update s.jobs.items c.args.job.now c.args.file.now) h))
+    in
+    omega (arith, c.jobs_updated.ensures.at_most, runs)
+
+pub returns-in_ok-synced-in-Ok-clause-at_most : goal.returns-in_ok-synced-in-Ok-clause-at_most
+returns-in_ok-synced-in-Ok-clause-at_most g c =
+    let s = c.args.state.now in
+    let h = ap₂ (λ z t. updated z c.args.job.now c.args.file.now t) (sym c.deref.ensures.value) (sym c.as_slice.ensures) ∙ c.in-Ok.ensures.taken in
+    let same = same_update c.deref-in-Ok.result.now s.jobs.items c.args.job.now _ c.args.file.now _ c.in-Ok.update.groups c.deref-in-Ok.ensures.value c.in-Ok.ensures.job c.in-Ok.ensures.file in
+    let runs =
+    ap₂ listed_by_named c.in-Ok.ensures.job same
+    ∙ sym (update_taken_runs s.jobs.items s.lives.items s.started.items c.args.moment c.args.job.now c.args.file.now c.args.text.now _ (ap (after_update s.jobs.items c.args.job.now c.args.file.now) h))
+    in
+    omega (arith, c.jobs_updated.ensures.at_most, runs)

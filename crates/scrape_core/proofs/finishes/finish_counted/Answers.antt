@@ -1,4 +1,4 @@
-use Rattle.std.proofs.Common.{◌≡◌, ◌+◌, ◌++◌, ◌∙◌, List, length, get_or, set, sym, ap, ap₂, subst, rules, SFits, w64, to_z, of_z}
+use Rattle.std.proofs.Common.{◌≡◌, ◌≤◌, arith, ◌+◌, ◌++◌, ◌∙◌, List, length, get_or, set, sym, sum_by, ap, ap₂, subst, rules, SFits, w64, to_z, of_z}
 use Rattle.std.proofs.lemmas.Int.{to_z-of_z}
 use Rattle.std.proofs.lemmas.List.{with_items_is}
 use Rattle.std.proofs.lemmas.List.Elements.{All-get_or}
@@ -9,12 +9,13 @@ use Rattle.scrape_loop.specs.Tracked.{fault_of}
 use Rattle.scrape_machine.specs.declared.answers.Answer.TheVariants.{Counted}
 use Rattle.scrape_machine.specs.declared.lives.Life.{Life}
 use Rattle.scrape_machine.specs.declared.lives.Start.{Start}
-use Rattle.scrape_machine.specs.Lives.{counted, outcome_for, IsRightLife}
+use Rattle.scrape_machine.specs.Lives.{is_open, counted, outcome_for, IsRightLife}
 use Rattle.scrape_machine.specs.Machine.{world, finished}
 use Rattle.scrape_machine.specs.Runs.{scrape_runs}
 use Rattle.scrape_steps.proofs.FinishLemmas.{counted_answer, counted_world, counted_book, counted_runs}
-use Rattle.scrape_steps.specs.Unended.{is_ended}
-use Rattle.scrape_steps.proofs.ListedLemmas.{unended_set}
+use Rattle.scrape_steps.specs.Endings.{due_of}
+use Rattle.scrape_steps.proofs.EndingLemmas.{counted_due, endings_set}
+use Rattle.scrape_steps.proofs.ListedLemmas.{places_set}
 use Rattle.scrape_core.proofs.StateLemmas.{length-finished, get_or_at}
 use Rattle.scrape_core.proofs.finishes.finish_counted.Goals as goal
 
@@ -83,7 +84,10 @@ returns-clause-listed g c =
     let x = get_or s.lives.items c.args.life d in
     let at = get_or_at s.lives.items c.args.life d x c.requires.within in
     let new : c.count.new.life ≡ counted x (to_z w64 (of_z w64 c.args.took)) c.args.reply.now = c.in_ok-counted.ensures.life ∙ ap (λ (y : Life). counted y (to_z w64 (of_z w64 c.args.took)) c.args.reply.now) c.index_mut-one.ensures.value in
-    c.requires.listed ∙ sym (unended_set 0 s.lives.items c.args.life x c.count.new.life c.requires.within at (ap is_ended new))
+    let due = ap due_of new ∙ counted_due x (to_z w64 (of_z w64 c.args.took)) c.args.reply.now in (
+      c.requires.listed.0 ∙ sym (places_set is_open 0 s.lives.items c.args.life x c.count.new.life c.requires.within at (ap is_open new)),
+      λ f. ap (sum_by f) (endings_set 0 s.lives.items c.args.life x c.count.new.life c.requires.within at due) ∙ c.requires.listed.1 f,
+    )
 
 pub returns-in_err-counted-clause-listed : goal.returns-in_err-counted-clause-listed
 returns-in_err-counted-clause-listed g c =
@@ -91,4 +95,29 @@ returns-in_err-counted-clause-listed g c =
     let d = c.index_mut-one.result.now in
     let x = get_or s.lives.items c.args.life d in
     let at = get_or_at s.lives.items c.args.life d x c.requires.within in
-    c.requires.listed ∙ sym (unended_set 0 s.lives.items c.args.life x c.count.new.life c.requires.within at (ap is_ended (c.in_err-counted.ensures.err_life ∙ c.index_mut-one.ensures.value)))
+    let same = c.in_err-counted.ensures.err_life ∙ c.index_mut-one.ensures.value in (
+      c.requires.listed.0 ∙ sym (places_set is_open 0 s.lives.items c.args.life x c.count.new.life c.requires.within at (ap is_open same)),
+      λ f. ap (sum_by f) (endings_set 0 s.lives.items c.args.life x c.count.new.life c.requires.within at (ap due_of same)) ∙ c.requires.listed.1 f,
+    )
+
+pub returns-clause-at_most : goal.returns-clause-at_most
+returns-clause-at_most g c =
+    let s = c.args.state.now in
+    let d = c.index_mut-one.result.now in
+    let t = to_z-of_z w64 c.args.took c.ranges.took in
+    let runs =
+    ap₂ (λ (y : Life) z. scrape_runs z c.args.reply.now y) c.index_mut-one.ensures.value t
+    ∙ sym (counted_runs s.jobs.items s.lives.items s.started.items c.args.ticket c.args.took c.args.reply.now c.args.life c.args.moment c.requires.found d)
+    in
+    omega (arith, c.count.ensures.at_most, runs)
+
+pub returns-in_err-counted-clause-at_most : goal.returns-in_err-counted-clause-at_most
+returns-in_err-counted-clause-at_most g c =
+    let s = c.args.state.now in
+    let d = c.index_mut-one.result.now in
+    let t = to_z-of_z w64 c.args.took c.ranges.took in
+    let runs =
+    ap₂ (λ (y : Life) z. scrape_runs z c.args.reply.now y) c.index_mut-one.ensures.value t
+    ∙ sym (counted_runs s.jobs.items s.lives.items s.started.items c.args.ticket c.args.took c.args.reply.now c.args.life c.args.moment c.requires.found d)
+    in
+    omega (arith, c.count.ensures.at_most, runs)

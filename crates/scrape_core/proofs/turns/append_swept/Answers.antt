@@ -11,6 +11,6 @@ returns-clause-book c =
     let s = c.args.state.now in
     let m = c.args.moment in
     subst (λ (es : List Entry). OnOk c.append_all.result (c.append_all.new.self.entries ≡ c.args.book.now.entries ++ es))
-    (c.in_ok-items.ensures ∙ ap₂ (λ js ls. flat_map (swept_entries js m) ls) c.deref-3.ensures.value (c.of-lives.ensures ∙ c.deref.ensures.value)
+    (c.in_ok-items.ensures ∙ ap₂ (λ js ls. flat_map (swept_entries js m) ls) c.deref-2.ensures.value (c.swept-lives.ensures.all ∙ c.deref.ensures.value)
     ∙ sym (sweep_entries s.jobs.items s.lives.items s.started.items m))
     c.append_all.ensures.ok

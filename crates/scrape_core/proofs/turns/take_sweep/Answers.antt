@@ -1,57 +1,48 @@
-use Rattle.std.proofs.Common.{◌≡◌, ◌++◌, ◌∙◌, ℕ, List, length, sym, ap, ap₂}
-use Rattle.std.proofs.lemmas.List.{with_items_is}
-use Rattle.std.specs.List.{filter}
-use Rattle.journal_text.specs.declared.events.Event.TheVariants.{Sweep}
+use Rattle.std.proofs.Common.{◌≡◌, ◌++◌, ◌∙◌, List, sym, ap, subst, sum_by, vec_len}
+use Rattle.std.specs.Prelude.{filter}
 use Rattle.journal_text.specs.Lines.{number}
+use Rattle.scrape_machine.specs.Lives.{is_open}
+use Rattle.scrape_machine.specs.Machine.{World}
 use Rattle.scrape_machine.specs.declared.lives.Life.{Life}
-use Rattle.scrape_machine.specs.declared.lives.Start.{Start}
-use Rattle.scrape_machine.specs.Machine.{world, lives_from, starts_from, gives, answer}
-use Rattle.scrape_steps.proofs.ScanLemmas.{sweep_step}
-use Rattle.scrape_machine.proofs.StepLemmas.{length-lives}
-use Rattle.scrape_steps.specs.Unended.{unended_from, is_unended_at}
-use Rattle.scrape_steps.proofs.ListedLemmas.{left_unended, sweep_stays}
-use Rattle.scrape_core.specs.Kept.{live}
-use Rattle.scrape_core.proofs.StateLemmas.{same_world}
+use Rattle.scrape_steps.specs.Concerned.{places_where}
+use Rattle.scrape_steps.specs.Endings.{endings_from, is_due, is_early, waiting, HasRoom, HoldSame}
+use Rattle.scrape_steps.specs.declared.endings.Endings.{Endings}
+use Rattle.scrape_steps.proofs.EndingLemmas.{back_again, due_are, sweep_endings}
+use Rattle.scrape_steps.proofs.ListedLemmas.{sweep_places}
 use Rattle.scrape_core.proofs.turns.take_sweep.Goals as goal
 
-pub returns-clause-answer : goal.returns-clause-answer
-unfolding answer
-returns-clause-answer c = c.sweep_answer-answer.ensures
+pub sweep_due-requires-clause-due : goal.sweep_due-requires-clause-due
+sweep_due-requires-clause-due c = λ f.
+    let s = c.args.state.now in
+    due_are c.number.result (number c.args.moment) (endings_from 0 s.lives.items) (waiting s.endings) c.in_ok-due.due.items c.number.ensures.value c.requires.listed.1 c.in_ok-due.ensures.due f
+    ∙ ap (sum_by f) (sym c.deref.ensures.value)
 
-pub returns-clause-state : goal.returns-clause-state
-returns-clause-state c =
+pub put_back-requires : goal.put_back-requires
+put_back-requires c = subst (λ (e : Endings). HasRoom e (vec_len c.in_ok-due.due)) (sym c.in-Err.ensures.endings) c.in_ok-due.ensures.room
+
+pub returns-in-Ok-clause-listed : goal.returns-in-Ok-clause-listed
+returns-in-Ok-clause-listed c =
     let s = c.args.state.now in
     let m = c.args.moment in
-    let swept : c.sweep_lives.new.lives ≡ lives_from (live s) (Sweep m) 0 s.lives.items =
-    c.sweep_lives.ensures
-    ∙ same_world (λ js ls ss. lives_from (world js ls ss) (Sweep m) 0 ls) _ _ _ _ _ _ c.deref-5.ensures.value c.deref_mut.ensures.value (c.deref-7.ensures.value ∙ c.in_ok-reserve.ensures.items) in
-    let long : length c.sweep_lives.new.lives ≡ s.lives.len =
-    ap (λ (ls : List Life). length ls) swept ∙ length-lives (live s) (Sweep m) 0 s.lives.items ∙ sym s.lives.ok.0 in
-    let begun = c.in_ok-begun.ensures ∙ ap₂ (λ js ls. starts_from js (number m) 0 ls) c.deref-4.ensures.value (c.of-lives.ensures ∙ c.deref-2.ensures.value) in
-    ap₂ (λ ls ss. world s.jobs.items ls ss) (with_items_is s.lives c.sweep_lives.new.lives long ∙ swept)
-    (c.push_starts.ensures ∙ ap₂ (λ (xs ys : List Start). xs ++ ys) c.in_ok-reserve.ensures.items begun)
-    ∙ sym (sweep_step s.jobs.items s.lives.items s.started.items m)
+    let left : HoldSame (filter (is_early (number m)) (waiting s.endings)) (waiting c.take_due.new.self) =
+    λ f. ap (λ k. sum_by f (filter (is_early k) (waiting s.endings))) (sym c.number.ensures.value) ∙ c.in_ok-due.ensures.left f in (
+      ap (λ v. v.items) c.in-Ok.ensures.opens ∙ c.requires.listed.0
+          ∙ sym (ap (places_where is_open 0) c.in-Ok.ensures.lives ∙ sweep_places s.jobs.items s.lives.items s.started.items m 0 s.lives.items),
+      λ f.
+          ap (λ (ls : List Life). sum_by f (endings_from 0 ls)) c.in-Ok.ensures.lives
+          ∙ sweep_endings s.jobs.items s.lives.items s.started.items m (waiting s.endings) (waiting c.take_due.new.self) c.requires.listed.1 left f
+          ∙ ap (λ (e : Endings). sum_by f (waiting e)) (sym c.in-Ok.ensures.endings),
+    )
 
-pub returns-clause-book : goal.returns-clause-book
-returns-clause-book c =
+pub returns-in-Err-clause-listed : goal.returns-in-Err-clause-listed
+returns-in-Err-clause-listed c =
     let s = c.args.state.now in
-    c.in_ok-append_swept.ensures.book
-    ∙ ap (λ (ss : List Start). c.args.book.now.entries ++ gives (world s.jobs.items s.lives.items ss) (Sweep c.args.moment)) c.in_ok-reserve.ensures.items
-
-pub sweep_lives-requires-clause-places : goal.sweep_lives-requires-clause-places
-sweep_lives-requires-clause-places c = c.deref-6.ensures.value ∙ c.requires.listed ∙ ap (unended_from 0) (sym c.deref_mut.ensures.value)
-
-pub returns-clause-listed : goal.returns-clause-listed
-returns-clause-listed c =
-    let s = c.args.state.now in
-    let m = c.args.moment in
-    let swept : c.sweep_lives.new.lives ≡ lives_from (live s) (Sweep m) 0 s.lives.items =
-    c.sweep_lives.ensures
-    ∙ same_world (λ js ls ss. lives_from (world js ls ss) (Sweep m) 0 ls) _ _ _ _ _ _ c.deref-5.ensures.value c.deref_mut.ensures.value (c.deref-7.ensures.value ∙ c.in_ok-reserve.ensures.items) in
-    let long : length c.sweep_lives.new.lives ≡ s.lives.len =
-    ap (λ (ls : List Life). length ls) swept ∙ length-lives (live s) (Sweep m) 0 s.lives.items ∙ sym s.lives.ok.0 in
-    let after = with_items_is s.lives c.sweep_lives.new.lives long ∙ swept in
-    c.drop_ended.ensures.left
-    ∙ ap₂ (λ (ls : List Life) (ps : List ℕ). filter (is_unended_at ls) ps) (c.deref-8.ensures.value ∙ after) c.requires.listed
-    ∙ left_unended s.lives.items (lives_from (live s) (Sweep m) 0 s.lives.items) (sweep_stays s.jobs.items s.lives.items s.started.items m 0 s.lives.items)
-    ∙ ap (unended_from 0) (sym after)
+    let n = c.number.result in
+    let lives = ap (λ (w : World). w.lives) c.in-Err.ensures.err in
+    let back = subst (λ (e : Endings). HoldSame (c.in_ok-due.due.items ++ waiting e) (waiting c.put_back.new.self)) c.in-Err.ensures.endings c.put_back.ensures in (
+      ap (λ v. v.items) c.in-Err.ensures.opens ∙ c.requires.listed.0 ∙ ap (places_where is_open 0) (sym lives),
+      λ f.
+          ap (λ (ls : List Life). sum_by f (endings_from 0 ls)) lives
+          ∙ back_again n (endings_from 0 s.lives.items) (waiting s.endings) c.in_ok-due.due.items (waiting c.take_due.new.self) (waiting c.put_back.new.self) c.requires.listed.1 c.in_ok-due.ensures.due
+          c.in_ok-due.ensures.left back f,
+    )

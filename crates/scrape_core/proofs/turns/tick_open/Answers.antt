@@ -1,16 +1,17 @@
-use Rattle.std.proofs.Common.{◌++◌, ◌∙◌, List, length, set, sym, ap, ap₂}
+use Rattle.std.proofs.Common.{◌≡◌, ◌++◌, ◌∙◌, List, length, set, sym, sum_by, ap, ap₂}
 use Rattle.std.proofs.lemmas.Option.{get_or_from_slice_get}
 use Rattle.journal_text.specs.Lines.{number}
 use Rattle.report_samples.specs.declared.entries.Entry.{Entry}
 use Rattle.scrape_machine.specs.declared.lives.Life.{Life}
 use Rattle.scrape_machine.specs.declared.lives.Start.{Start}
-use Rattle.scrape_machine.specs.Lives.{starts, scanned_life, scan_entries}
+use Rattle.scrape_machine.specs.Lives.{is_open, starts, scanned_life, scan_entries}
 use Rattle.scrape_machine.specs.Machine.{world, is_over, started_by}
 use Rattle.scrape_steps.specs.Scans.{is_open_life}
 use Rattle.scrape_steps.proofs.ScanLemmas as scans
-use Rattle.scrape_steps.specs.Unended.{is_ended}
-use Rattle.scrape_steps.proofs.ListedLemmas.{unended_set}
-use Rattle.scrape_core.proofs.StateLemmas.{open_there, found_there, scanned_open}
+use Rattle.scrape_steps.specs.Endings.{due_of}
+use Rattle.scrape_steps.proofs.EndingLemmas.{endings_set, open_due}
+use Rattle.scrape_steps.proofs.ListedLemmas.{places_set, scanned_open}
+use Rattle.scrape_core.proofs.StateLemmas.{open_there, found_there}
 use Rattle.scrape_core.proofs.turns.tick_open.Goals as goal
 
 pub returns-clause-state : goal.returns-clause-state
@@ -60,5 +61,8 @@ returns-clause-listed c =
     let one = c.index_mut.ensures.value ∙ get_or_from_slice_get s.lives.items k x c.index_mut.result.now found in
     let new = c.scan.ensures ∙ ap (λ (y : Life). scanned_life m c.len-ticket.result c.is_over_in-over.result y y.schedule.closed) one
     ∙ ap₂ (λ t o. scanned_life m t o x x.schedule.closed) ticket over in
-    let stays = scanned_open m (length s.started.items) (is_over s.jobs.items x) x is in
-    c.requires.listed ∙ sym (unended_set 0 s.lives.items k x c.scan.new.life lt c.index-one.ensures (ap is_ended new ∙ stays))
+    let stays = ap is_open new ∙ scanned_open m (length s.started.items) (is_over s.jobs.items x) x x.schedule.closed in
+    let due : due_of c.scan.new.life ≡ due_of x = open_due c.scan.new.life (stays ∙ is) ∙ sym (open_due x is) in (
+      c.requires.listed.0 ∙ sym (places_set is_open 0 s.lives.items k x c.scan.new.life lt c.index-one.ensures stays),
+      λ f. ap (sum_by f) (endings_set 0 s.lives.items k x c.scan.new.life lt c.index-one.ensures due) ∙ c.requires.listed.1 f,
+    )

@@ -1,4 +1,4 @@
-use Rattle.std.proofs.Common.{◌≡◌, ◌<◌, List, ap, ap₂, arith, ◌∙◌, length, refl, sym, subst, subst₂}
+use Rattle.std.proofs.Common.{◌≡◌, ◌<◌, ◌≤◌, ◌+◌, List, Ok, ap, ap₂, arith, ◌∙◌, length, refl, sym, subst, subst₂}
 use Rattle.std.specs.Prelude.{map, IfSome}
 use Rattle.label_set.specs.Lent.{pair_of}
 use Rattle.label_set.specs.declared.texts.Pair.{Pair}
@@ -8,6 +8,7 @@ use Rattle.sample_rows.proofs.RowLemmas.{more_samples, more_fault}
 use Rattle.series_cache.specs.Caches.{CacheView, find}
 use Rattle.series_cache.specs.declared.known.Known.{Known}
 use Rattle.scrape_loop.specs.Texts.{AreRight, shown_row}
+use Rattle.scrape_loop.proofs.FreshLemmas.{reply_grows, take_grows}
 use Rattle.scrape_loop.proofs.RightLemmas.{shown_right}
 use Rattle.scrape_loop.proofs.TextLemmas.{right_at, shown_more}
 use Rattle.scrape_loop.proofs.known_rows.sift_known.Goals as goal
@@ -55,3 +56,49 @@ loop-place-preserved g c =
       steps = omega (arith, c.in_ok-series.ensures.steps, c.loop-place.invariant.steps);
       at_least = omega (arith, c.show_row.ensures.at_least, c.loop-place.invariant.at_least);
     }
+
+pub returns-in_err-runner-clause-at_most : goal.returns-in_err-runner-clause-at_most
+returns-in_err-runner-clause-at_most g c =
+    omega (arith, reply_grows c.args.terms.now.rules.now c.args.terms.now.metric.now c.args.terms.now.target.now c.args.cache.now (Ok c.args.body.now.rows))
+
+pub returns-in_err-labels-clause-at_most : goal.returns-in_err-labels-clause-at_most
+returns-in_err-labels-clause-at_most g c =
+    omega (arith, reply_grows c.args.terms.now.rules.now c.args.terms.now.metric.now c.args.terms.now.target.now c.args.cache.now (Ok c.args.body.now.rows))
+
+pub returns-in_err-lent-clause-at_most : goal.returns-in_err-lent-clause-at_most
+returns-in_err-lent-clause-at_most g c =
+    omega (arith, reply_grows c.args.terms.now.rules.now c.args.terms.now.metric.now c.args.terms.now.target.now c.args.cache.now (Ok c.args.body.now.rows))
+
+pub returns-in_err-series-clause-at_most : goal.returns-in_err-series-clause-at_most
+returns-in_err-series-clause-at_most g c =
+    let rules = c.args.terms.now.rules.now in
+    let metric = c.args.terms.now.metric.now in
+    let labels = c.args.terms.now.target.now in
+    let i = c.loop-place.place in
+    let rows = c.args.body.now.rows in
+    let row = c.row-row.result in
+    let within : i < length rows = omega (arith, c.len-place-end.ensures) in
+    let target : c.in_ok-lent.lent ≡ labels = c.in_ok-lent.ensures ∙ ap (map pair_of) c.as_slice.ensures.value ∙ c.in_ok-labels.ensures.labels in
+    let len =
+    ap₂ (λ (r : List RuleConf) (t : List Pair). length (shown_row rules r t c.loop-place.cache row).texts) c.loop-place.invariant.same target
+    ∙ ap (λ (v : CacheView). length (shown_row rules metric labels v row).texts) c.loop-place.invariant.cache
+    ∙ ap (λ (v : CacheView). length v.texts) (sym (shown_more rules metric labels c.args.cache.now rows i row within c.row-row.ensures.row))
+    in
+    omega (arith, c.show_row.ensures.at_most, len, c.loop-place.invariant.steps, take_grows rules metric labels rows (i + 1) c.args.cache.now)
+
+pub returns-in_err-take-clause-at_most : goal.returns-in_err-take-clause-at_most
+returns-in_err-take-clause-at_most g c =
+    let rules = c.args.terms.now.rules.now in
+    let metric = c.args.terms.now.metric.now in
+    let labels = c.args.terms.now.target.now in
+    let i = c.loop-place.place in
+    let rows = c.args.body.now.rows in
+    let row = c.row-row.result in
+    let within : i < length rows = omega (arith, c.len-place-end.ensures) in
+    let target : c.in_ok-lent.lent ≡ labels = c.in_ok-lent.ensures ∙ ap (map pair_of) c.as_slice.ensures.value ∙ c.in_ok-labels.ensures.labels in
+    let len =
+    ap₂ (λ (r : List RuleConf) (t : List Pair). length (shown_row rules r t c.loop-place.cache row).texts) c.loop-place.invariant.same target
+    ∙ ap (λ (v : CacheView). length (shown_row rules metric labels v row).texts) c.loop-place.invariant.cache
+    ∙ ap (λ (v : CacheView). length v.texts) (sym (shown_more rules metric labels c.args.cache.now rows i row within c.row-row.ensures.row))
+    in
+    omega (arith, c.show_row.ensures.at_most, len, c.loop-place.invariant.steps, take_grows rules metric labels rows (i + 1) c.args.cache.now)

@@ -3,7 +3,8 @@ use Rattle.std.proofs.lemmas.Iterator.Adapters.{YieldsList-from_vec}
 use Rattle.std.proofs.lemmas.Iterator.Consumers.{YieldsList-end, YieldsList-turn}
 use Rattle.std.proofs.lemmas.List.{take_all}
 use Rattle.scrape_machine.specs.declared.lives.Life.{Life}
-use Rattle.scrape_steps.proofs.UnendedLemmas.{place_there, unended_length}
+use Rattle.scrape_machine.specs.Lives.{is_open}
+use Rattle.scrape_steps.proofs.ConcernedLemmas.{place_there, places_length}
 use Rattle.scrape_steps.proofs.SweptLemmas.{length-met, map_same, met_at, met_more, met_whole}
 use Rattle.scrape_steps.proofs.acts.meet_all.Goals as goal
 
@@ -23,7 +24,7 @@ meet_at-requires c =
     let list = YieldsList-from_vec {s = c.into_iter-fate-iterator.result} c.args.fates.items gives.0 (gives.1 ∙ c.args.fates.ok.0) in
     let t = YieldsList-turn list c.loop-fate.yielded c.loop-fate.fate-iterator c.loop-fate.yielded_by c.next.result c.next.new.self c.in-Some.fate c.in-Some.is c.next.ensures.steps in
     let lt : c.loop-fate.index < length c.args.places.now = omega (arith, t.0, c.loop-fate.invariant.index, c.requires.each) in
-    let here = place_there c.args.lives.now c.args.places.now c.loop-fate.index c.place_at-place.result c.requires.places lt c.place_at-place.ensures in
+    let here = place_there is_open c.args.lives.now c.args.places.now c.loop-fate.index c.place_at-place.result c.requires.places lt c.place_at-place.ensures in
     let long = ap (λ (ls : List Life). length ls) c.loop-fate.invariant.lives ∙ length-met c.args.moment c.loop-fate.yielded (take c.loop-fate.index c.args.places.now) c.args.lives.now in
     omega (arith, here, long)
 
@@ -52,4 +53,4 @@ returns c =
     c.loop-fate.invariant.lives
     ∙ ap₂ (λ fs qs. met_at m fs qs ls) all (take_all c.loop-fate.index ps (omega (arith, end.1, c.requires.each, c.loop-fate.invariant.index)))
     ∙ ap (λ qs. met_at m c.args.fates.items qs ls) c.requires.places
-    ∙ met_whole m c.args.fates.items ls (c.requires.each ∙ unended_length ls ps c.requires.places)
+    ∙ met_whole m is_open c.args.fates.items ls (c.requires.each ∙ places_length is_open ls ps c.requires.places)

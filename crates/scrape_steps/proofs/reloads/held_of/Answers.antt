@@ -4,16 +4,16 @@ use Rattle.std.proofs.lemmas.List.{take_all}
 use Rattle.scrape_steps.specs.declared.acts.Fate.{Fate}
 use Rattle.scrape_machine.specs.declared.lives.Life.{Life}
 use Rattle.scrape_steps.specs.Plans.{after_each, sits}
-use Rattle.scrape_steps.specs.Unended.{unended}
+use Rattle.scrape_steps.specs.Concerned.{concerns, concerned}
 use Rattle.scrape_steps.proofs.HeldLemmas.{held_more}
-use Rattle.scrape_steps.proofs.UnendedLemmas.{held_unended}
+use Rattle.scrape_steps.proofs.ConcernedLemmas.{apart_closed, held_where}
 use Rattle.scrape_steps.proofs.reloads.held_of.Goals as goal
 
 pub loop-fate-preserved : goal.loop-fate-preserved
 loop-fate-preserved c =
     let p = c.loop-fate.invariant.place in
     let n = c.requires in
-    let ls = unended c.args.lives.now in
+    let ls = concerned c.args.lives.now in
     record {
       place = omega arith;
       held = λ moment place identity.
@@ -26,5 +26,5 @@ pub returns : goal.returns
 returns c = λ moment place identity.
     c.loop-fate.invariant.held moment place identity
     ∙ ap₂ (λ (fs : List Fate) (ls : List Life). list_any (sits c.args.names.now place identity) (after_each moment fs ls))
-    (take_all c.loop-fate.fate-index c.args.fates.now (omega (arith, c.loop-fate-test.false))) (take_all c.loop-fate.fate-index (unended c.args.lives.now) (omega (arith, c.loop-fate-test.false, c.requires)))
-    ∙ held_unended moment c.args.names.now place identity c.args.fates.now c.args.lives.now c.requires
+    (take_all c.loop-fate.fate-index c.args.fates.now (omega (arith, c.loop-fate-test.false))) (take_all c.loop-fate.fate-index (concerned c.args.lives.now) (omega (arith, c.loop-fate-test.false, c.requires)))
+    ∙ held_where moment c.args.names.now place identity (concerns c.args.lives.now.moment) (apart_closed c.args.lives.now.moment) c.args.fates.now c.args.lives.now.all c.requires

@@ -2,11 +2,11 @@ use Rattle.std.proofs.Common.{◌≡◌, ◌≤◌, take, length}
 use Rattle.std.specs.Prelude.{filter}
 use Rattle.journal_text.specs.Lines.{number}
 use Rattle.scrape_machine.specs.Machine.{forces_in}
-use Rattle.scrape_steps.specs.Unended.{unended}
+use Rattle.scrape_steps.specs.Concerned.{concerned}
 use Rattle.scrape_steps.proofs.scans.count_forced.Given as goal
 
 abbrev pub invariant-loop-index : goal.invariant-loop-index
 invariant-loop-index l = record {
   few : l.count ≤ l.index;
-  count : l.count ≡ length (filter (forces_in l.jobs (number l.moment)) (take l.index (unended l.lives)));
+  count : l.count ≡ length (filter (forces_in l.jobs (number l.moment)) (take l.index (concerned l.lives)));
 }

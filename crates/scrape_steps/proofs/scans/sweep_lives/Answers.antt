@@ -1,10 +1,11 @@
-use Rattle.std.proofs.Common.{◌≡◌, ◌<◌, ◌+◌, ℕ, List, length, drop, get_or, arith, refl, sym, ◌∙◌, ap, cond, Bool}
+use Rattle.std.proofs.Common.{◌≡◌, ◌<◌, ◌+◌, ℕ, List, length, drop, get_or, arith, refl, sym, ◌∙◌, ap, cond, Bool, Some}
 use Rattle.std.proofs.lemmas.List.{drop_all}
 use Rattle.journal_text.specs.Lines.{number}
 use Rattle.scrape_machine.specs.declared.lives.Life.{Life}
 use Rattle.scrape_machine.specs.Lives.{scanned_life, starts}
 use Rattle.scrape_machine.specs.Machine.{starts_in}
-use Rattle.scrape_steps.proofs.UnendedLemmas.{place_there, read_place}
+use Rattle.scrape_steps.specs.Concerned.{concerns}
+use Rattle.scrape_steps.proofs.ConcernedLemmas.{place_there, read_place}
 use Rattle.scrape_steps.proofs.SweptLemmas.{length-changed, one, swept_at, swept_next, swept_whole}
 use Rattle.scrape_steps.proofs.scans.sweep_lives.Goals.{then-one, else-one}
 use Rattle.scrape_steps.proofs.scans.sweep_lives.Goals as goal
@@ -25,7 +26,7 @@ life_at-life-requires c =
     let i = c.loop-place.place-index in
     let ps = c.args.places.now in
     let lt : i < length ps = omega (arith, c.loop-place-test.true) in
-    let here = place_there c.args.lives.now ps i (get_or ps i 0) c.requires.places lt (read_place ps i 0 (get_or ps i 0) lt) in
+    let here = place_there (concerns (Some c.args.moment)) c.args.lives.now ps i (get_or ps i 0) c.requires.places lt (read_place ps i 0 (get_or ps i 0) lt) in
     omega (arith, here, c.loop-place.invariant.long)
 
 pub scan_at-requires : goal.scan_at-requires
@@ -33,7 +34,7 @@ scan_at-requires c =
     let i = c.loop-place.place-index in
     let ps = c.args.places.now in
     let lt : i < length ps = omega (arith, c.loop-place-test.true) in
-    let here = place_there c.args.lives.now ps i (get_or ps i 0) c.requires.places lt (read_place ps i 0 (get_or ps i 0) lt) in
+    let here = place_there (concerns (Some c.args.moment)) c.args.lives.now ps i (get_or ps i 0) c.requires.places lt (read_place ps i 0 (get_or ps i 0) lt) in
     omega (arith, here, c.loop-place.invariant.long)
 
 pub loop-place-preserved : goal.loop-place-preserved
@@ -48,7 +49,7 @@ loop-place-preserved c =
     let over = c.is_over-over.result in
     let lt : i < length ps = omega (arith, c.loop-place-test.true) in
     let at = read_place ps i 0 p lt in
-    let here = place_there c.args.lives.now ps i p c.requires.places lt at in
+    let here = place_there (concerns (Some c.args.moment)) c.args.lives.now ps i p c.requires.places lt at in
     let small : p < length c.loop-place.lives = omega (arith, here, c.loop-place.invariant.long) in
     let next = swept_next js m ps i p t c.loop-place.lives c.scan_at.new.lives x over lt at small c.life_at-life.ensures c.is_over-over.ensures c.scan_at.ensures ∙ c.loop-place.invariant.lives in
     let long = ap (λ (ls : List Life). length ls) c.scan_at.ensures ∙ length-changed p (λ (l : Life). scanned_life m t over l l.schedule.closed) c.loop-place.lives ∙ c.loop-place.invariant.long in

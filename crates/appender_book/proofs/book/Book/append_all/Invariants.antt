@@ -7,6 +7,7 @@ invariant-loop-entry l = record {
   joined : l.self.entries ++ reverse l.items.items ≡ l.fn.self.entries ++ l.fn.entries;
   room : l.fn.self.spare + length l.items.items ≤ l.self.spare + length l.fn.entries;
   enough : length l.items.items ≤ l.self.spare;
+  hasher : l.self.hasher ≡ l.fn.self.hasher;
 }
 
 abbrev pub decreases-loop-entry : goal.decreases-loop-entry

@@ -2,9 +2,11 @@ use Rattle.std.proofs.Common.{◌≡◌, ◌≤◌, ◌+◌, ◌++◌, ◌∙◌
 use Rattle.std.proofs.lemmas.Int.{to_z-of_z}
 use Rattle.report_samples.specs.declared.entries.Entry.{Entry}
 use Rattle.scrape_loop.specs.Entries.{entries_of}
-use Rattle.scrape_loop.specs.Texts.{IsAtRest}
-use Rattle.scrape_loop.specs.Tracked.{life_of, outcome_for}
+use Rattle.scrape_loop.specs.Texts.{AreRight, IsAtRest}
+use Rattle.scrape_loop.specs.Tracked.{LifeView, life_of, outcome_for}
 use Rattle.scrape_loop.proofs.CountLemmas.{reply_entries, reply_state}
+use Rattle.scrape_loop.proofs.FreshLemmas.{fresh_law, known_at}
+use Rattle.scrape_loop.proofs.RightLemmas.{reply_right}
 use Rattle.scrape_loop.proofs.TextLemmas.{turned_rests}
 use Rattle.scrape_loop.proofs.life_state.LifeState.count.Goals as goal
 
@@ -38,3 +40,32 @@ returns-in-Ok-clause-entries g c = c.in-Ok.ensures.entries ∙ ap (λ (es : List
 
 pub returns-in-Ok-clause-spare : goal.returns-in-Ok-clause-spare
 returns-in-Ok-clause-spare g c = subst (λ (es : List Entry). c.args.book.now.spare ≤ c.append.new.book.spare + length es) (entries g c) c.in-Ok.ensures.spare
+
+pub returns-in_err-scrape-clause-fresh : goal.returns-in_err-scrape-clause-fresh
+returns-in_err-scrape-clause-fresh g c = fresh_law c.args.self.now c.args.rules.now c.args.metric.now c.args.reply.now c.args.took
+
+pub returns-in_err-scrape-clause-known : goal.returns-in_err-scrape-clause-known
+returns-in_err-scrape-clause-known g c =
+    known_at c.args.self.now c.self.inside.cache c.seed.new.cache (ap (λ (v : LifeView). v.cache) c.self.view_is) c.self.invariant c.seed.ensures.same c.seed.ensures.kept
+    c.args.rules.now c.args.metric.now c.args.reply.now c.args.took
+
+pub returns-in-Err-clause-fresh : goal.returns-in-Err-clause-fresh
+returns-in-Err-clause-fresh g c = fresh_law c.args.self.now c.args.rules.now c.args.metric.now c.args.reply.now c.args.took
+
+pub returns-in-Err-clause-known : goal.returns-in-Err-clause-known
+returns-in-Err-clause-known g c =
+    known_at c.args.self.now c.self.inside.cache c.seed.new.cache (ap (λ (v : LifeView). v.cache) c.self.view_is) c.self.invariant c.seed.ensures.same c.seed.ensures.kept
+    c.args.rules.now c.args.metric.now c.args.reply.now c.args.took
+
+pub returns-in-Ok-clause-fresh : goal.returns-in-Ok-clause-fresh
+returns-in-Ok-clause-fresh g c = fresh_law c.args.self.now c.args.rules.now c.args.metric.now c.args.reply.now c.args.took
+
+pub returns-in-Ok-clause-known : goal.returns-in-Ok-clause-known
+returns-in-Ok-clause-known g c =
+    known_at c.args.self.now c.self.inside.cache c.seed.new.cache (ap (λ (v : LifeView). v.cache) c.self.view_is) c.self.invariant c.seed.ensures.same c.seed.ensures.kept
+    c.args.rules.now c.args.metric.now c.args.reply.now c.args.took
+
+pub returns-in-Ok-clause-right : goal.returns-in-Ok-clause-right
+returns-in-Ok-clause-right g c =
+    subst (λ (v : LifeView). AreRight c.args.rules.now.honor_labels c.args.metric.now v.target v.cache.texts) (sym (returns-in-Ok-clause-state g c))
+    (reply_right c.args.self.now c.args.rules.now c.args.metric.now c.args.reply.now c.args.took c.requires.right)
