@@ -1,12 +1,11 @@
-//! Lines that begin as a row of another body does.
+//! Lines that begin with a raw text that was met before.
 ghost use Rattle.std.specs.Prelude.{◌≡◌, ◌≤◌, ◌<◌, ◌+◌, ◌-◌, ◌^◌, length, take, slice_get, ℕ, IfOk, IfSome, MatchResult, Some, true};
 ghost use Rattle.expo_lexer.specs.Tokens.{blank_len};
 ghost use Rattle.expo_reader.specs.Faults.{FaultIs};
 ghost use Rattle.expo_reader.specs.Forms as spec;
-ghost use Rattle.expo_reader.specs.Like.{IsLike, IsRawText, raws};
+ghost use Rattle.expo_reader.specs.Like.{IsLike, IsRawText};
 ghost use Rattle.expo_reader.specs.Spans as seen;
 
-use crate::bodies::ReadBody;
 use crate::faults::Fault;
 use crate::labels::LentLabel;
 use crate::lines::behind;
@@ -14,25 +13,53 @@ use crate::samples::front_of;
 use crate::spans::{LineSpan, line_parts, parts_of};
 use std::alloc::Global;
 
-/// Which row of the other body is expected at the next line: the one behind the row that was found last. Nothing of what is read rests on it.
+/// Raw texts of sample lines, in the order in which a target showed them: those of another body, or those that its last good scrape left.
+/// Contracts see the list of them.
+pub trait RawTexts {
+    ghost use Rattle.std.specs.Prelude.{◌≡◌, ℕ, List, IfSome, Some, slice_get};
+    ghost use Rattle.expo_reader.specs.Like.{IsRawText};
+
+    ghost texts: { Self → List (List ℕ) };
+
+    /// The one at a place, counted from 0, if there is one.
+    fn text_at(&self, place: usize) -> Option<&[u8]>
+        ensures text { IfSome result (λ r. slice_get (texts self.now) place ≡ Some r.now) }
+        ensures raw { IfSome result (λ r. IsRawText r.now) };
+}
+
+/// No raw texts: of a target that showed none yet.
+#[derive(Clone, Copy, Debug)]
+pub struct NoTexts;
+
+impl RawTexts for NoTexts {
+    ghost use Rattle.std.specs.Prelude.{[]};
+
+    ghost texts = { λ _. [] };
+
+    fn text_at(&self, _place: usize) -> Option<&[u8]> {
+        None
+    }
+}
+
+/// Which text is expected at the next line: the one behind the text that was found last. Nothing of what is read rests on it.
 #[derive(Clone, Copy, Debug)]
 pub(crate) struct Expected {
     next: usize,
-    /// How many more rows may be looked at in vain: each row that is found pays for two.
+    /// How many more texts may be looked at in vain: each one that is found pays for two.
     looks: usize,
 }
 
-/// How many rows of the other body are looked at for a text that isn't the one expected.
+/// How many texts are looked at for one that isn't expected.
 const AHEAD: usize = 16;
 
 /// How many looks are in hand at most.
 const LOOKS: usize = 64;
 
-/// The most rows of the other body that have a place.
+/// The most texts that have a place.
 const PLACES: usize = 0xffff_ffff;
 
 impl Expected {
-    /// The first row.
+    /// The first text.
     pub(crate) fn first() -> Expected {
         Expected {
             next: 0,
@@ -40,7 +67,7 @@ impl Expected {
         }
     }
 
-    /// The row at a place was found, and the one behind it is expected next.
+    /// The text at a place was found, and the one behind it is expected next.
     fn met(&mut self, place: usize) -> u32
         requires { place < 2 ^ 32 - 1 }
         ensures { result ≡ place + 1 }
@@ -50,20 +77,20 @@ impl Expected {
         (place + 1) as u32
     }
 
-    /// No row was found after so many looks.
+    /// None was found after so many looks.
     fn missed(&mut self, looks: usize) {
         self.looks = self.looks.saturating_sub(looks);
     }
 }
 
-/// The raw text of the row at a place, if there is one.
-fn raw_at(like: &ReadBody, place: usize) -> Option<&[u8]>
-    ensures text { IfSome result (λ r. slice_get (raws like.now.rows) place ≡ Some r.now) }
+/// The text at a place, if there is one.
+fn raw_at<T: RawTexts>(like: &T, place: usize) -> Option<&[u8]>
+    ensures text { IfSome result (λ r. slice_get (T.texts like.now) place ≡ Some r.now) }
     ensures raw { IfSome result (λ r. IsRawText r.now) }
     ensures near { IfSome result (λ _. place < 2 ^ 32 - 1) }
 {
-    if place < like.len().min(PLACES) {
-        Some(like.row(place).raw())
+    if place < PLACES {
+        like.text_at(place)
     } else {
         None
     }
@@ -94,18 +121,19 @@ fn known_parts(text: &[u8], raw: &[u8]) -> Option<LineSpan>
     }
 }
 
-/// Whether the row at a place has a raw text.
-fn has_raw(like: &ReadBody, place: usize, raw: &[u8]) -> bool
-    requires { place < length like.now.rows }
-    ensures { result ≡ true → slice_get (raws like.now.rows) place ≡ Some raw.now }
+/// Whether a text is the one at a place.
+fn has_raw<T: RawTexts>(like: &T, place: usize, raw: &[u8]) -> bool
+    ensures { result ≡ true → slice_get (T.texts like.now) place ≡ Some raw.now }
 {
-    like.row(place).raw() == raw
+    match like.text_at(place) {
+        Some(text) => text == raw,
+        None => false,
+    }
 }
 
-/// The first of some rows that has a raw text, from a place on.
-fn place_from(like: &ReadBody, first: usize, end: usize, raw: &[u8]) -> Option<usize>
-    requires { end ≤ length like.now.rows }
-    ensures text { IfSome result (λ k. slice_get (raws like.now.rows) k ≡ Some raw.now) }
+/// The first place from one on, and before another, that has a text.
+fn place_from<T: RawTexts>(like: &T, first: usize, end: usize, raw: &[u8]) -> Option<usize>
+    ensures text { IfSome result (λ k. slice_get (T.texts like.now) k ≡ Some raw.now) }
     ensures within { IfSome result (λ k. k < end) }
 {
     for place in first..end {
@@ -116,16 +144,12 @@ fn place_from(like: &ReadBody, first: usize, end: usize, raw: &[u8]) -> Option<u
     None
 }
 
-/// Which of the next rows has a raw text: its place and one, or 0 for none.
-fn found_ahead(like: &ReadBody, expected: &mut Expected, raw: &[u8]) -> u32
-    ensures { IsLike like.now.rows result raw.now }
+/// Which of the next texts this is: its place and one, or 0 for none.
+fn found_ahead<T: RawTexts>(like: &T, expected: &mut Expected, raw: &[u8]) -> u32
+    ensures { IsLike (T.texts like.now) result raw.now }
 {
     let looks = expected.looks.min(AHEAD);
-    let end = expected
-        .next
-        .saturating_add(looks)
-        .min(like.len())
-        .min(PLACES);
+    let end = expected.next.saturating_add(looks).min(PLACES);
     match place_from(like, expected.next, end, raw) {
         Some(place) => expected.met(place),
         None => {
@@ -135,25 +159,29 @@ fn found_ahead(like: &ReadBody, expected: &mut Expected, raw: &[u8]) -> u32
     }
 }
 
-/// Where the parts of a line stand that begins with the raw text that is expected, and the place of that row and one.
-fn expected_parts(text: &[u8], like: &ReadBody, expected: &mut Expected) -> Option<(LineSpan, u32)>
+/// Where the parts of a line stand that begins with the text that is expected, and the place of that and one.
+fn expected_parts<T: RawTexts>(
+    text: &[u8],
+    like: &T,
+    expected: &mut Expected,
+) -> Option<(LineSpan, u32)>
     requires bare { blank_len text.now ≡ 0 }
     requires few { length text.now < 2 ^ 32 }
     ensures said { IfSome result (λ p. (number : ℕ) → spec.sample_in number text.now ≡ Some (seen.row_at number text.now p.0)) }
     ensures inside { IfSome result (λ p. seen.IsInside (length text.now) p.0) }
-    ensures like { IfSome result (λ p. IsLike like.now.rows p.1 (take p.0.raw_len text.now)) }
+    ensures like { IfSome result (λ p. IsLike (T.texts like.now) p.1 (take p.0.raw_len text.now)) }
 {
     let raw = raw_at(like, expected.next)?;
     let parts = known_parts(text, raw)?;
     Some((parts, expected.met(expected.next)))
 }
 
-/// Where the parts of a sample line stand, and the place of a row of the other body with its raw text, and one, or 0: the row that is expected, or
+/// Where the parts of a sample line stand, and the place of its raw text among those met before, and one, or 0: the text that is expected, or
 /// one of the next.
-pub(crate) fn like_parts<'b>(
+pub(crate) fn like_parts<'b, T: RawTexts>(
     alloc: Global,
     line: &'b [u8],
-    like: &ReadBody,
+    like: &T,
     expected: &mut Expected,
     labels: &mut Vec<LentLabel<'b>>,
 ) -> Result<(LineSpan, u32), Fault>
@@ -161,7 +189,7 @@ pub(crate) fn like_parts<'b>(
     requires few { length line.now < 2 ^ 32 }
     ensures said { (number : ℕ) → MatchResult result (λ p. spec.sample_in number line.now ≡ Some (seen.row_at number line.now p.0)) (λ f. FaultIs f (spec.sample_in number line.now)) }
     ensures inside { IfOk result (λ p. seen.IsInside (length line.now) p.0) }
-    ensures like { IfOk result (λ p. IsLike like.now.rows p.1 (take p.0.raw_len line.now)) }
+    ensures like { IfOk result (λ p. IsLike (T.texts like.now) p.1 (take p.0.raw_len line.now)) }
 {
     if let Some(known) = expected_parts(line, like, expected) {
         return Ok(known);

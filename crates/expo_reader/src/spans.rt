@@ -9,10 +9,10 @@ ghost use Rattle.expo_reader.specs.Spans as seen;
 ghost use Rattle.expo_reader.specs.Texts.{word_in};
 ghost use Rattle.value_text.specs.Values.{is_value};
 
-use crate::bodies::{BodyCause, ReadBody};
+use crate::bodies::BodyCause;
 use crate::faults::Fault;
 use crate::labels::{LentLabel, labels_in};
-use crate::like::{Expected, like_parts};
+use crate::like::{Expected, RawTexts, like_parts};
 use crate::lines::{behind, line_end, metric_in};
 use crate::parts::{Part, mark_in, quick_value, start_of, word_in};
 use crate::repeats::names_differ;
@@ -118,20 +118,20 @@ pub(crate) fn line_parts<'b>(
     parts_of(line, line.len() - rest.len(), rest)
 }
 
-/// What a line says: where its parts stand behind its blanks, nothing where it is skipped, or that it is faulty. Beside it the place of a row of
-/// the other body with the same raw text, and one, or 0.
-fn read_parts<'b>(
+/// What a line says: where its parts stand behind its blanks, nothing where it is skipped, or that it is faulty. Beside it the place of its raw
+/// text among those met before, and one, or 0.
+fn read_parts<'b, T: RawTexts>(
     alloc: Global,
     number: u64,
     line: &'b [u8],
-    like: &ReadBody,
+    like: &T,
     expected: &mut Expected,
     labels: &mut Vec<LentLabel<'b>>,
 ) -> Result<(Option<(usize, LineSpan)>, u32), BodyCause>
     requires { length line.now < 2 ^ 32 }
     ensures said { MatchResult result (λ r. line_reading number line.now ≡ Ok (seen.span_row number line.now r.0)) (λ c. CauseIs c (line_reading number line.now)) }
     ensures inside { IfOk result (λ r. IfSome r.0 (λ p. (p.0 ≤ length line.now) × seen.IsInside (length line.now - p.0) p.1)) }
-    ensures like { IfOk result (λ r. IfSome r.0 (λ p. IsLike like.now.rows r.1 (take p.1.raw_len (drop p.0 line.now)))) }
+    ensures like { IfOk result (λ r. IfSome r.0 (λ p. IsLike (T.texts like.now) r.1 (take p.1.raw_len (drop p.0 line.now)))) }
 {
     let Some(start) = start_of(line) else {
         return Ok((None, 0));
@@ -146,7 +146,7 @@ fn read_parts<'b>(
     }
 }
 
-/// Where the rows of a body stand, and the place of each among the rows of another body: that of one with the same raw text and one, or 0.
+/// Where the rows of a body stand, and the place of the raw text of each among those met before, and one, or 0.
 #[derive(Drop)]
 pub(crate) struct Spans {
     pub rows: Vec<RowSpan>,
@@ -171,7 +171,7 @@ impl Spans {
         })
     }
 
-    /// Adds the row of a line, if it has one: the line stands at a place and has that length. Its row has that place among those of another body.
+    /// Adds the row of a line, if it has one: the line stands at a place and has that length. Its raw text has that place among those met before.
     fn push(
         &mut self,
         number: u64,
@@ -201,13 +201,17 @@ impl Spans {
     }
 }
 
-/// Where the rows of a body stand, in the order of its lines. A line that begins with the raw text of the row of another body that is expected
-/// there isn't read as far as that goes.
-pub(crate) fn spans_of(alloc: Global, body: &[u8], like: &ReadBody) -> Result<Spans, BodyCause>
+/// Where the rows of a body stand, in the order of its lines. A line that begins with the raw text that is expected there isn't read as far as
+/// that goes.
+pub(crate) fn spans_of<T: RawTexts>(
+    alloc: Global,
+    body: &[u8],
+    like: &T,
+) -> Result<Spans, BodyCause>
     requires { length body.now < 2 ^ 32 }
     ensures read { IfOk result (λ s. reading body.now ≡ Ok (seen.rows_seen body.now s.rows.items)) }
     ensures within { IfOk result (λ s. All (seen.IsWithin (length body.now)) s.rows.items) }
-    ensures like { IfOk result (λ s. AreLike like.now.rows s.places.items (seen.rows_seen body.now s.rows.items)) }
+    ensures like { IfOk result (λ s. AreLike (T.texts like.now) s.places.items (seen.rows_seen body.now s.rows.items)) }
     ensures cause { IfErr result (λ c. CauseIs c (reading body.now)) }
 {
     let mut spans = Spans::new(alloc, body.len())?;

@@ -10,14 +10,26 @@ ghost use Rattle.scrape_core.specs.Kept as kept;
 use crate::state::State;
 use crate::taken::{Taken, without_runs};
 use appender_book::Book;
+use journal_text::Event;
 use label_set::{NoMemory, Steps};
 use life_roll::Moment;
-use scrape_loop::ReadReply;
+use scrape_loop::{LifeState, ReadReply};
 use scrape_machine::Answer;
 use scrape_machine::lives::Found;
 use scrape_steps::finishes::{count, finish, found};
 use std::alloc::Global;
 use std::sync::ledger::Ledger;
+
+/// The life of which a finish counts a scrape: by what it knows, the reply is read faster.
+pub fn life_of<'s>(state: &'s State, event: &Event) -> Option<&'s LifeState> {
+    let Event::Finish { ticket, .. } = event else {
+        return None;
+    };
+    match found(&state.lives, &state.started, *ticket) {
+        Found::Counts { life, moment: _ } => Some(&state.lives[life as usize].state),
+        Found::NotStarted | Found::Cancelled => None,
+    }
+}
 
 /// A finish that counts, of the scrape of this life that started at a moment.
 fn finish_counted<L: Ledger>(

@@ -10,6 +10,7 @@ ghost use Rattle.scrape_machine.specs.Machine as spec;
 ghost use Rattle.scrape_machine.specs.Runs as relabelling;
 
 use crate::events::take;
+use crate::finishes::life_of;
 use crate::read_events::ReadEvent;
 use crate::readers::{due_in, request_in, wake_in};
 use crate::state::State;
@@ -164,7 +165,8 @@ impl Core {
         ensures at_least { steps.old ≤ steps.new }
         ensures at_most { steps.new ≤ steps.old + relabelling.runs (spec.world_of self.old) event }
     {
-        let event = ReadEvent::of(alloc, event)?;
+        let life = life_of(&self.state, &event);
+        let event = ReadEvent::by(alloc, event, life)?;
         self.take_told(alloc, event, steps)
     }
 

@@ -6,7 +6,8 @@ ghost use Rattle.scrape_core.specs.Records.{is_finish};
 
 use journal_text::Event;
 use label_set::NoMemory;
-use scrape_loop::ReadReply;
+use outside::Reply;
+use scrape_loop::{LifeState, ReadReply};
 use std::alloc::Global;
 use std::marker::Model;
 
@@ -49,13 +50,24 @@ impl ReadEvent {
     pub fn of(alloc: Global, event: Event) -> Result<ReadEvent, NoMemory>
         ensures { IfOk result (λ e. e ≡ event) }
     {
+        ReadEvent::by(alloc, event, None)
+    }
+
+    /// The same, where the reply is read by what a life knows of raw texts, if there is one.
+    pub(crate) fn by(
+        alloc: Global,
+        event: Event,
+        life: Option<&LifeState>,
+    ) -> Result<ReadEvent, NoMemory>
+        ensures { IfOk result (λ e. e ≡ event) }
+    {
         match event {
             Event::Finish {
                 ticket,
                 took,
                 reply,
             } => {
-                let reply = ReadReply::of(alloc, reply)?;
+                let reply = read(alloc, reply, life)?;
                 Ok(ReadEvent::finish(ticket, took, reply))
             }
             Event::Load { moment, text } => Ok(other(Event::Load { moment, text })),
@@ -113,6 +125,16 @@ impl ReadEvent {
             },
             Told::Other(event) => event,
         }
+    }
+}
+
+/// A reply that is read, by what a life knows, if there is one.
+fn read(alloc: Global, reply: Reply, life: Option<&LifeState>) -> Result<ReadReply, NoMemory>
+    ensures { IfOk result (λ r. r ≡ reply) }
+{
+    match life {
+        None => ReadReply::of(alloc, reply),
+        Some(life) => life.read(alloc, reply),
     }
 }
 

@@ -1,6 +1,6 @@
 -- What the texts that a cache remembers have to do with the rows of a reply: those that weren't known are new, and after a good scrape just those
 -- of the rows are left.
-use Rattle.std.proofs.Common.{◌≡◌, ℕ, ℤ, zero, suc, ◌+◌, ◌-◌, ◌≤◌, Bool, true, false, cond, ◌&&◌, List, [], ◌∷◌, ◌++◌, length, map, take, Option, Some, None, is_some, refl, sym, ap, ap₂, subst, ◌∙◌, arith, append_assoc, append-nil}
+use Rattle.std.proofs.Common.{◌≡◌, ℕ, ℤ, zero, suc, ◌+◌, ◌-◌, ◌≤◌, Bool, true, false, cond, ◌&&◌, List, [], ◌∷◌, ◌++◌, length, map, take, Some, is_some, refl, sym, ap, ap₂, subst, ◌∙◌, arith, append_assoc, append-nil}
 use Rattle.std.specs.Prelude.{Result, Ok, Err, is_none, ◌||◌}
 use Rattle.std.specs.List.{list_any}
 use Rattle.std.specs.Str.{bytes_eq}
@@ -17,8 +17,7 @@ use Rattle.sample_rows.specs.declared.fault.ScrapeFault.{ScrapeFault}
 use Rattle.sample_rows.specs.declared.scrape.RowRules.{RowRules}
 use Rattle.series_cache.specs.Caches.{CacheView, failed, find, renewed, shown_of, stamped, turned, undone, unshown}
 use Rattle.series_cache.specs.Remembered.{fresh, marked}
-use Rattle.series_cache.specs.declared.known.Known.{Known}
-use Rattle.scrape_loop.specs.Texts.{Text, knows, with_put, with_stamp, noted, shown_row, shown_all, texts_by, IsAtRest}
+use Rattle.scrape_loop.specs.Texts.{Text, knows, with_put, noted, shown_row, shown_all, texts_by, IsAtRest}
 use Rattle.scrape_loop.specs.Tracked.{LifeView}
 use Rattle.scrape_loop.specs.Fresh.{texts_in, has_text, new_texts, new_in, row_texts, FreshLaw, KnownLaw}
 use Rattle.scrape_loop.proofs.TextLemmas.{KeepsFew, noted_known, put_undone, stamp_undone}
@@ -243,7 +242,7 @@ module _ (rules : RowRules) (metric : List RuleConf) (target : List Pair) where
   reply_undone c (Err f) few = refl
 
 -- the texts after a scrape that isn't good are those that are left where all is taken back
-failed_texts : (ts : List Text) → map (λ (t : Text). t.0) (map failed ts) ≡ map (λ (t : Text). t.0) (map unshown ts)
+pub failed_texts : (ts : List Text) → map (λ (t : Text). t.0) (map failed ts) ≡ map (λ (t : Text). t.0) (map unshown ts)
 failed_texts [] = refl
 failed_texts (t ∷ ts) = ap (λ xs. t.0 ∷ xs) (failed_texts ts)
 

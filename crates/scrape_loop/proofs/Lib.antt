@@ -7,3 +7,4 @@ pub mod ShownLemmas
 pub mod SettleLemmas
 pub mod TextLemmas
 pub mod SharingLemmas
+pub mod RawLemmas

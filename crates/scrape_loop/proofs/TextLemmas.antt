@@ -18,7 +18,7 @@ use Rattle.series_cache.specs.declared.known.Known.{Known}
 use Rattle.scrape_loop.specs.Texts.{Text, knows, with_put, with_stamp, noted, shown_row, shown_all, IsAtRest, IsRightFor, IsRight, AreRight}
 
 -- a text that was put is known
-put_known : (raw : List ℕ) (k : Known) (ts : List Text) → IsSome (look_up raw (ts ++ (raw, k) ∷ []))
+pub put_known : (raw : List ℕ) (k : Known) (ts : List Text) → IsSome (look_up raw (ts ++ (raw, k) ∷ []))
 put_known raw k [] = rw ((bytes_eq-Decides raw raw).1 refl) refl
 put_known raw k (t ∷ ts) = by (bytes_eq raw t.0) (put_known raw k ts)
   where
@@ -45,6 +45,23 @@ module _ (rules : RowRules) (metric : List RuleConf) (target : List Pair) where
       by : (b : Bool) → knows r.raw c ≡ b → IsSome (look_up r.raw (cond b c (with_put r.raw (row_series rules.honor_labels metric target r) c)).texts)
       by true e = known_looks r.raw c.texts e
       by false e = put_known r.raw (fresh (row_series rules.honor_labels metric target r)) c.texts
+
+  -- a text that isn't known is put
+  pub noted_new : (c : CacheView) (r : BodyRow) → look_up r.raw c.texts ≡ None → with_put r.raw (row_series rules.honor_labels metric target r) c ≡ noted rules metric target c r
+  noted_new c r none = by (find r.raw c.texts) none
+    where
+      by : (o : Option Known) → option_map (λ (j : Known). j.set) o ≡ None →
+          with_put r.raw (row_series rules.honor_labels metric target r) c ≡ cond (is_some o) c (with_put r.raw (row_series rules.honor_labels metric target r) c)
+      by None e = refl
+      by (Some j) e = absurd cc
+
+  -- and one that is known stays as it is
+  pub noted_old : (c : CacheView) (r : BodyRow) (set : Option (List Pair)) → Some set ≡ look_up r.raw c.texts → c ≡ noted rules metric target c r
+  noted_old c r set known = by (find r.raw c.texts) known
+    where
+      by : (o : Option Known) → Some set ≡ option_map (λ (j : Known). j.set) o → c ≡ cond (is_some o) c (with_put r.raw (row_series rules.honor_labels metric target r) c)
+      by (Some j) e = refl
+      by None e = absurd cc
 
   pub noted_known : (c : CacheView) (r : BodyRow) → is_some (find r.raw (noted rules metric target c r).texts) ≡ true
   noted_known c r = some_known (find r.raw (noted rules metric target c r).texts) (noted_looks c r)
@@ -75,6 +92,10 @@ take_unstamped raw tracked (suc k) (t ∷ ts) = ap₂ (λ (x : Text) (xs : List 
 
 pub stamp_undone : (raw : List ℕ) (tracked : Bool) (c : CacheView) → undone (with_stamp raw tracked c) ≡ undone c
 stamp_undone raw tracked c = ap (λ (ts : List Text). let v : CacheView = record { texts = ts; kept = c.kept } in v) (take_unstamped raw tracked c.kept c.texts)
+
+pub stamp_same : (raw : List ℕ) (tracked : Bool) (old new : CacheView) → new.texts ≡ map (stamped raw tracked) old.texts → new.kept ≡ old.kept → undone new ≡ undone old
+stamp_same raw tracked old new texts kept =
+    ap₂ (λ (ts : List Text) (k : ℕ). let v : CacheView = record { texts = ts; kept = k } in undone v) texts kept ∙ stamp_undone raw tracked old
 
 -- and a text that was put, which stands behind those that are kept
 abbrev pub KeepsFew : CacheView → Type 0

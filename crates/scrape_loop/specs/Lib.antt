@@ -5,3 +5,4 @@ pub mod Shown
 pub mod Entries
 pub mod Closings
 pub mod Fresh
+pub mod Raw

@@ -8,7 +8,7 @@ use Rattle.scrape_loop.specs.declared.read_reply.Page.TheVariants.{Rows, Faulty,
 
 -- a reply as it came
 abbrev pub reply_of : Page → Reply
-reply_of (Rows status body) = Body status body.bytes
+reply_of (Rows status body places) = Body status body.bytes
 reply_of (Faulty status bytes line) = Body status bytes
 reply_of (Passed reply) = reply
 
@@ -19,6 +19,6 @@ is_page _ = false
 
 -- what is kept beside the reply is what its body says
 abbrev pub IsRead : Page → Type 0
-IsRead (Rows status body) = reading body.bytes ≡ Ok body.rows
+IsRead (Rows status body places) = reading body.bytes ≡ Ok body.rows
 IsRead (Faulty status bytes line) = reading bytes ≡ Err line
 IsRead (Passed reply) = is_page reply ≡ false

@@ -6,7 +6,7 @@ ghost use Rattle.label_set.specs.SetText.{metric_label};
 ghost use Rattle.sample_rows.specs.Outcomes.{body_of, of_early, or_line, outcome};
 ghost use Rattle.scrape_loop.specs.Replies.{is_page};
 ghost use Rattle.sample_rows.specs.Rows.{row_series, left_from, samples_of, first_fault};
-ghost use Rattle.series_cache.specs.Caches.{find, look_up, told, turned, undone, was_sets};
+ghost use Rattle.series_cache.specs.Caches.{find, look_up, turned, undone, was_sets};
 ghost use Rattle.scrape_loop.specs.Shown.{Shows};
 ghost use Rattle.scrape_loop.specs.Tracked.{is_good};
 ghost use Rattle.scrape_loop.specs.Texts as spec;
@@ -18,7 +18,7 @@ use label_conflict::{LentTarget, labels_in};
 use label_set::{LabelSet, NoMemory, Steps};
 use relabel::{Rules, Runner};
 use sample_rows::{RowRules, Scrape, ScrapeFault, Sifted, failed, judged, own_stamp, row_set};
-use series_cache::{Look, SeriesCache};
+use series_cache::{SeriesCache, shared};
 use std::alloc::Global;
 use std::sync::ledger::Ledger;
 
@@ -35,27 +35,6 @@ pub struct Terms<'a> {
 pub struct Settled {
     pub scrape: Scrape,
     pub runs: usize,
-}
-
-/// A series once more, if there is one.
-fn shared(series: &Option<LabelSet>) -> Result<Option<LabelSet>, NoMemory>
-    ensures { IfOk result (λ s. s ≡ series.now) }
-{
-    match series {
-        None => Ok(None),
-        Some(set) => Ok(Some(set.copy()?)),
-    }
-}
-
-/// The series of a known text, or none where the text was dropped; nothing of a text that isn't known.
-fn known(look: Look<'_>) -> Result<Option<Option<LabelSet>>, NoMemory>
-    ensures { IfOk result (λ k. k ≡ told look.entry) }
-{
-    match look {
-        Look::Unknown => Ok(None),
-        Look::Dropped => Ok(Some(None)),
-        Look::Set(set) => Ok(Some(Some(set.copy()?))),
-    }
 }
 
 /// The series of a row whose text isn't known; the text is put with it. It takes one step.
@@ -88,8 +67,9 @@ fn put_series<L: Ledger>(
     Ok(series)
 }
 
-/// The series of a row, by its text where that is known. It takes a step for a text that isn't known.
-fn series_of<L: Ledger>(
+/// The series of a row whose text isn't known; the text is put with it, and shown. It takes one step.
+#[tactic(auto, using(crate::proofs::TextLemmas::stamp_undone))]
+fn put_shown<L: Ledger>(
     alloc: Global,
     rules: &RowRules,
     metric: &mut Runner<'_>,
@@ -100,29 +80,30 @@ fn series_of<L: Ledger>(
 ) -> Result<Option<LabelSet>, NoMemory>
     requires fit { IsFit row.now }
     requires nameless { bears target.now metric_label ≡ false }
-    requires right { IfSome (find row.now.raw cache.old.texts) (λ k. k.set ≡ row_series rules.now.honor_labels metric.old target.now row.now) }
+    requires unknown { look_up row.now.raw cache.old.texts ≡ None }
+    requires kept { cache.old.kept ≤ length cache.old.texts }
     ensures series { IfOk result (λ o. o ≡ row_series rules.now.honor_labels metric.old target.now row.now) }
     ensures same { metric.new ≡ metric.old }
-    ensures cache { OnOk result (cache.new ≡ spec.noted rules.now metric.old target.now cache.old row.now) }
+    ensures cache { OnOk result (cache.new ≡ spec.shown_row rules.now metric.old target.now cache.old row.now) }
     ensures undone { undone cache.new ≡ undone cache.old }
-    ensures steps { OnOk result (steps.new + length cache.old.texts ≡ steps.old + length cache.new.texts) }
+    ensures steps { OnOk result (steps.new ≡ steps.old + 1) }
     ensures at_least { steps.old ≤ steps.new }
-    ensures at_most { steps.new + length cache.old.texts ≤ steps.old + length (spec.noted rules.now metric.old target.now cache.old row.now).texts }
+    ensures at_most { steps.new ≤ steps.old + 1 }
 {
-    match known(cache.look(row.raw()))? {
-        Some(series) => Ok(series),
-        None => put_series(alloc, rules, metric, target, row, cache, steps),
-    }
+    let series = put_series(alloc, rules, metric, target, row, cache, steps)?;
+    cache.stamp(row.raw(), own_stamp(rules, row).is_none());
+    Ok(series)
 }
 
-/// The series of a row, whose text is shown.
-#[tactic(auto, using(crate::proofs::TextLemmas::stamp_undone))]
+/// The series of a row, whose text is shown: by the text where that is known, which is looked for at a place first. It takes a step for a text that
+/// isn't known.
 fn show_row<L: Ledger>(
     alloc: Global,
     rules: &RowRules,
     metric: &mut Runner<'_>,
     target: &LentTarget<'_, '_>,
     row: &SampleRow<'_>,
+    hint: usize,
     cache: &mut SeriesCache,
     steps: &mut Steps<L>,
 ) -> Result<Option<LabelSet>, NoMemory>
@@ -137,9 +118,18 @@ fn show_row<L: Ledger>(
     ensures at_least { steps.old ≤ steps.new }
     ensures at_most { steps.new + length cache.old.texts ≤ steps.old + length (spec.shown_row rules.now metric.old target.now cache.old row.now).texts }
 {
-    let series = series_of(alloc, rules, metric, target, row, cache, steps)?;
-    cache.stamp(row.raw(), own_stamp(rules, row).is_none());
-    Ok(series)
+    match cache.show(row.raw(), hint, own_stamp(rules, row).is_none())? {
+        Some(series) => Ok(series),
+        None => put_shown(alloc, rules, metric, target, row, cache, steps),
+    }
+}
+
+/// Where the text of a row is looked for first: the place that reading it told, counted from 1; 0 is none.
+fn hint_at(places: &[u32], row: usize) -> usize {
+    match places.get(row) {
+        Some(place) => *place as usize,
+        None => 0,
+    }
 }
 
 /// What is left of the rows of a body, whose texts are shown. It takes a step for each text that isn't known.
@@ -148,6 +138,7 @@ fn sift_known<L: Ledger>(
     alloc: Global,
     terms: &Terms<'_>,
     body: &ReadBody,
+    places: &[u32],
     cache: &mut SeriesCache,
     steps: &mut Steps<L>,
 ) -> Result<Sifted, NoMemory>
@@ -168,7 +159,9 @@ fn sift_known<L: Ledger>(
     let mut sifted = Sifted::new(alloc);
     for place in 0..body.len() {
         let row = body.row(place);
-        let series = show_row(alloc, terms.rules, &mut runner, &lent, &row, cache, steps)?;
+        let hint = hint_at(places, place);
+        let rules = terms.rules;
+        let series = show_row(alloc, rules, &mut runner, &lent, &row, hint, cache, steps)?;
         let number = place as u64;
         sifted.take(alloc, terms.rules, number, &row, series)?;
     }
@@ -194,8 +187,12 @@ fn of_page<L: Ledger>(
     ensures at_most { steps.new + length cache.old.texts
         ≤ steps.old + length (spec.texts_by terms.now.rules.now terms.now.metric.now terms.now.target.now cache.old (or_line (reading (body_of reply.now)))).texts }
 {
-    let body = match reply.page() {
-        Page::Rows { status: _, body } => body,
+    let (body, places) = match reply.page() {
+        Page::Rows {
+            status: _,
+            body,
+            places,
+        } => (body, places),
         Page::Faulty {
             status: _,
             bytes: _,
@@ -203,7 +200,7 @@ fn of_page<L: Ledger>(
         } => return Ok(failed(ScrapeFault::Line(*line))),
         Page::Passed(_) => unreachable!(),
     };
-    let sifted = sift_known(alloc, terms, body, cache, steps)?;
+    let sifted = sift_known(alloc, terms, body, places.as_slice(), cache, steps)?;
     Ok(judged(terms.rules, sifted, body.len() as u64))
 }
 

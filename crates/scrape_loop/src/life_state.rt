@@ -19,7 +19,9 @@ use crate::read_reply::ReadReply;
 use crate::scrape_parts::fault_in;
 use crate::target_labels::TargetLabels;
 use appender_book::Book;
+use expo_reader::RawTexts;
 use label_set::{LabelSet, NoMemory, Steps};
+use outside::Reply;
 use relabel::Rules;
 use report_samples::{Closing, EntryList};
 use sample_rows::{RowRules, Scrape, ScrapeFault};
@@ -48,6 +50,7 @@ pub struct LifeState {
 }
 
 impl Model for LifeState {
+    ghost use Rattle.scrape_loop.specs.Raw.{AreRaw};
     ghost use Rattle.scrape_loop.specs.Texts.{IsAtRest};
     ghost use Rattle.scrape_loop.specs.Tracked.{LifeView, life_of};
 
@@ -55,7 +58,18 @@ impl Model for LifeState {
 
     ghost view = { λ s. life_of s.past.life s.past.target s.cache s.past.scraped };
 
-    ghost invariant = { λ s. IsAtRest s.cache };
+    ghost invariant = { λ s. IsAtRest s.cache × AreRaw s.cache };
+}
+
+/// The raw texts of the last good scrape.
+impl RawTexts for LifeState {
+    ghost use Rattle.scrape_loop.specs.Fresh.{texts_in};
+
+    ghost texts = { λ s. texts_in s.cache };
+
+    fn text_at(&self, place: usize) -> Option<&[u8]> {
+        self.cache.text_at(place)
+    }
 }
 
 /// Lets a cache without texts begin its hashes as a book does, whose seed a target doesn't know.
@@ -127,6 +141,17 @@ impl LifeState {
     /// The hash of a raw text: once a scrape was counted, by the hasher of the book of the first one.
     pub fn hash_of(&self, raw: &[u8]) -> u64 {
         self.cache.hash_of(raw)
+    }
+
+    /// Reads a reply as `ReadReply::of` does, with the same result: a page that is like the last good one of the life is read several times as fast.
+    ///
+    /// # Errors
+    ///
+    /// Those of `ReadReply::of`.
+    pub fn read(&self, alloc: Global, reply: Reply) -> Result<ReadReply, NoMemory>
+        ensures { IfOk result (λ r. r ≡ reply) }
+    {
+        ReadReply::like(alloc, reply, self)
     }
 
     /// What the life leaves behind where it is closed at a moment, with its next scrape planned at another one and this scrape interval.

@@ -5,7 +5,7 @@ ghost use Rattle.outside.specs.declared.replies.Reply.TheVariants.{Body};
 ghost use Rattle.sample_rows.specs.Outcomes as spec;
 ghost use Rattle.scrape_loop.specs.Replies.{IsRead, is_page, reply_of};
 
-use expo_reader::{BodyCause, ReadBody, Unread, read_body};
+use expo_reader::{BodyCause, LikeBody, NoTexts, RawTexts, ReadBody, Unread, read_like};
 use label_set::{Blob, NoMemory};
 use outside::Reply;
 use sample_rows::{RowRules, ScrapeFault, early_fault, early_read_fault};
@@ -18,8 +18,17 @@ const OK_STATUS: u16 = 200;
 /// A reply with what its body says: its rows, or the number of its first faulty line.
 #[derive(Drop)]
 pub(crate) enum Page {
-    Rows { status: u16, body: ReadBody },
-    Faulty { status: u16, bytes: Blob, line: u64 },
+    /// Beside the rows stands for each where its raw text is looked for first, counted from 1; it may be wrong, and no contract rests on it.
+    Rows {
+        status: u16,
+        body: ReadBody,
+        places: Vec<u32>,
+    },
+    Faulty {
+        status: u16,
+        bytes: Blob,
+        line: u64,
+    },
     /// A reply of which no line is looked at: it has no body, or its status is another than 200.
     Passed(Reply),
 }
@@ -61,34 +70,43 @@ fn faulty(status: u16, unread: Unread) -> Result<Page, NoMemory>
 }
 
 /// Reads a body.
-fn page_of(alloc: Global, status: u16, bytes: Blob) -> Result<Page, NoMemory>
+fn page_of<T: RawTexts>(alloc: Global, status: u16, bytes: Blob, like: &T) -> Result<Page, NoMemory>
     ensures reply { IfOk result (λ p. reply_of p ≡ Body status bytes) }
     ensures read { IfOk result (λ p. IsRead p) }
 {
-    match read_body(alloc, bytes) {
-        Ok(body) => Ok(rows(status, body)),
+    match read_like(alloc, bytes, like) {
+        Ok(LikeBody { body, places }) => Ok(rows(status, body, places)),
         Err(unread) => faulty(status, unread),
     }
 }
 
 /// A body that is read.
-fn rows(status: u16, body: ReadBody) -> Page
+fn rows(status: u16, body: ReadBody, places: Vec<u32>) -> Page
     ensures reply { reply_of result ≡ Body status body.bytes }
     ensures read { IsRead result }
 {
     let _bytes = body.bytes();
-    Page::Rows { status, body }
+    Page::Rows {
+        status,
+        body,
+        places,
+    }
 }
 
 /// A body, read where its status is 200.
-fn looked_at(alloc: Global, status: u16, bytes: Blob) -> Result<Page, NoMemory>
+fn looked_at<T: RawTexts>(
+    alloc: Global,
+    status: u16,
+    bytes: Blob,
+    like: &T,
+) -> Result<Page, NoMemory>
     ensures reply { IfOk result (λ p. reply_of p ≡ Body status bytes) }
     ensures read { IfOk result (λ p. IsRead p) }
 {
     if status != OK_STATUS {
         return Ok(Page::Passed(Reply::Body { status, bytes }));
     }
-    page_of(alloc, status, bytes)
+    page_of(alloc, status, bytes, like)
 }
 
 impl ReadReply {
@@ -100,8 +118,23 @@ impl ReadReply {
     pub fn of(alloc: Global, reply: Reply) -> Result<ReadReply, NoMemory>
         ensures { IfOk result (λ r. r ≡ reply) }
     {
+        ReadReply::like(alloc, reply, &NoTexts)
+    }
+
+    /// The same, where a line that begins with a raw text that was met before isn't read as far as that goes.
+    ///
+    /// # Errors
+    ///
+    /// Those of `of`.
+    pub(crate) fn like<T: RawTexts>(
+        alloc: Global,
+        reply: Reply,
+        like: &T,
+    ) -> Result<ReadReply, NoMemory>
+        ensures { IfOk result (λ r. r ≡ reply) }
+    {
         let page = match reply {
-            Reply::Body { status, bytes } => looked_at(alloc, status, bytes)?,
+            Reply::Body { status, bytes } => looked_at(alloc, status, bytes, like)?,
             Reply::Lost => Page::Passed(Reply::Lost),
             Reply::Garbled => Page::Passed(Reply::Garbled),
             Reply::Unsent => Page::Passed(Reply::Unsent),
@@ -111,11 +144,11 @@ impl ReadReply {
     }
 
     /// The reply with a body that was read.
-    pub fn with(status: u16, body: ReadBody) -> ReadReply
+    pub fn with(alloc: Global, status: u16, body: ReadBody) -> ReadReply
         ensures { result ≡ Body status body.bytes }
     {
         ReadReply {
-            page: rows(status, body),
+            page: rows(status, body, Vec::new(alloc)),
         }
     }
 
@@ -124,7 +157,11 @@ impl ReadReply {
         ensures { result ≡ self }
     {
         match self.page {
-            Page::Rows { status, body } => Reply::Body {
+            Page::Rows {
+                status,
+                body,
+                places: _,
+            } => Reply::Body {
                 status,
                 bytes: body.into_bytes(),
             },
@@ -151,9 +188,11 @@ impl ReadReply {
         ensures { result ≡ spec.early_fault rules.now self.now took }
     {
         match &self.page {
-            Page::Rows { status, body } => {
-                early_read_fault(rules, *status, body.bytes().len(), took)
-            }
+            Page::Rows {
+                status,
+                body,
+                places: _,
+            } => { early_read_fault(rules, *status, body.bytes().len(), took) }
             Page::Faulty {
                 status,
                 bytes,

@@ -1,5 +1,6 @@
 //! The series cache of one life of a target.
-ghost use Rattle.std.specs.Prelude.{◌≡◌, ◌≤◌, ◌-◌, length, ℕ, List, Option, true, false, if◌then◌else◌, Some, IsSome, IfSome, ◌++◌, [], ◌∷◌, None, map, IfOk, OnOk, OnErr, IsTrue, ◌↔◌};
+ghost use Rattle.std.specs.Prelude.{◌≡◌, ◌≤◌, ◌-◌, length, slice_get, ℕ, List, Option, true, false, if◌then◌else◌, Some, IsSome, IfSome, IfNone, ◌++◌, [], ◌∷◌, None, map, IfOk, OnOk, OnErr, IsTrue, ◌↔◌};
+ghost use Rattle.std.specs.Map.{keys_of};
 ghost use Rattle.std.specs.Str.{bytes_eq};
 ghost use Rattle.label_set.specs.declared.texts.Pair.{Pair};
 ghost use Rattle.series_cache.specs.Caches as spec;
@@ -8,6 +9,7 @@ ghost use Rattle.series_cache.specs.Sets.{IsRising, gone, has, rising};
 ghost use Rattle.series_cache.specs.Added.{added_sets};
 
 use crate::added::added;
+use crate::known::shared;
 use crate::texts::{Expected, Texts};
 use crate::vanished::{vanished, were};
 use label_set::{LabelSet, NoMemory, SetList};
@@ -83,6 +85,13 @@ impl SeriesCache {
         self.texts.len() == 0
     }
 
+    /// The text at a place, counted from 0, in the order in which they came, if there is one.
+    pub fn text_at(&self, place: usize) -> Option<&[u8]>
+        ensures { IfSome result (λ t. slice_get (keys_of self.now.texts) place ≡ Some t.now) }
+    {
+        self.texts.text_at(place)
+    }
+
     /// What is known of a raw text. It takes no memory.
     pub fn look(&self, raw: &[u8]) -> Look<'_>
         ensures told { spec.told result ≡ spec.look_up raw.now self.now.texts }
@@ -130,6 +139,34 @@ impl SeriesCache {
         ensures tracked { IfSome (spec.look_up raw.now self.old.texts) (λ set. (x : List Pair) → has x (spec.now_sets self.new.texts) ≡ has x (spec.now_sets self.old.texts ++ spec.set_if tracked set)) }
     {
         self.expected = self.texts.show(raw, self.expected, tracked);
+    }
+
+    /// Notes that the running scrape shows a raw text, as `stamp` does, where it is known, and tells the set of its series, or that it has none.
+    /// Of a text that isn't known it tells nothing, and nothing changes. It is looked for once, first at a place, which is counted from 1; 0 is none.
+    ///
+    /// # Errors
+    ///
+    /// Only want of memory refuses; nothing changes then.
+    pub fn show(
+        &mut self,
+        raw: &[u8],
+        hint: usize,
+        tracked: bool,
+    ) -> Result<Option<Option<LabelSet>>, NoMemory>
+        ensures told { IfOk result (λ k. k ≡ spec.look_up raw.now self.old.texts) }
+        ensures texts { IfOk result (λ k. IfSome k (λ _. self.new.texts ≡ map (spec.stamped raw.now tracked) self.old.texts)) }
+        ensures unknown { IfOk result (λ k. IfNone k (self.new ≡ self.old)) }
+        ensures kept { self.new.kept ≡ self.old.kept }
+        ensures within { self.old.kept ≤ length self.old.texts }
+        ensures err { OnErr result (self.new ≡ self.old) }
+    {
+        let Some((place, known)) = self.texts.found(raw, hint, self.expected) else {
+            return Ok(None);
+        };
+        let series = shared(&known.set)?;
+        self.texts.stamp(place, tracked);
+        self.expected = self.expected.after(place);
+        Ok(Some(series))
     }
 
     /// The label sets that the last turn left as tracked and that no text shown as tracked since has, each once, in rising order: the series

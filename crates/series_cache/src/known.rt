@@ -1,8 +1,8 @@
 //! What is remembered of one raw text.
-ghost use Rattle.std.specs.Prelude.{◌≡◌};
+ghost use Rattle.std.specs.Prelude.{◌≡◌, IfOk};
 ghost use Rattle.series_cache.specs.Remembered as spec;
 
-use label_set::LabelSet;
+use label_set::{LabelSet, NoMemory};
 
 /// What is known of a raw text.
 #[derive(Drop, Debug)]
@@ -15,6 +15,20 @@ pub struct Known {
     pub tracked: bool,
     /// Whether it was tracked in the last turn.
     pub was_tracked: bool,
+}
+
+/// The set of a series once more, if it has one: it is shared.
+///
+/// # Errors
+///
+/// Only want of memory refuses.
+pub fn shared(series: &Option<LabelSet>) -> Result<Option<LabelSet>, NoMemory>
+    ensures { IfOk result (λ s. s ≡ series.now) }
+{
+    match series {
+        None => Ok(None),
+        Some(set) => Ok(Some(set.copy()?)),
+    }
 }
 
 impl Known {

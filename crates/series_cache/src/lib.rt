@@ -15,4 +15,4 @@ mod texts;
 mod vanished;
 
 pub use cache::{Look, SeriesCache};
-pub use known::Known;
+pub use known::{Known, shared};

@@ -3,7 +3,7 @@ ghost use Rattle.std.specs.Prelude.{◌≡◌, ℕ, List, Some, true, ◌<◌, �
 ghost use Rattle.series_cache.specs.Caches.{find, look_up, stamped, renewed, failed, unshown, shown_of};
 ghost use Rattle.series_cache.specs.Places.{HasAt, AreDistinct};
 ghost use Rattle.series_cache.specs.Remembered.{fresh, carried, unmarked};
-ghost use Rattle.std.specs.Map.{values_of};
+ghost use Rattle.std.specs.Map.{keys_of, values_of};
 
 use crate::known::Known;
 use crate::seeded::Seeded;
@@ -30,7 +30,7 @@ impl Expected {
     }
 
     /// What is expected after the text at a place.
-    fn after(self, place: usize) -> Expected {
+    pub(crate) fn after(self, place: usize) -> Expected {
         let behind = self.next.saturating_add(1);
         let other = if place == self.next || place == behind {
             self.other
@@ -94,6 +94,14 @@ impl Texts {
         &self.entries[place]
     }
 
+    /// The text at a place, if there is one.
+    pub(crate) fn text_at(&self, place: usize) -> Option<&[u8]>
+        ensures { IfSome result (λ t. slice_get (keys_of self.now) place ≡ Some t.now) }
+    {
+        let (text, _) = self.entries.get_index(place)?;
+        Some(text.as_slice())
+    }
+
     /// Whether a text is the one at a place.
     fn is_at(&self, place: usize, raw: &[u8]) -> bool
         ensures { IsTrue result → HasAt raw.now self.now place }
@@ -154,8 +162,38 @@ impl Texts {
         Some(known)
     }
 
+    /// The place of a text, where it is the one at this place, counted from 1, or one that is expected.
+    fn hinted_place(&self, raw: &[u8], hint: usize, expected: Expected) -> Option<usize>
+        ensures { IfSome result (λ place. HasAt raw.now self.now place) }
+    {
+        if hint > 0 && self.is_at(hint - 1, raw) {
+            return Some(hint - 1);
+        }
+        self.near_place(raw, expected)
+    }
+
+    /// The place of a text, with what is known of it. It is looked for at a place first, counted from 1, and where it is expected; no hash is made
+    /// where it stands there.
+    pub(crate) fn found(
+        &self,
+        raw: &[u8],
+        hint: usize,
+        expected: Expected,
+    ) -> Option<(usize, &Known)>
+        ensures place { IfSome result (λ f. HasAt raw.now self.now f.0) }
+        ensures known { IfSome result (λ f. find raw.now self.now ≡ Some f.1.now) }
+        ensures none { IfNone result (find raw.now self.now ≡ None) }
+    {
+        let place = match self.hinted_place(raw, hint, expected) {
+            Some(place) => place,
+            None => self.hashed_place(raw)?,
+        };
+        let known = self.known_at(place)?;
+        Some((place, known))
+    }
+
     /// Notes that the text at a place was shown.
-    fn stamp(&mut self, place: usize, tracked: bool)
+    pub(crate) fn stamp(&mut self, place: usize, tracked: bool)
         ensures stamped { (raw : List ℕ) → HasAt raw self.old place → self.new ≡ map (stamped raw tracked) self.old }
         ensures distinct { AreDistinct self.old }
     {

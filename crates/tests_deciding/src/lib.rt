@@ -29,7 +29,7 @@
 //! | `Book::hasher`, `LifeState::hash_of` | `scrapes::texts_are_hashed_with_the_seed_of_the_book` |
 //! | `laws_of_verdicts` | contract alone |
 //! | `LifeState::{new, count, target, scraped}` | `scrapes`; `scripts`, `texts` |
-//! | `ReadReply::{of, with, into_reply}` | `scrapes::a_reply_that_is_read_is_given_back`, `cores::readers` |
+//! | `ReadReply::{of, with, into_reply}`, `LifeState::read` | `scrapes::a_reply_that_is_read_is_given_back`, `cores::readers` |
 //! | `LifeState::{force, force_entries, closing, release}` | `scrapes::a_life_is_counted_forced_and_let_go`; `limits` |
 //!
 //! The core's own calls are shown by `tests_running`, with what runs over it.

@@ -164,17 +164,30 @@ fn texts_are_hashed_with_the_seed_of_the_book(rt: HostRuntime) -> Result<(), Fai
     Ok(())
 }
 
-/// The reply with that body, given back.
-fn given_back(alloc: Global) -> Result<bool, NoMemory> {
-    match page(alloc)?.into_reply() {
-        Reply::Body { status, bytes } => Ok(status == 200 && bytes.as_slice() == BODY),
-        _ => Ok(false),
+/// Whether a reply that is read gives these bytes back.
+fn gives(reply: ReadReply, body: &[u8]) -> bool {
+    match reply.into_reply() {
+        Reply::Body { status, bytes } => status == 200 && bytes.as_slice() == body,
+        _ => false,
     }
+}
+
+/// A page of which the first series is known to that life and the second isn't.
+const NEXT: &[u8] = b"x 3\nz 4\n";
+
+/// Whether the reply with it, read by what that life knows, gives it back.
+fn next_given(rt: &impl Abort, alloc: Global) -> Result<bool, NoMemory> {
+    let mut book = Book::new(alloc)?;
+    let life = after_page(rt, alloc, &mut book)?;
+    let bytes = Blob::from_slice(alloc, NEXT)?;
+    let reply = life.read(alloc, Reply::Body { status: 200, bytes })?;
+    Ok(gives(reply, NEXT))
 }
 
 #[test]
 fn a_reply_that_is_read_is_given_back(rt: HostRuntime) -> Result<(), Fail> {
-    assert!(rt; given_back(rt.alloc())?);
+    assert!(rt; gives(page(rt.alloc())?, BODY));
+    assert!(rt; next_given(&rt, rt.alloc())?);
     Ok(())
 }
 

@@ -7,7 +7,7 @@
 //! | `Lexer::{over, next}` | `tokens::tokens_have_kinds_and_spans` |
 //! | `expo_lexer::scan` | within `Lexer::next` |
 //! | `read_body`, `ReadBody::{len, row, rows, bytes, into_bytes}` | `bodies::a_body_is_read`; `scrape_cases::bodies` |
-//! | `read_like`, `LikeBody` | `bodies::a_body_like_another_is_read_as_alone` |
+//! | `read_like`, `LikeBody`, `RawTexts`, `NoTexts` | `bodies::a_body_like_another_is_read_as_alone` |
 //! | `SampleRow`, `LentLabel` | `bodies` |
 //! | `BodyReader::{new, feed, finish}` | `bodies::where_a_body_is_cut_makes_no_difference` |
 //! | `Unread`, `BodyCause` | `bodies::bytes_that_are_not_read_are_handed_back` |

@@ -118,6 +118,12 @@ impl Core {
         undisturbed();
         lives_apart();
         reloads();
-        self.take_read(alloc, ticket, took, ReadReply::with(status, body), steps)
+        self.take_read(
+            alloc,
+            ticket,
+            took,
+            ReadReply::with(alloc, status, body),
+            steps,
+        )
     }
 }

@@ -10,10 +10,10 @@ use Rattle.expo_reader.proofs.SpanLemmas.{seen-nil, seen-start, some-rest, insid
 use Rattle.expo_reader.proofs.spans.spans_of.Goals as goal
 
 pub loop-place-init : goal.loop-place-init
-loop-place-init c = record {
+loop-place-init g c = record {
   told = seen-start c.args.body.now c.in_ok-spans.spans.rows.items (rows_from 1 (lines_of c.args.body.now)) c.in_ok-spans.ensures.rows;
   within = rw c.in_ok-spans.ensures.rows (All-nil (IsWithin (length c.args.body.now)));
-  like = none-like c.args.like.now.rows c.in_ok-spans.spans.places.items (rows_seen c.args.body.now c.in_ok-spans.spans.rows.items) c.in_ok-spans.ensures.places
+  like = none-like (g.T.RawTexts.texts c.args.like.now) c.in_ok-spans.spans.places.items (rows_seen c.args.body.now c.in_ok-spans.spans.rows.items) c.in_ok-spans.ensures.places
       (ap (rows_seen c.args.body.now) c.in_ok-spans.ensures.rows ∙ seen-nil c.args.body.now);
   near = omega arith;
   few = omega arith;
@@ -21,7 +21,7 @@ loop-place-init c = record {
 
 pub returns-in-Err-clause-cause : goal.returns-in-Err-clause-cause
 unfolding reading
-returns-in-Err-clause-cause c =
+returns-in-Err-clause-cause g c =
     let body = c.args.body.now in
     let rest = c.behind-rest.result.now in
     let lt : c.loop-place.place < length body = grind (arith, nat_tests, c.loop-place-test.true) in
@@ -31,7 +31,7 @@ returns-in-Err-clause-cause c =
     (ap (λ b. joined (rows_seen body c.loop-place.spans.rows.items) (rows_from c.loop-place.number (lines_of b))) c.behind-rest.ensures ∙ c.loop-place.invariant.told)
 
 pub loop-place-preserved : goal.loop-place-preserved
-loop-place-preserved c =
+loop-place-preserved g c =
     let body = c.args.body.now in
     let rest = c.behind-rest.result.now in
     let place = c.loop-place.place in
@@ -45,7 +45,7 @@ loop-place-preserved c =
       told = line-seen body rest c.loop-place.spans.rows.items c.push.new.self.rows.items c.loop-place.number place end c.in-Ok.parts c.behind-rest.ensures lt c.line_end-end.ensures.value
           (start-end end c.in-Ok.parts inside) new c.in-Ok.ensures.said _ c.loop-place.invariant.told;
       within = rw new (within-push body c.loop-place.spans.rows.items c.loop-place.number place end c.in-Ok.parts room inside c.loop-place.invariant.within);
-      like = like-seen c.args.like.now.rows body rest c.loop-place.spans.rows.items c.push.new.self.rows.items c.loop-place.number place end c.in-Ok.found c.in-Ok.parts c.behind-rest.ensures
+      like = like-seen (g.T.RawTexts.texts c.args.like.now) body rest c.loop-place.spans.rows.items c.push.new.self.rows.items c.loop-place.number place end c.in-Ok.found c.in-Ok.parts c.behind-rest.ensures
           (start-end end c.in-Ok.parts inside) new c.loop-place.spans.places.items c.push.new.self.places.items c.in_ok-push-in-Ok.ensures.places c.in-Ok.ensures.like c.loop-place.invariant.like;
       near = omega (arith, room);
       few = omega (arith, c.loop-place.invariant.few);
@@ -53,7 +53,7 @@ loop-place-preserved c =
 
 pub returns-clause-read : goal.returns-clause-read
 unfolding reading
-returns-clause-read c =
+returns-clause-read g c =
     let body = c.args.body.now in
     let place = c.loop-place.place in
     let zero_long : length (drop place body) ≡ 0 = grind (arith, nat_tests, c.loop-place-test.false, length-drop place body) in

@@ -1,4 +1,4 @@
-use Rattle.std.proofs.Common.{◌≡◌, ◌<◌, ◌≤◌, ◌+◌, List, Ok, ap, ap₂, arith, ◌∙◌, length, refl, sym, subst, subst₂}
+use Rattle.std.proofs.Common.{◌≡◌, ◌<◌, ◌+◌, List, Ok, ap, ap₂, arith, ◌∙◌, length, refl, sym, subst, subst₂}
 use Rattle.std.specs.Prelude.{map, IfSome}
 use Rattle.label_set.specs.Lent.{pair_of}
 use Rattle.label_set.specs.declared.texts.Pair.{Pair}

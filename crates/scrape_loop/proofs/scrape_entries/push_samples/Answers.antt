@@ -1,4 +1,4 @@
-use Rattle.std.proofs.Common.{◌≡◌, ◌∙◌, ◌++◌, ◌∷◌, [], ℤ, List, map, ap, append_assoc, sym, to_z, of_z, w64}
+use Rattle.std.proofs.Common.{◌≡◌, ◌∙◌, ◌++◌, ◌∷◌, [], List, map, ap, append_assoc, sym, to_z, of_z, w64}
 use Rattle.std.proofs.lemmas.List.{map-append}
 use Rattle.report_samples.specs.declared.entries.Entry.{Entry}
 use Rattle.scrape_loop.specs.Entries.{sample_entry}

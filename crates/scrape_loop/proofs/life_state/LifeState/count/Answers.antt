@@ -2,16 +2,16 @@ use Rattle.std.proofs.Common.{◌≡◌, ◌≤◌, ◌+◌, ◌++◌, ◌∙◌
 use Rattle.std.proofs.lemmas.Int.{to_z-of_z}
 use Rattle.report_samples.specs.declared.entries.Entry.{Entry}
 use Rattle.scrape_loop.specs.Entries.{entries_of}
+use Rattle.scrape_loop.specs.Fresh.{KnownLaw}
+use Rattle.scrape_loop.specs.Raw.{AreRaw}
 use Rattle.scrape_loop.specs.Texts.{AreRight, IsAtRest}
 use Rattle.scrape_loop.specs.Tracked.{LifeView, life_of, outcome_for}
 use Rattle.scrape_loop.proofs.CountLemmas.{reply_entries, reply_state}
 use Rattle.scrape_loop.proofs.FreshLemmas.{fresh_law, known_at}
+use Rattle.scrape_loop.proofs.RawLemmas.{reply_raw}
 use Rattle.scrape_loop.proofs.RightLemmas.{reply_right}
 use Rattle.scrape_loop.proofs.TextLemmas.{turned_rests}
 use Rattle.scrape_loop.proofs.life_state.LifeState.count.Goals as goal
-
-pub invariant_of-self-in-Ok : goal.invariant_of-self-in-Ok
-invariant_of-self-in-Ok g c = subst IsAtRest (sym c.turn.ensures.turned) (turned_rests c.is_none.result c.shown_rows.new.cache)
 
 pub returns-in-Ok-clause-state : goal.returns-in-Ok-clause-state
 returns-in-Ok-clause-state g c =
@@ -21,6 +21,18 @@ returns-in-Ok-clause-state g c =
     reply_state p.life p.target c.set-target.result.now p.scraped c.self.inside.cache c.seed.new.cache c.shown_rows.new.cache c.args.rules.now c.args.metric.now c.args.reply.now
     c.args.took (to_z w64 (of_z w64 c.args.took)) s.field-0.scrape c.args.self.now c.self.view_is c.set-target.ensures.value c.seed.ensures.same took s.ensures.outcome s.ensures.undone c.is_none.result
     c.turn.new.self (sym (ap is_some c.fault_in-fault.ensures) ∙ c.is_none.ensures) s.ensures.shows s.ensures.cache c.turn.ensures.turned c.turn.ensures.was
+
+law : (g : _) (c : goal.After-turn g) → KnownLaw c.args.self.now c.args.rules.now c.args.metric.now c.args.reply.now c.args.took
+law g c =
+    known_at c.args.self.now c.self.inside.cache c.seed.new.cache (ap (λ (v : LifeView). v.cache) c.self.view_is) c.self.invariant.0 c.seed.ensures.same c.seed.ensures.kept
+    c.args.rules.now c.args.metric.now c.args.reply.now c.args.took
+
+pub invariant_of-self-in-Ok : goal.invariant_of-self-in-Ok
+invariant_of-self-in-Ok g c = (
+  subst IsAtRest (sym c.turn.ensures.turned) (turned_rests c.is_none.result c.shown_rows.new.cache),
+  subst (λ (v : LifeView). AreRaw v.cache) (sym (returns-in-Ok-clause-state g c))
+      (reply_raw c.args.self.now c.args.rules.now c.args.metric.now c.args.reply.now c.args.took (law g c) (subst (λ (v : LifeView). AreRaw v.cache) c.self.view_is c.self.invariant.1)),
+)
 
 entries : (g : _) (c : goal.After-turn g) →
     entries_of (life_of c.self.inside.past.life c.self.inside.past.target c.shown_rows.new.cache c.self.inside.past.scraped) c.in_ok-scrape.field-0.scrape (to_z w64 (of_z w64 c.args.moment))
@@ -46,7 +58,7 @@ returns-in_err-scrape-clause-fresh g c = fresh_law c.args.self.now c.args.rules.
 
 pub returns-in_err-scrape-clause-known : goal.returns-in_err-scrape-clause-known
 returns-in_err-scrape-clause-known g c =
-    known_at c.args.self.now c.self.inside.cache c.seed.new.cache (ap (λ (v : LifeView). v.cache) c.self.view_is) c.self.invariant c.seed.ensures.same c.seed.ensures.kept
+    known_at c.args.self.now c.self.inside.cache c.seed.new.cache (ap (λ (v : LifeView). v.cache) c.self.view_is) c.self.invariant.0 c.seed.ensures.same c.seed.ensures.kept
     c.args.rules.now c.args.metric.now c.args.reply.now c.args.took
 
 pub returns-in-Err-clause-fresh : goal.returns-in-Err-clause-fresh
@@ -54,16 +66,14 @@ returns-in-Err-clause-fresh g c = fresh_law c.args.self.now c.args.rules.now c.a
 
 pub returns-in-Err-clause-known : goal.returns-in-Err-clause-known
 returns-in-Err-clause-known g c =
-    known_at c.args.self.now c.self.inside.cache c.seed.new.cache (ap (λ (v : LifeView). v.cache) c.self.view_is) c.self.invariant c.seed.ensures.same c.seed.ensures.kept
+    known_at c.args.self.now c.self.inside.cache c.seed.new.cache (ap (λ (v : LifeView). v.cache) c.self.view_is) c.self.invariant.0 c.seed.ensures.same c.seed.ensures.kept
     c.args.rules.now c.args.metric.now c.args.reply.now c.args.took
 
 pub returns-in-Ok-clause-fresh : goal.returns-in-Ok-clause-fresh
 returns-in-Ok-clause-fresh g c = fresh_law c.args.self.now c.args.rules.now c.args.metric.now c.args.reply.now c.args.took
 
 pub returns-in-Ok-clause-known : goal.returns-in-Ok-clause-known
-returns-in-Ok-clause-known g c =
-    known_at c.args.self.now c.self.inside.cache c.seed.new.cache (ap (λ (v : LifeView). v.cache) c.self.view_is) c.self.invariant c.seed.ensures.same c.seed.ensures.kept
-    c.args.rules.now c.args.metric.now c.args.reply.now c.args.took
+returns-in-Ok-clause-known g c = law g c
 
 pub returns-in-Ok-clause-right : goal.returns-in-Ok-clause-right
 returns-in-Ok-clause-right g c =

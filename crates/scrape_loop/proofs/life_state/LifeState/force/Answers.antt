@@ -1,13 +1,18 @@
 use Rattle.std.proofs.Common.{subst, sym, false}
+use Rattle.scrape_loop.specs.Raw.{AreRaw}
 use Rattle.scrape_loop.specs.Texts.{AreRight, IsAtRest}
 use Rattle.scrape_loop.specs.Tracked.{LifeView}
 use Rattle.scrape_loop.proofs.CountLemmas.{force_state}
+use Rattle.scrape_loop.proofs.RawLemmas.{forced_raw}
 use Rattle.scrape_loop.proofs.RightLemmas.{forced_right}
 use Rattle.scrape_loop.proofs.TextLemmas.{turned_rests}
 use Rattle.scrape_loop.proofs.life_state.LifeState.force.Goals as goal
 
 pub invariant_of-self : goal.invariant_of-self
-invariant_of-self c = subst IsAtRest (sym c.turn.ensures.turned) (turned_rests false c.self.inside.cache)
+invariant_of-self c = (
+  subst IsAtRest (sym c.turn.ensures.turned) (turned_rests false c.self.inside.cache),
+  subst AreRaw (sym c.turn.ensures.turned) (forced_raw c.self.inside.cache c.self.invariant.0 c.self.invariant.1),
+)
 
 pub returns-clause-state : goal.returns-clause-state
 returns-clause-state c =

@@ -13,7 +13,7 @@ use Rattle.scrape_loop.proofs.SettleLemmas.{bad_shows}
 use Rattle.scrape_loop.proofs.life_state.LifeState.force_entries.Goals as goal
 
 pub entries_of-requires-clause-shows : goal.entries_of-requires-clause-shows
-entries_of-requires-clause-shows c = bad_shows c.self.inside.cache _ c.self.invariant refl
+entries_of-requires-clause-shows c = bad_shows c.self.inside.cache _ c.self.invariant.0 refl
 
 pub returns-clause-entries : goal.returns-clause-entries
 returns-clause-entries c =
