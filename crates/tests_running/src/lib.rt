@@ -1,4 +1,4 @@
-//! Tests of the core, over which a run is built, and of `http_fetch`, over links in memory, links that give one byte
+//! Tests of the core, over which a run is built, of the turns of `turn_lock`, and of `http_fetch`, over links in memory, links that give one byte
 //! a read, and connections of this machine: replies whole and cut at each place, servers that mean no good, and links that
 //! fail at a call. There is no code here. What shows each public call, by a test or by a file of cases:
 //!
@@ -17,6 +17,8 @@
 //! | `Core::{finish_read, take_read}`, `ReadEvent` | `cores::readers::a_body_that_is_read_is_counted` |
 //! | `Core::seeded` | `cores::a_core_hashes_with_its_seed` |
 //! | `Core::let_go`, `replay` | `scrape_cli`, whose every case goes through them |
+//! | `TurnLock::{new, take, give, add, rest, close}` | `turns::two_threads_take_a_thousand_turns_each`, `a_thread_follows_another` |
+//! | `TurnLock::wake` | none: it only wakes |
 //! | the calls of `jobs_in_force` and `scrape_steps` | `cores`, within `Core::step`; `reloads`, `updates` |
 #![tactic(auto)]
 
@@ -28,3 +30,5 @@ mod fetches;
 mod hostile;
 #[cfg(test)]
 mod replies;
+#[cfg(test)]
+mod turns;
