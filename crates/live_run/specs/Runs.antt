@@ -81,8 +81,8 @@ pub record Touched : Type 0 where
 abbrev pub touched : Use ShelfSeen → Use SinkSeen → Use SinkSeen → Use SinkSeen → Option (List ℕ) → Use (List FetchSeen) → Touched
 touched shelf out err trail control fetchers = record { shelf = shelf; out = out; err = err; trail = trail; control = control; fetchers = fetchers }
 
--- the journal of a run: it begins with the load of the file as it is, it is whole, and for some seats of its events the sweeps are those of the
--- ticker, the finishes of each worker those that its fetcher brought, and the rest are what control asked for
+-- the journal of a run: it begins with the load of the file as it is, each started scrape has its one finish, and for some seats of its events the
+-- ticker brought so many sweeps, the workers finishes of what their fetchers answered, and the caller loads and updates that control asked for
 pub record IsRunOf (end : RunEnd) (w : Wanted) (t : Touched) (es : List Event) : Type 0 where
   pub moment : ℤ
   pub text : List ℕ

@@ -156,7 +156,8 @@ fn handed_back<C, K, F>(status: u8, control: C, clock: K, fetchers: Vec<F>) -> F
 ///
 /// Where nothing began, control and fetchers come back as they were, and the clock gave one reading.
 ///
-/// `still` says of the other commands how they end, what they print, which status is due, and that no count falls; `live` says it of `run`.
+/// `still` says of the other commands how they end, what they print, which status is due, and that no count falls; `live` says of `run` what it
+/// prints and what its record is worth.
 /// `markers`, `closed_runs`, `report_markers` and `late` hold of every journal, so of the one whose book is printed.
 pub fn tool<
     W: Threads + Wait + Sync,

@@ -20,7 +20,7 @@ use Rattle.seat_notes.specs.declared.desk.View.{View}
 use Rattle.seat_notes.specs.Desks.{worker, IsPass, IsWorker, Agrees}
 use Rattle.run_lock.specs.Held.{pending, pending_from, events_of, event_in, events_in, is_end, any_end, IsTold, IsShown}
 use Rattle.run_lock.specs.Tasks.{IsOwn, IsSeat, IsTicked, IsSwept, is_sweep, finish_with}
-use Rattle.station.specs.Crews.{Answered, answered, finish_of, notes_of, Called, IsWorked, IsFinished, AllFinished, TellsCalls, AllTell, TellsSweeps, fresh_views, AreFresh}
+use Rattle.station.specs.Crews.{Answered, answered, finish_of, notes_of, Called, IsWorked, IsFinished, AllFinished, TellsCalls, AllTell, IsSweep, TellsSweeps, fresh_views, AreFresh}
 use Rattle.run_lock.specs.Held.{IsToldBy, any_over}
 use Rattle.station.specs.declared.ends.RunEnd.{RunEnd}
 use Rattle.station.specs.declared.ends.RunEnd.TheVariants.{NoMemory}
@@ -197,6 +197,21 @@ sweep_count (x ∷ xs) all =
     length-append (event_in x) (events_in xs)
     ∙ omega (arith, sweep_one x (All-head (λ (y : Note). is_sweep y ≡ true) x xs all), sweep_count xs (All-tail (λ (y : Note). is_sweep y ≡ true) x xs all))
 
+sweeps_in : (xs : List Note) → All (λ (x : Note). is_sweep x ≡ true) xs → All IsSweep (events_in xs)
+sweeps_in [] all = All-nil IsSweep
+sweeps_in (x ∷ xs) all =
+    by x (All-head (λ (y : Note). is_sweep y ≡ true) x xs all) (events_in xs) (sweeps_in xs (All-tail (λ (y : Note). is_sweep y ≡ true) x xs all))
+  where
+    by : (y : Note) → is_sweep y ≡ true → (es : List Event) → All IsSweep es → All IsSweep (event_in y ++ es)
+    by (Brought (Sweep m)) e es rest = All-cons IsSweep (Sweep m) es (m, refl) rest
+    by (Brought (Load m text)) e es rest = absurd cc
+    by (Brought (Targets m job file text)) e es rest = absurd cc
+    by (Brought (Tick m k)) e es rest = absurd cc
+    by (Brought (Finish k took r)) e es rest = absurd cc
+    by (Brought (Halt m)) e es rest = absurd cc
+    by (Took k) e es rest = absurd cc
+    by Ended e es rest = absurd cc
+
 -- the ticker's pass
 pub ticked_none : (v : View) → v ≡ worker 1 [] → IsTicked 0 v
 ticked_none v is = record { own = is ∙ ap (worker 1) (sym (ap (λ (u : View). u.mine) is)); many = ap (λ (u : View). length u.mine) is; sweeps = subst (All (λ (x : Note). is_sweep x ≡ true)) (sym (ap (λ (u : View). u.mine) is)) (All-nil (λ (x : Note). is_sweep x ≡ true)) }
@@ -222,7 +237,10 @@ pub sweeps_told : (turns : ℕ) (es : List Event) (seats : List ℕ) (v : View) 
 sweeps_told turns es seats v t told =
     let s : v.seat ≡ 1 = ap (λ (u : View). u.seat) t.own in
     let same : events_of 1 es seats ≡ events_in v.mine = ap (λ q. events_of q es seats) (sym s) ∙ told (omega (arith, s)) in
-    record { many = ap (λ (xs : List Event). length xs) same ∙ (sweep_count v.mine t.sweeps ∙ t.many) }
+    record {
+      many = ap (λ (xs : List Event). length xs) same ∙ (sweep_count v.mine t.sweeps ∙ t.many);
+      each = subst (All IsSweep) (sym same) (sweeps_in v.mine t.sweeps);
+    }
 
 pub and_parts : (a b : Bool) → (a && b) ≡ true → (a ≡ true) × (b ≡ true)
 and_parts true b h = (refl, h)

@@ -1,7 +1,8 @@
 -- What the workers of a run did, by the calls of their fetchers.
-use Rattle.std.specs.Prelude.{◌≡◌, ◌<◌, ◌≤◌, ℕ, zero, suc, ◌+◌, Bool, true, false, if◌then◌else◌, List, [], ◌∷◌, ◌++◌, length, map, All, Option, Some, IfSome}
+use Rattle.std.specs.Prelude.{◌≡◌, ◌<◌, ◌≤◌, ℕ, ℤ, zero, suc, ◌+◌, Bool, true, false, if◌then◌else◌, List, [], ◌∷◌, ◌++◌, length, map, All, Option, Some, IfSome}
 use Rattle.crossbeam_queue.specs.Passes.{Pass, view}
 use Rattle.journal_text.specs.declared.events.Event.{Event}
+use Rattle.journal_text.specs.declared.events.Event.TheVariants.{Sweep}
 use Rattle.outside.specs.declared.calls.Call.{Call}
 use Rattle.outside.specs.Fetches.{FetchSeen}
 use Rattle.seat_notes.specs.declared.desk.Note.{Note}
@@ -58,9 +59,14 @@ AllTell n es seats [] [] = Unit {0}
 AllTell n es seats (x ∷ xs) (y ∷ ys) = TellsCalls n es seats x y × AllTell (n + 1) es seats xs ys
 AllTell n es seats _ _ = ⊥
 
+-- an event is a sweep
+abbrev pub IsSweep : Event → Type 0
+IsSweep e = (m : ℤ) × (e ≡ Sweep m)
+
 -- the ticker brought so many events, each a sweep
 pub record TellsSweeps (turns : ℕ) (es : List Event) (seats : List ℕ) : Type 0 where
   pub many : length (events_of 1 es seats) ≡ turns
+  pub each : All IsSweep (events_of 1 es seats)
 
 -- fresh passes for so many workers
 abbrev pub fresh_views : ℕ → List View

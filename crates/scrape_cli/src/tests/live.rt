@@ -282,7 +282,7 @@ fn run_with_held_fetches(rt: HostRuntime) -> Result<(), Fail> {
 const LISTING: &str =
     r#"{"scrape_configs":[{"job_name":"j","file_sd_configs":[{"files":["f.json"]}],"static_configs":[{"targets":["a:1"]}]}]}"#;
 
-/// Control lines that succeed, and one for each way not to.
+/// Control lines that succeed, and one for each way not to but a file that is too long.
 const LINES: &str =
     "load c.json\nload bad.json\nload no.json\nx\ntargets j f.json\ntargets k f.json\ntargets j c.json";
 
