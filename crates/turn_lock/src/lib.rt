@@ -15,7 +15,8 @@
 //! - `close`: the journal begins with what each pass had seen, has of each number just the entries of its pass, and none of any other number;
 //! - `new` hands the value back where there is no memory. No other call takes any.
 //!
-//! Nothing is said of when a turn comes. `rest` sleeps until another pass brought an entry, and may return for no reason.
+//! Nothing is said of when a turn comes. `rest` sleeps until a pass calls `wake`, unless an entry came since its last turn, and may return for no
+//! reason: whoever brings what another one rests for wakes it.
 //! `Log` is the plainest value for such a lock, a list of items. Tests: `tests_running::turns`.
 #![tactic(auto)]
 

@@ -79,7 +79,4 @@ pub(crate) fn leave<T: Kept>(
     count(board, place, more);
     pass_on(board, place);
     board.wake_all(1);
-    if more > 0 {
-        board.wake_all(2);
-    }
 }
