@@ -1,5 +1,6 @@
--- The rule of the table under a turn lock, and what each step tells. Tickets are counted without end; the words of the table have them
--- modulo 2^64. A seat at the table knows a view: the numbers that it bears, what it has seen of the journal and which entries are its own.
+-- The rule of the table under a turn lock, and what each step tells. Tickets are counted without end; the words of the
+-- table have them modulo 2^64. A seat at the table knows a view: the numbers that it bears, what it has seen of the
+-- journal and which entries are its own.
 use Rattle.std.specs.Prelude.{◌≡◌, ◌≢◌, ℕ, ◌+◌, ◌%◌, ◌^◌, ◌<◌, ◌≤◌, List, [], ◌∷◌, ◌++◌, length, All, filter, drop, replicate, Option, Some, None, ◌==◌, MatchBool}
 use mathlib.Core.Option.{some}
 use mathlib.Core.List.{IsPrefix}
@@ -46,7 +47,8 @@ module _ {E : Type 0} where
   HasSeen log [] = ⊥
   HasSeen log (p ∷ ps) = p.seen ≡ log
 
-  -- a ticket lies from the served one up to those drawn. That of the turn is served, and its pass has seen the whole list
+  -- a ticket lies from the served one up to those drawn. That of the turn is served, and its pass has seen the whole
+  -- list
   abbrev pub Knows : ℕ → ℕ → List E → List (Part E) → Stage → Type 0
   Knows drawn served log ps Idle = Unit {0}
   Knows drawn served log ps (Waiting t) = (served ≤ t) × (t < drawn) × (0 < length ps)

@@ -44,7 +44,8 @@ impl<T: Kept> TurnLock<T> {
         leave(&self.table.shared, &mut pass.place, value, more);
     }
 
-    /// Sleeps until `wake`, where the journal is as long as it was when the pass gave the value back last. It may also return for no reason.
+    /// Sleeps until `wake`, where the journal is as long as it was when the pass gave the value back last.
+    /// It may also return for no reason.
     pub fn rest<W: Wait>(&self, rt: &W, pass: &Pass<T>) {
         let known = pass.counted % (1 << 32);
         self.table.shared.park(rt, 2, known as u32);

@@ -33,7 +33,8 @@ impl<I> Kept for Log<I> {
 }
 
 impl<I: Drop> TurnLock<Log<I>> {
-    /// Adds an item in a turn of the pass with this number, and wakes each pass that rests. False where memory runs out.
+    /// Adds an item in a turn of the pass with this number, and wakes each pass that rests.
+    /// False where memory runs out.
     pub fn add<W: Wait>(&self, rt: &W, pass: &mut Pass<Log<I>>, by: u64, item: I) -> bool
         requires lock { IsPassOf self.now pass.old }
         requires idle { IsIdle pass.old }

@@ -1,5 +1,7 @@
-//! The start of a lock: its value is brought in the first turn, under the number 0, and a pass is made for each number.
-ghost use Rattle.std.specs.Prelude.{◌≡◌, ◌≤◌, ◌<◌, ◌+◌, ◌-◌, ◌++◌, ◌∷◌, ℕ, [], map, length, replicate, drop, All, IfOk, IfErr};
+//! The start of a lock: its value is brought in the first turn, under the number 0, and a pass is made for each
+//! number.
+ghost use Rattle.std.specs.Prelude.{◌≡◌, ◌≤◌, ◌<◌, ◌+◌, ◌-◌, ◌++◌, ◌∷◌, ℕ, [], All, IfOk, IfErr};
+ghost use Rattle.std.specs.Prelude.{map, length, replicate, drop};
 ghost use Rattle.std.specs.Vec.{vec_capacity};
 ghost use Rattle.turn_lock.specs.declared.views.Stage.TheVariants.{Idle};
 ghost use Rattle.turn_lock.specs.Turns.{part, learned, grown, HasSeen};

@@ -1,5 +1,5 @@
-//! The steps at the table of atomic words, of which the lock is made: a ticket is drawn, looked for and passed on, entries are counted,
-//! and seats are split and joined.
+//! The steps at the table of atomic words, of which the lock is made: a ticket is drawn, looked for and passed on,
+//! entries are counted, and seats are split and joined.
 ghost use Rattle.std.specs.Prelude.{◌≡◌, ℕ, ◌<◌, ◌+◌, ◌%◌, ◌^◌, [], length};
 ghost use Rattle.turn_lock.specs.declared.views.Stage.TheVariants.{Idle, Waiting, Turn};
 ghost use Rattle.turn_lock.specs.Turns.{drew, looked, counted, passed, split_off, remainder, joined, spent, ticket_of, staged, grown, list_in};

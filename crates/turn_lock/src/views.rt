@@ -1,5 +1,6 @@
-//! What a turn lock keeps, what a pass knows of it, and the table of atomic words that the lock stands on. Word 0 of the table is how many
-//! tickets were drawn, word 1 which one is served, word 2 how many entries the journal has. Slot 0 holds the value while no pass has it.
+//! What a turn lock keeps, what a pass knows of it, and the table of atomic words that the lock stands on. Word 0 of the
+//! table is how many tickets were drawn, word 1 which one is served, word 2 how many entries the journal has. Slot 0
+//! holds the value while no pass has it.
 ghost use Rattle.std.specs.Prelude.{◌≡◌, ℕ, List, length};
 
 use atomic_table::{Seat, Shared, TableRule};
@@ -37,8 +38,8 @@ pub enum Stage {
     Turn(u64),
 }
 
-/// What a seat at the table knows: the part of its number, and those of the numbers that follow, where it bears them too.
-/// No value of it is made.
+/// What a seat at the table knows: the part of its number, and those of the numbers that follow, where it bears them
+/// too. No value of it is made.
 pub struct View<E> {
     pub number: u64,
     pub parts: LinkedList<Part<E>>,
