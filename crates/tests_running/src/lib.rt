@@ -1,6 +1,7 @@
-//! Tests of the core, over which a run is built, of the turns of `turn_lock`, and of `http_fetch`, over links in memory, links that give one byte
-//! a read, and connections of this machine: replies whole and cut at each place, servers that mean no good, and links that
-//! fail at a call. There is no code here. What shows each public call, by a test or by a file of cases:
+//! Tests of the core, over which a run is built, of the turns of `turn_lock`, and of `http_fetch`, over links in memory,
+//! links that give one byte a read, and connections of this machine: replies whole and cut at each place, servers that
+//! mean no good, and links that fail at a call. There is no code here. What shows each public call, by a test or by a
+//! file of cases:
 //!
 //! | public call | test |
 //! |---|---|
