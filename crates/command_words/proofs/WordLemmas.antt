@@ -11,8 +11,8 @@ use Rattle.clap.specs.declared.error.kind.ErrorKind.TheVariants.{OutOfMemory}
 use Rattle.clap.specs.declared.parser.matches.ArgMatches.{ArgMatches}
 use Rattle.clap.proofs.OnLiterals.{clap_on_literals}
 use Rattle.clap.proofs.WalkLemmas.{first_value-rows}
-use Rattle.command_words.specs.Arguments.{replay_app, check_app, synth_app, run_app, app_for, fault_in, rows_in, kept_id}
-use Rattle.command_words.specs.Words.{order_of, asked_in, order_by, file_in, file_asked, unless_refused, is_kept}
+use Rattle.command_words.specs.Arguments.{replay_app, check_app, synth_app, run_app, app_for, fault_in, rows_in}
+use Rattle.command_words.specs.Words.{order_of, asked_in, order_by, file_in, file_asked, unless_refused, is_given}
 use Rattle.command_words.specs.declared.words.Verb.{Verb}
 use Rattle.command_words.specs.declared.words.Verb.TheVariants.{Replay, Check, Synth, Run}
 use Rattle.command_words.specs.declared.words.Asked.{Asked}
@@ -80,12 +80,12 @@ module _ (command : Verb) (words : List Text) (app : App) (is : app ≡ app_for 
       ⊎_elim (λ memory. other memory) (λ among. subst (λ (ks : Kinds). IsAmong (kind_of e) ks) none among)
       (subst (λ (a : App). is_simple_and_free a ≡ true → HasKind (fault_of a words) e) is h (is_free command))
 
--- the flag and the file, as the matches have them
+-- a flag and the file, as the matches have them
 abbrev is_true : Option (List ℕ) → Bool
 is_true value = option_map_or (λ (v : List ℕ). bytes_eq v (codes "true")) value false
 
-pub kept_by : (m : ArgMatches) (value : Option (List ℕ)) → value ≡ first_value (found_of m) kept_id → is_true value ≡ is_kept (rows_of (found_of m))
-kept_by m value is = ap is_true (is ∙ first_value-rows (found_of m) kept_id)
+pub given_by : (id : Text) (m : ArgMatches) (value : Option (List ℕ)) → value ≡ first_value (found_of m) id → is_true value ≡ is_given id (rows_of (found_of m))
+given_by id m value is = ap is_true (is ∙ first_value-rows (found_of m) id)
 
 pub word_by : (id : Text) (m : ArgMatches) (value : Option (List ℕ)) → value ≡ first_value (found_of m) id → value ≡ first_of id (rows_of (found_of m))
 word_by id m value is = is ∙ first_value-rows (found_of m) id

@@ -10,6 +10,9 @@ use Rattle.command_words.specs.declared.words.Verb.TheVariants.{Replay, Check, S
 abbrev pub kept_id : Text
 kept_id = codes "kept"
 
+abbrev pub cut_id : Text
+cut_id = codes "cut"
+
 abbrev pub file_id : Text
 file_id = codes "file"
 
@@ -29,9 +32,9 @@ turns_id = codes "turns"
 abbrev pub turns_rule : Rule
 turns_rule = record (new_rule turns_id) { long = Some (codes "turns"); required = true }
 
--- `--kept`
-abbrev pub kept_rule : Rule
-kept_rule = record (new_rule kept_id) { long = Some (codes "kept"); action = Some SetTrue }
+-- a flag, as `--kept` and `--cut`
+abbrev pub flag_rule : Text → Rule
+flag_rule id = record (new_rule id) { long = Some id; action = Some SetTrue }
 
 -- a word that has to be there, as `FILE`
 abbrev pub word_rule : Text → Rule
@@ -41,9 +44,9 @@ word_rule id = record (new_rule id) { required = true }
 abbrev pub bare_app : Text → App
 bare_app name = let a = new_app name in record a { top = record a.top { disable_help_flag = true; disable_version_flag = true } }
 
--- `replay [--kept] FILE`
+-- `replay [--kept] [--cut] FILE`
 unfoldable pub replay_app : App
-replay_app = with_rule (with_rule (bare_app (codes "replay")) kept_rule) (word_rule file_id)
+replay_app = with_rule (with_rule (with_rule (bare_app (codes "replay")) (flag_rule kept_id)) (flag_rule cut_id)) (word_rule file_id)
 
 -- `check FILE`
 unfoldable pub check_app : App
@@ -55,7 +58,7 @@ synth_app = with_rule (with_rule (with_rule (bare_app (codes "synth")) (word_rul
 
 -- `run --turns N [--kept] FILE`
 unfoldable pub run_app : App
-run_app = with_rule (with_rule (with_rule (bare_app (codes "run")) turns_rule) kept_rule) (word_rule file_id)
+run_app = with_rule (with_rule (with_rule (bare_app (codes "run")) turns_rule) (flag_rule kept_id)) (word_rule file_id)
 
 abbrev pub app_for : Verb → App
 app_for Replay = replay_app

@@ -9,7 +9,7 @@ use Rattle.value_text.specs.Values.{digits}
 use Rattle.outside.specs.Sizes.{most_text_bytes}
 use Rattle.synth.specs.Scripts.{plan, most_targets, most_scrapes, most_scrapes_of_all}
 use Rattle.synth.specs.declared.scripts.Plan.{Plan}
-use Rattle.command_words.specs.Arguments.{kept_id, file_id, seed_id, targets_id, scrapes_id, turns_id, fault_in, rows_in}
+use Rattle.command_words.specs.Arguments.{kept_id, cut_id, file_id, seed_id, targets_id, scrapes_id, turns_id, fault_in, rows_in}
 use Rattle.command_words.specs.Askings.{Asking, asking, running}
 use Rattle.command_words.specs.declared.words.Verb.{Verb}
 use Rattle.command_words.specs.declared.words.Verb.TheVariants as verb
@@ -29,13 +29,17 @@ verb_named word =
     else if bytes_eq word (codes "run") then Some verb.Run
     else None
 
--- the flag was given: its value is then `true`
-abbrev pub is_kept : List Row → Bool
-is_kept rows = option_map_or (λ value. bytes_eq value (codes "true")) (first_of kept_id rows) false
+-- a flag was given: its value is then `true`
+abbrev pub is_given : Text → List Row → Bool
+is_given id rows = option_map_or (λ value. bytes_eq value (codes "true")) (first_of id rows) false
 
 -- a command over the file that was named
 abbrev pub asked_by_file : Command → List Row → Option Asked
-asked_by_file command rows = option_map (λ file. File (asking (is_kept rows) file command)) (first_of file_id rows)
+asked_by_file command rows = option_map (λ file. File (asking (is_given kept_id rows) file command)) (first_of file_id rows)
+
+-- a replay of the file that was named, as of a script that may have been cut where `--cut` was given
+abbrev pub replay_asked : List Row → Option Asked
+replay_asked rows = asked_by_file (Replay (is_given cut_id rows)) rows
 
 -- 1 to 10 digits
 abbrev pub is_number : List ℕ → Bool
@@ -72,10 +76,10 @@ workload_by rows = asked_by_numbers (number_in seed_id (2 ^ 32) rows) (number_in
 
 -- a command with the values that its arguments have
 abbrev pub order_by : Verb → List Row → Option Order
-order_by verb.Replay rows = option_map Still (asked_by_file Replay rows)
+order_by verb.Replay rows = option_map Still (replay_asked rows)
 order_by verb.Check rows = option_map Still (asked_by_file Check rows)
 order_by verb.Synth rows = option_map Still (workload_by rows)
-order_by verb.Run rows = order_by_turns (is_kept rows) (number_in turns_id 1000001 rows) (first_of file_id rows)
+order_by verb.Run rows = order_by_turns (is_given kept_id rows) (number_in turns_id 1000001 rows) (first_of file_id rows)
 
 -- nothing is asked for by words that are refused
 abbrev pub unless_refused : Kinds → Option Order → Option Order
@@ -116,5 +120,5 @@ OfFile P (Synth p) = ⊥
 
 -- a script is at most 256 MiB long, and a configuration as long as one may be
 abbrev pub limit_of : Command → ℕ
-limit_of Replay = 268435456
+limit_of (Replay cut) = 268435456
 limit_of Check = most_text_bytes

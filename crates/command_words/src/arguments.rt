@@ -33,14 +33,12 @@ impl From<AllocError> for WordsError {
     }
 }
 
-/// The flag `--kept`.
-fn kept_flag<'a>(alloc: Global) -> Arg<'a>
-    ensures rule { rule_of result ≡ grammar.kept_rule }
+/// A flag, as `--kept`.
+fn flag<'a>(alloc: Global, id: &'a str) -> Arg<'a>
+    ensures rule { rule_of result ≡ grammar.flag_rule id.now }
     ensures local { result.global ≡ false }
 {
-    Arg::new(alloc, "kept")
-        .long("kept")
-        .action(ArgAction::SetTrue)
+    Arg::new(alloc, id).long(id).action(ArgAction::SetTrue)
 }
 
 /// A word that has to be there.
@@ -60,12 +58,13 @@ fn bare<'a>(alloc: Global, name: &'a str) -> Grammar<'a>
         .disable_version_flag(true)
 }
 
-/// `replay [--kept] FILE`.
+/// `replay [--kept] [--cut] FILE`.
 fn replay_grammar<'a>(alloc: Global) -> Result<Grammar<'a>, AllocError>
     ensures { IfOk result (λ g. app_of g ≡ grammar.replay_app) }
 {
-    let with_kept = bare(alloc, "replay").arg(kept_flag(alloc))?;
-    let whole = with_kept.arg(word(alloc, "file"))?;
+    let with_kept = bare(alloc, "replay").arg(flag(alloc, "kept"))?;
+    let with_cut = with_kept.arg(flag(alloc, "cut"))?;
+    let whole = with_cut.arg(word(alloc, "file"))?;
     Ok(whole)
 }
 
@@ -93,7 +92,7 @@ fn run_grammar<'a>(alloc: Global) -> Result<Grammar<'a>, AllocError>
 {
     let turns = Arg::new(alloc, "turns").long("turns").required(true);
     let with_turns = bare(alloc, "run").arg(turns)?;
-    let with_kept = with_turns.arg(kept_flag(alloc))?;
+    let with_kept = with_turns.arg(flag(alloc, "kept"))?;
     let whole = with_kept.arg(word(alloc, "file"))?;
     Ok(whole)
 }
@@ -129,11 +128,11 @@ fn matches_in<'a>(
     }
 }
 
-/// Whether the flag was given: its value is then `true`.
-fn is_kept(matches: &ArgMatches<'_>) -> bool
-    ensures { result ≡ spec.is_kept (rows_of (found_of matches.now)) }
+/// Whether a flag was given: its value is then `true`.
+fn is_given(id: &str, matches: &ArgMatches<'_>) -> bool
+    ensures { result ≡ spec.is_given id.now (rows_of (found_of matches.now)) }
 {
-    match matches.get_str("kept") {
+    match matches.get_str(id) {
         Some(value) => value == "true",
         None => false,
     }
@@ -153,11 +152,19 @@ fn asked_by_file<'a>(command: Command, matches: &ArgMatches<'a>) -> Option<Asked
     match word_in("file", matches) {
         Some(file) => Some(Asked::File(OfFile {
             command,
-            kept: is_kept(matches),
+            kept: is_given("kept", matches),
             file,
         })),
         None => None,
     }
+}
+
+/// What `replay` is asked for.
+fn replay_asked<'a>(matches: &ArgMatches<'a>) -> Option<Asked<'a>>
+    ensures { result ≡ spec.replay_asked (rows_of (found_of matches.now)) }
+{
+    let cut = is_given("cut", matches);
+    asked_by_file(Command::Replay { cut }, matches)
 }
 
 /// The number that 1 to 10 digits spell, below a limit.
@@ -206,7 +213,7 @@ fn order_by_turns<'a>(matches: &ArgMatches<'a>) -> Option<Order<'a>>
 {
     let turns = number_in("turns", 1_000_001, matches);
     match (turns, word_in("file", matches)) {
-        (Some(turns), Some(file)) => Some(live_of(turns, is_kept(matches), file)),
+        (Some(turns), Some(file)) => Some(live_of(turns, is_given("kept", matches), file)),
         _ => None,
     }
 }
@@ -226,7 +233,7 @@ fn order_by<'a>(verb: Verb, matches: &ArgMatches<'a>) -> Option<Order<'a>>
     ensures { result ≡ spec.order_by verb (rows_of (found_of matches.now)) }
 {
     match verb {
-        Verb::Replay => still(asked_by_file(Command::Replay, matches)),
+        Verb::Replay => still(replay_asked(matches)),
         Verb::Check => still(asked_by_file(Command::Check, matches)),
         Verb::Synth => still(asked_by_numbers(matches)),
         Verb::Run => order_by_turns(matches),

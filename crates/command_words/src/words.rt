@@ -21,8 +21,8 @@ pub enum Verb {
 /// The commands over a file.
 #[derive(Clone, Copy, PartialEq, Eq, Debug)]
 pub enum Command {
-    /// Replay the script in a file.
-    Replay,
+    /// Replay the script in a file; of one that may have been cut, what it begins with.
+    Replay { cut: bool },
     /// Check the configuration in a file.
     Check,
 }
@@ -204,7 +204,7 @@ pub fn limit_of(command: Command) -> usize
     ensures { result ≡ spec.limit_of command }
 {
     match command {
-        Command::Replay => 268_435_456,
+        Command::Replay { .. } => 268_435_456,
         Command::Check => MOST_TEXT_BYTES as usize,
     }
 }

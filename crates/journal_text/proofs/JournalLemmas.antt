@@ -14,7 +14,8 @@ use Rattle.journal_text.specs.declared.faults.ScriptFault.{ScriptFault}
 use Rattle.journal_text.specs.Lines.{number, line_text, IsMoment}
 use Rattle.journal_text.specs.Events.{line_of, rest_of, spelling, first_line, events_text, journal_text, IsInLimits, HasNames, now_after, now_from, now_of, MayFollow, IsInOrderFrom, IsJournal, IsKept}
 use Rattle.journal_text.specs.EventReadings.{event_in}
-use Rattle.journal_text.specs.Faults.{BeginsLine, BeginsEvent, Fails, FailsAt, IsFault, IsFaultBy, SpellsNone, IsJournalOf, IsOnlyFault}
+use Rattle.journal_text.specs.Faults.{BeginsLine, BeginsEvent, EndsBy, Fails, FailsAt, IsFault, IsFaultBy, SpellsNone, IsJournalOf, IsOnlyFault}
+use Rattle.journal_text.specs.Fronts.{Begins}
 use Rattle.journal_text.proofs.EventLemmas.{event_in-text, Verdict, verdict}
 
 -- a line isn't empty
@@ -68,11 +69,6 @@ fails_as cause.Order now bytes (e, rest, limits, names, text, earlier) r is told
 pub event_in-fails : (c : ScriptCause) (now : ℕ) (bytes : List ℕ) → Fails c now bytes → event_in now bytes ≡ Err c
 event_in-fails c now bytes fails = fails_as c now bytes fails (event_in now bytes) refl (verdict now bytes)
 
--- how bytes go on behind whole events: not at all, or with what fails
-EndsBy : ℕ → List ℕ → Option ScriptCause → Type 0
-EndsBy now rest None = rest ≡ []
-EndsBy now rest (Some c) = (rest ≢ []) × Fails c now rest
-
 no_event : (now : ℕ) (rest more : List ℕ) (o : Option ScriptCause) (e : Event) → EndsBy now rest o → IsInLimits e → HasNames e → MayFollow now e → rest ≡ spelling e ++ more → ⊥
 unfolding EndsBy
 no_event now rest more None e ends limits names follows text = spelling_some e more (sym text ∙ ends)
@@ -116,10 +112,10 @@ first_of now e es a = record {
 }
 
 -- what a text's events and its end have in common with those of the same text
-record Same (es fs : List Event) (rest more : List ℕ) (o u : Option ScriptCause) : Type 0 where
-  events : es ≡ fs
-  rest_is : rest ≡ more
-  end : o ≡ u
+pub record Same (es fs : List Event) (rest more : List ℕ) (o u : Option ScriptCause) : Type 0 where
+  pub events : es ≡ fs
+  pub rest_is : rest ≡ more
+  pub end : o ≡ u
 
 same_ends : (now : ℕ) (es fs : List Event) (rest more : List ℕ) (o u : Option ScriptCause) → Keeps now es → Keeps now fs →
     EndsBy (now_from now es) rest o → EndsBy (now_from now fs) more u → events_text es ++ rest ≡ events_text fs ++ more → Same es fs rest more o u
@@ -149,7 +145,7 @@ kept : (es : List Event) → IsJournal es → Keeps 0 es
 kept es j = record { limits = j.limits; names = j.names; order = j.order }
 
 -- behind the first line
-same_texts : (es fs : List Event) (rest more : List ℕ) (o u : Option ScriptCause) → IsJournal es → IsJournal fs →
+pub same_texts : (es fs : List Event) (rest more : List ℕ) (o u : Option ScriptCause) → IsJournal es → IsJournal fs →
     EndsBy (now_of es) rest o → EndsBy (now_of fs) more u → journal_text es ++ rest ≡ journal_text fs ++ more → Same es fs rest more o u
 same_texts es fs rest more o u a b c d text =
     same_ends 0 es fs rest more o u (kept es a) (kept fs b) c d
@@ -161,6 +157,26 @@ pub one_journal : (es fs : List Event) → IsJournal es → IsJournal fs → jou
 unfolding EndsBy
 one_journal es fs a b text =
     let same = same_texts es fs [] [] None None a b refl refl (append-nil (journal_text es) ∙ text ∙ sym (append-nil (journal_text fs))) in same.events
+
+-- one whose text begins another's begins that journal
+begin_from : (now : ℕ) (es fs : List Event) (rest : List ℕ) → Keeps now es → Keeps now fs → events_text es ++ rest ≡ events_text fs → Begins es fs
+begin_from now [] fs rest a b text = (fs, refl)
+begin_from now (e ∷ es) [] rest a b text = absurd (spelling_some e (events_text es ++ rest) (sym (append_assoc (spelling e) (events_text es) rest) ∙ text))
+begin_from now (e ∷ es) (f ∷ fs) rest a b text =
+    let g = first_of now e es a in
+    let h = first_of now f fs b in
+    let whole : spelling e ++ (events_text es ++ rest) ≡ spelling f ++ events_text fs = sym (append_assoc (spelling e) (events_text es) rest) ∙ text in
+    let oks : ◌≡◌ {A = Result (Event × List ℕ) ScriptCause} (Ok (e, events_text es ++ rest)) (Ok (f, events_text fs)) =
+    sym (event_in-follows now e (events_text es ++ rest) g.limits g.names g.follows) ∙ ap (event_in now) whole ∙ event_in-follows now f (events_text fs) h.limits h.names h.follows in
+    let pairs : (e, events_text es ++ rest) ≡ (f, events_text fs) = same_ok {E = ScriptCause} (e, events_text es ++ rest) (f, events_text fs) oks in
+    let first : e ≡ f = ap (λ p. p.0) pairs in
+    let after = begin_from (now_after now e) es fs rest g.others (subst (λ x. Keeps (now_after now x) fs) (sym first) h.others) (ap (λ p. p.1) pairs) in
+    (after.0, ap₂ (λ (x : Event) (xs : List Event). x ∷ xs) (sym first) after.1)
+
+pub begin_alike : (es fs : List Event) (rest : List ℕ) → IsJournal es → IsJournal fs → journal_text es ++ rest ≡ journal_text fs → Begins es fs
+begin_alike es fs rest a b text =
+    begin_from 0 es fs rest (kept es a) (kept fs b)
+    (append_cancel_left first_line (events_text es ++ rest) (events_text fs) (sym (append_assoc first_line (events_text es) rest) ∙ text))
 
 -- and an event's spelling begins with that of no other
 pub stand_apart : (e f : Event) (rest : List ℕ) → IsInLimits e → HasNames e → IsInLimits f → HasNames f → spelling e ++ rest ≡ spelling f → (e ≡ f) × (rest ≡ [])

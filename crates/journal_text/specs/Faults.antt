@@ -1,5 +1,5 @@
 -- Where a text that is no journal's has its fault, by whole events, and what reading a text tells.
-use Rattle.std.specs.Prelude.{ℕ, ◌≡◌, ◌≢◌, ◌<◌, List, [], ◌++◌, length, Result, Err}
+use Rattle.std.specs.Prelude.{ℕ, ◌≡◌, ◌≢◌, ◌<◌, List, [], ◌++◌, length, Option, Some, None, Result, Err}
 use Rattle.journal_text.specs.declared.lines.Line.{Line}
 use Rattle.journal_text.specs.declared.events.Event.{Event}
 use Rattle.journal_text.specs.declared.faults.ScriptCause.{ScriptCause}
@@ -39,6 +39,11 @@ Fails Header now rest = ⊥
 Fails LineCause now rest = ¬ BeginsLine rest
 Fails Rest now rest = BeginsLine rest × (¬ BeginsEvent rest)
 Fails Order now rest = BeginsEarlier now rest
+
+-- how bytes go on behind whole events, where the last moment is `now`: not at all, or with what can't be an event, for this reason
+unfoldable pub EndsBy : ℕ → List ℕ → Option ScriptCause → Type 0
+EndsBy now rest None = rest ≡ []
+EndsBy now rest (Some c) = (rest ≢ []) × Fails c now rest
 
 -- the text doesn't begin with the first line, which is a fault at 0, or no event can begin behind a journal's text
 abbrev pub IsFaultBy : ScriptCause → List ℕ → ℕ → Type 0

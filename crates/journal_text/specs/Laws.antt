@@ -1,11 +1,16 @@
 -- Laws of the texts of journals.
 use Rattle.std.specs.Prelude.{◌≡◌, ℕ, List, [], ◌++◌}
 use Rattle.journal_text.specs.Events.{HasNames, IsInLimits, IsJournal, journal_text, spelling}
+use Rattle.journal_text.specs.Fronts.{Begins}
 use Rattle.journal_text.specs.declared.events.Event.{Event}
 
 -- no text is that of two journals
 abbrev pub SpellsOne : Type 0
 SpellsOne = (es fs : List Event) → IsJournal es → IsJournal fs → journal_text es ≡ journal_text fs → es ≡ fs
+
+-- a journal whose text begins that of another begins that journal
+abbrev pub BeginAlike : Type 0
+BeginAlike = (es fs : List Event) (rest : List ℕ) → IsJournal es → IsJournal fs → journal_text es ++ rest ≡ journal_text fs → Begins es fs
 
 -- an event's spelling begins with that of no other event, and is no longer than its own
 abbrev pub StandApart : Type 0

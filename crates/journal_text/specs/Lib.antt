@@ -4,4 +4,5 @@ pub mod NumberReadings
 pub mod LineReadings
 pub mod EventReadings
 pub mod Faults
+pub mod Fronts
 pub mod Laws

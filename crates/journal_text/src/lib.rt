@@ -15,5 +15,5 @@ mod writing;
 pub use events::Event;
 pub use faults::{ScriptCause, ScriptError, ScriptFault};
 pub use journal::Journal;
-pub use reading::read_journal;
+pub use reading::{Front, read_front, read_journal};
 pub use writing::{texts_tell_apart, write_journal};

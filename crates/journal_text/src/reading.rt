@@ -6,6 +6,7 @@ ghost use Rattle.journal_text.specs.EventReadings.{content_after, content_len, e
 ghost use Rattle.journal_text.specs.declared.events.Event.TheVariants.{Finish};
 ghost use Rattle.journal_text.specs.declared.faults.ScriptError.TheVariants.{Bad};
 ghost use Rattle.journal_text.specs.Faults.{IsJournalOf, Refuses, StopsFor};
+ghost use Rattle.journal_text.specs.Fronts.{IsFrontOf, IsWrong, LacksHeader};
 
 use crate::events::Event;
 use crate::faults::{ScriptCause, ScriptError, ScriptFault};
@@ -156,10 +157,19 @@ fn next_event(
     Ok((event, more))
 }
 
-/// The journal that a text spells.
-pub fn read_journal(alloc: Global, bytes: &[u8]) -> Result<Journal, ScriptError>
-    ensures read { IfOk result (λ j. IsJournalOf bytes.now j.events) }
-    ensures refused { IfErr result (λ e. Refuses bytes.now e) }
+/// What a text begins with: the journal of its whole events, what is left of it, and the fault that stands there.
+#[derive(Drop)]
+struct Beginning<'a> {
+    journal: Journal,
+    rest: &'a [u8],
+    fault: Option<ScriptFault>,
+}
+
+/// Reads events to the end of a text, or to the first that isn't read.
+fn read_events(alloc: Global, bytes: &[u8]) -> Result<Beginning<'_>, ScriptError>
+    ensures front { IfOk result (λ b. IsFrontOf bytes.now b.journal.events (length b.rest.now)) }
+    ensures fault { IfOk result (λ b. IsWrong bytes.now b.journal.events b.fault) }
+    ensures refused { IfErr result (λ e. LacksHeader bytes.now e) }
 {
     let Some(mut rest) = bytes.strip_prefix(FIRST_LINE) else {
         return Err(fault(0, ScriptCause::Header));
@@ -168,7 +178,15 @@ pub fn read_journal(alloc: Global, bytes: &[u8]) -> Result<Journal, ScriptError>
     while !rest.is_empty() {
         let offset = (bytes.len() - rest.len()) as u64;
         match next_event(alloc, journal.last_moment(), offset, rest) {
-            Err(error) => return Err(error),
+            Err(ScriptError::NoMemory) => return Err(ScriptError::NoMemory),
+            Err(ScriptError::Bad(fault)) => {
+                let fault = Some(fault);
+                return Ok(Beginning {
+                    journal,
+                    rest,
+                    fault,
+                });
+            }
             Ok((event, more)) => {
                 journal.reserve(1)?;
                 journal.push(event);
@@ -176,5 +194,47 @@ pub fn read_journal(alloc: Global, bytes: &[u8]) -> Result<Journal, ScriptError>
             }
         }
     }
-    Ok(journal)
+    let fault = None;
+    Ok(Beginning {
+        journal,
+        rest,
+        fault,
+    })
+}
+
+/// The journal that a text spells.
+pub fn read_journal(alloc: Global, bytes: &[u8]) -> Result<Journal, ScriptError>
+    ensures read { IfOk result (λ j. IsJournalOf bytes.now j.events) }
+    ensures refused { IfErr result (λ e. Refuses bytes.now e) }
+{
+    match read_events(alloc, bytes) {
+        Err(error) => Err(error),
+        Ok(Beginning { journal, fault, .. }) => match fault {
+            None => Ok(journal),
+            Some(fault) => Err(ScriptError::Bad(fault)),
+        },
+    }
+}
+
+/// The front of a text: the journal of the events before the first that isn't read.
+#[derive(Drop, Debug)]
+pub struct Front {
+    pub journal: Journal,
+    /// How many bytes of the text stand behind these events.
+    pub rest: u64,
+}
+
+/// The front of a text that was cut, or that goes wrong somewhere. Only a text that doesn't begin with the first line of a journal has none:
+/// its fault is `Header` at 0.
+pub fn read_front(alloc: Global, bytes: &[u8]) -> Result<Front, ScriptError>
+    ensures front { IfOk result (λ f. IsFrontOf bytes.now f.journal.events f.rest) }
+    ensures refused { IfErr result (λ e. LacksHeader bytes.now e) }
+{
+    match read_events(alloc, bytes) {
+        Err(error) => Err(error),
+        Ok(Beginning { journal, rest, .. }) => {
+            let rest = rest.len() as u64;
+            Ok(Front { journal, rest })
+        }
+    }
 }

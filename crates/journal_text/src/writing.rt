@@ -3,7 +3,7 @@ ghost use Rattle.std.specs.Prelude.{◌≡◌, ◌++◌, ◌∷◌, [], IfOk, On
 ghost use Rattle.journal_text.specs.Lines as lines;
 ghost use Rattle.journal_text.specs.Events as spec;
 ghost use Rattle.journal_text.specs.Events.{journal_text, rest_of};
-ghost use Rattle.journal_text.specs.Laws.{SpellsOne, StandApart};
+ghost use Rattle.journal_text.specs.Laws.{BeginAlike, SpellsOne, StandApart};
 
 use crate::events::Event;
 use crate::journal::{FIRST_LINE, Journal};
@@ -166,8 +166,10 @@ pub fn write_journal(alloc: Global, journal: &Journal) -> Result<Blob, NoMemory>
     Ok(Blob { bytes: text })
 }
 
-/// The laws that tell texts apart: none is that of two journals, and an event's spelling begins with that of no other event. It does nothing.
+/// The laws that tell texts apart: none is that of two journals, a journal whose text begins another's begins that journal, and an event's
+/// spelling begins with that of no other event. It does nothing.
 pub fn texts_tell_apart()
     ensures journals { SpellsOne }
+    ensures fronts { BeginAlike }
     ensures events { StandApart }
 {}

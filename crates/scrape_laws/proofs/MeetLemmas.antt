@@ -128,7 +128,7 @@ apart_runs_law journal other es fs n k f m =
     run_alike (world_of journal) (world_of other) es fs n k (world_numbered journal) (world_numbered other) f m
 
 -- one more event that is nothing
-book_append : (xs : List Event) (w : World) (ys : List Event) → book_from w (xs ++ ys) ≡ book_from w xs ++ book_from (run w xs) ys
+pub book_append : (xs : List Event) (w : World) (ys : List Event) → book_from w (xs ++ ys) ≡ book_from w xs ++ book_from (run w xs) ys
 book_append [] w ys = refl
 book_append (x ∷ xs) w ys =
     ap (λ zs. gives w x ++ zs) (book_append xs (step w x) ys) ∙ sym (append_assoc (gives w x) (book_from (step w x) xs) (book_from (run (step w x) xs) ys))

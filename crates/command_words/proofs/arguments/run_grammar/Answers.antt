@@ -9,4 +9,4 @@ returns c =
     let turns_is : rule_of c.required-turns.result ≡ turns_rule = search rules in
     c.in_ok-whole.ensures.shape (search rules)
     ∙ ap₂ with_rule (c.in_ok-with_kept.ensures.shape (search rules)
-    ∙ ap₂ with_rule (c.in_ok-with_turns.ensures.shape (search rules) ∙ ap₂ with_rule c.bare.ensures turns_is) c.kept_flag.ensures.rule) c.word.ensures.rule
+    ∙ ap₂ with_rule (c.in_ok-with_turns.ensures.shape (search rules) ∙ ap₂ with_rule c.bare.ensures turns_is) c.flag.ensures.rule) c.word.ensures.rule
