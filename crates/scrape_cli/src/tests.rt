@@ -1,5 +1,7 @@
 //! What text can't show: outside objects that fail at a call, and texts at their limits. All else is a case in `crates/scrape_cases`.
 mod cases;
+mod cuts;
+mod failing;
 mod live;
 
 use crate::tool::tool_still;

@@ -1,5 +1,5 @@
 //! The whole program, over whatever has files, takes bytes, gives control lines, tells the time and fetches.
-ghost use Rattle.std.specs.Prelude.{◌≡◌, ◌≢◌, ◌<◌, ◌≤◌, ℕ, List, map, string_bytes, is_some, vec_len, Some, None, IfSome, IsTrue};
+ghost use Rattle.std.specs.Prelude.{◌≡◌, ◌≢◌, ◌<◌, ◌≤◌, ℕ, Bool, List, map, string_bytes, is_some, vec_len, Some, None, IfSome, IsTrue};
 ghost use Rattle.label_set.specs.declared.texts.Pair.{Pair};
 ghost use Rattle.journal_text.specs.declared.events.Event.{Event};
 ghost use Rattle.outside.specs.Objects.{used};
@@ -11,6 +11,7 @@ ghost use Rattle.command_words.specs.Askings.{Running};
 ghost use Rattle.command_words.specs.Words.{order_in};
 ghost use Rattle.command_words.specs.declared.words.Order.TheVariants.{Run};
 ghost use Rattle.live_run.specs.Runs.{IsReadOnce, touched};
+ghost use Rattle.scrape_commands.specs.Cuts.{CutLaw, IsCutOf};
 ghost use Rattle.scrape_commands.specs.Ends.{call};
 ghost use Rattle.scrape_cli.specs.Lives as lives;
 ghost use Rattle.scrape_cli.specs.Lives.{EndedLive, EndedStill, IsAlone, IsStill};
@@ -19,7 +20,7 @@ use command_words::{Live, Order, WordsError, order_in};
 use live_run::{Asked as AskedRun, LiveEnd, Lived, run_live};
 use outside::{Clock, Fetch, Shelf, Sink, Source};
 use scrape_commands::Refusal;
-use scrape_commands::still::{status_at, tell};
+use scrape_commands::still::{cuts, status_at, tell};
 pub use scrape_commands::still::{causes, tool_still};
 use scrape_core::Means;
 use scrape_laws::laws::{closed_runs, late, markers, report_markers};
@@ -158,7 +159,8 @@ fn handed_back<C, K, F>(status: u8, control: C, clock: K, fetchers: Vec<F>) -> F
 ///
 /// `still` says of the other commands how they end, what they print, which status is due, and that no count falls; `live` says of `run` what it
 /// prints and what its record is worth.
-/// `markers`, `closed_runs`, `report_markers` and `late` hold of every journal, so of the one whose book is printed.
+/// `markers`, `closed_runs`, `report_markers` and `late` hold of every journal, so of the one whose book is printed. `cuts` says what a trail is
+/// worth that a failing disk cut: what `replay --cut` prints of it is the beginning of what the run would have printed.
 pub fn tool<
     W: Threads + Wait + Sync,
     S: Shelf,
@@ -196,7 +198,9 @@ pub fn tool<
     ensures closed_runs { (journal : List Event) (n : ℕ) (x : List Pair) → ClosedRunsLaw journal n x }
     ensures report_markers { (journal : List Event) → ReportMarkerLaw journal }
     ensures late { (w : World) → LateLaw w }
+    ensures cuts { (journal front : List Event) (kept : Bool) → IsCutOf journal front → CutLaw journal front kept }
 {
+    cuts();
     markers();
     closed_runs();
     report_markers();

@@ -1,25 +1,24 @@
 -- Which status is due of a call that ended.
-use Rattle.std.proofs.Common.{◌≡◌, ◌⊎◌, ℕ, ◌<◌, ◌≤◌, List, [], length, sym, refl, ap, ◌∙◌, inl, inr, arith, subst, Option, None, Some}
+use Rattle.std.proofs.Common.{◌≡◌, ◌⊎◌, ℕ, ◌<◌, ◌≤◌, Bool, true, false, List, [], ◌++◌, length, append_assoc, sym, refl, ap, ◌∙◌, inl, inr, arith, subst, Option, None, Some}
 use Rattle.std.specs.Prelude.{Result, Ok, Err, IsSomeAnd, IfSome, IsOkAnd}
 use Rattle.std.specs.Option.{option_map_or}
 use Rattle.outside.specs.declared.objects.StoredFile.{StoredFile}
 use Rattle.outside.specs.Objects.{file_of, HasFile, LacksFile, HasLongerFile}
 use Rattle.journal_text.specs.declared.events.Event.{Event}
-use Rattle.journal_text.specs.Events.{IsJournal, journal_text}
+use Rattle.journal_text.specs.Events.{events_text, first_line}
 use Rattle.journal_text.specs.declared.faults.ScriptFault.{ScriptFault}
-use Rattle.journal_text.specs.Faults.{SpellsNone, IsOnlyFault, IsFault as IsScriptFault}
 use Rattle.jobs_in_force.specs.Jobs.{loaded}
 use Rattle.jobs_in_force.specs.declared.jobs.Filed.{Filed}
 use Rattle.config_fields.specs.declared.fault.ConfFault.{ConfFault}
 use Rattle.scrape_commands.specs.Checks.{IsFault, IsConf, fault_message}
-use Rattle.scrape_commands.specs.Scripts.{fault_message as script_message}
+use Rattle.scrape_commands.specs.Scripts.{IsScriptOf, IsFaultOf, StandsFor, StandsForNone, HasFault, fault_message as script_message}
 use Rattle.synth.specs.declared.scripts.Plan.{Plan}
 use Rattle.command_words.specs.Askings.{Asking, asking}
 use Rattle.command_words.specs.Words.{OfFile, asked_in, file_in, file_asked, limit_of}
 use Rattle.command_words.specs.declared.words.Asked.{Asked}
 use Rattle.command_words.specs.declared.words.Asked.TheVariants.{File, Synth}
 use Rattle.scrape_commands.specs.Ends.{Call, work_of, Reads, IsOutput, IsOfFile, IsOfScript, IsAskedFor, WorkEnds, Speaks, IsSaid, Ended, status_at}
-use Rattle.scrape_commands.specs.Laws.{Complete, IsTold, TellsNone, TellsLonger, IsRead, IsWritten, IsSound, IsUncounted, IsFreely, Spells, refused_at}
+use Rattle.scrape_commands.specs.Laws.{Complete, IsTold, TellsNone, TellsLonger, IsRead, IsWritten, IsSound, IsUncounted, IsFreely, refused_at}
 use Rattle.command_words.specs.declared.words.Command.{Command}
 use Rattle.command_words.specs.declared.words.Command.TheVariants.{Replay, Check}
 use Rattle.scrape_commands.specs.declared.refusals.Refusal.{Refusal}
@@ -84,6 +83,24 @@ no_fault said jobs fault e h = absurd cc
 one_fault : (said : Result (List Filed) ConfFault) (fault found : ConfFault) → said ≡ Err fault → said ≡ Err found → found ≡ fault
 one_fault said fault found e h = cc
 
+-- scripts: one that stands for a journal has no fault, and one with a fault has no other
+same_cut : (a b : Bool) → Replay a ≡ Replay b → a ≡ b
+same_cut a b e = cc
+
+fault_stands : (cut : Bool) (bytes : List ℕ) (fault : ScriptFault) → IsFaultOf cut bytes fault → StandsFor cut bytes → ⊥
+fault_stands false bytes fault f s = f.none s.0 s.1 s.2
+fault_stands true bytes fault f s = f.lacks s.0 s.1
+
+stands_not : (cut : Bool) (bytes : List ℕ) (journal : List Event) → IsScriptOf cut bytes journal → StandsForNone cut bytes → ⊥
+stands_not false bytes journal s none = none journal s.journal s.text
+stands_not true bytes journal s none =
+    let stops = s.1.stops in
+    none (events_text journal ++ s.1.rest) (stops.text ∙ append_assoc first_line (events_text journal) s.1.rest)
+
+one_script_fault : (cut : Bool) (bytes : List ℕ) (f g : ScriptFault) → IsFaultOf cut bytes f → HasFault cut bytes g → g ≡ f
+one_script_fault false bytes f g only is = only.only g is
+one_script_fault true bytes f g only is = is.fault_is ∙ sym only.fault_is
+
 module _ (c : Call) where
   asked_file : (a : Asking) → asked_in c.words ≡ Some (File a) → file_in c.words ≡ a.file
   asked_file a e = ap (λ (o : Option Asked). option_map_or file_asked o []) e
@@ -115,7 +132,7 @@ module _ (c : Call) where
   words_due (Err BadWords) w e = inl refl
   words_due (Err Absent) w e = absurd (some_asked (asked_in c.words) _ e w.cause)
   words_due (Err (Config f)) w e = absurd (read_asked _ _ e w.cause.1)
-  words_due (Err (Script f)) w e = absurd (read_asked _ _ e w.cause.1)
+  words_due (Err (Script f)) w e = absurd (read_asked _ _ e w.cause.2)
   words_due (Err ReadFault) w e = absurd (some_asked (asked_in c.words) _ e w.cause)
   words_due (Err WriteFault) w e = absurd (text_asked _ e w.cause.asked_for)
   words_due (Err NoMemory) w e = inr refl
@@ -134,7 +151,7 @@ module _ (c : Call) where
     made_due n (Err BadWords) w = let at = w.cause in absurd cc
     made_due n (Err Absent) w = absurd (no_file _ w.cause)
     made_due n (Err (Config f)) w = absurd (none_read _ _ w.cause.1)
-    made_due n (Err (Script f)) w = absurd (none_read _ _ w.cause.1)
+    made_due n (Err (Script f)) w = absurd (none_read _ _ w.cause.2)
     made_due n (Err ReadFault) w = absurd (no_file _ w.cause)
     made_due n (Err WriteFault) w = absurd (n w.cause.put.counted)
     made_due n (Err NoMemory) w = inr refl
@@ -165,7 +182,7 @@ module _ (c : Call) where
     missing_due t n (Err BadWords) w = absurd (not_none w.cause)
     missing_due t n (Err Absent) w = inl refl
     missing_due t n (Err (Config f)) w = absurd (none_has c.shelf.before.files (file_in c.words) _ t (read_file _ _ w.cause.1))
-    missing_due t n (Err (Script f)) w = absurd (none_has c.shelf.before.files (file_in c.words) _ t (read_file _ _ w.cause.1))
+    missing_due t n (Err (Script f)) w = absurd (none_has c.shelf.before.files (file_in c.words) _ t (read_file _ _ w.cause.2))
     missing_due t n (Err ReadFault) w = absurd (n w.shelf.counted)
     missing_due t n (Err WriteFault) w = absurd (none_has c.shelf.before.files (file_in c.words) _ t (read_file _ _ (of_file _ w.cause.asked_for).reads))
     missing_due t n (Err NoMemory) w = inr refl
@@ -183,7 +200,7 @@ module _ (c : Call) where
     longer_due t n (Err BadWords) w = absurd (not_none w.cause)
     longer_due t n (Err Absent) w = absurd (longer_lacks c.shelf.before.files (file_in c.words) _ t (lacks w.cause))
     longer_due t n (Err (Config f)) w = absurd (not_long _ _ t w.cause.1)
-    longer_due t n (Err (Script f)) w = absurd (not_long _ _ t w.cause.1)
+    longer_due t n (Err (Script f)) w = absurd (not_long _ _ t w.cause.2)
     longer_due t n (Err ReadFault) w = absurd (n w.shelf.counted)
     longer_due t n (Err WriteFault) w = absurd (not_long _ _ t (of_file _ w.cause.asked_for).reads)
     longer_due t n (Err NoMemory) w = inr refl
@@ -197,7 +214,7 @@ module _ (c : Call) where
     untold_due n (Err BadWords) w = absurd (not_none w.cause)
     untold_due n (Err Absent) w = absurd (n.found w.shelf.counted)
     untold_due n (Err (Config f)) w = inr (refused_of Check _ w.cause.1)
-    untold_due n (Err (Script f)) w = inr (refused_of Replay _ w.cause.1)
+    untold_due n (Err (Script f)) w = inr (refused_of (Replay w.cause.0) _ w.cause.2)
     untold_due n (Err ReadFault) w = absurd (n.sound.read w.shelf.counted)
     untold_due n (Err WriteFault) w = absurd (n.sound.written w.cause.put.counted)
     untold_due n (Err NoMemory) w = inl (inr refl)
@@ -220,63 +237,69 @@ module _ (c : Call) where
     told_asked : asked_in c.words ≡ None → ⊥
     told_asked e = let at = t.asked in absurd cc
 
-  module _ (bytes : List ℕ) (t : IsTold Replay bytes c) where
+  module _ (cut : Bool) (bytes : List ℕ) (t : IsTold (Replay cut) bytes c) where
     not_checked : (b : List ℕ) → Reads Check b (work_of c) → ⊥
-    not_checked b r = let e = told_command Replay bytes t Check b r in absurd cc
+    not_checked b r = let e = told_command (Replay cut) bytes t Check b r in absurd cc
 
-    told_none : (b : List ℕ) → Reads Replay b (work_of c) → SpellsNone b → SpellsNone bytes
-    told_none b r none = subst SpellsNone (told_bytes Replay bytes t Replay b r) none
+    -- what is said of the script that was read is said of the one that is told
+    told_script : (P : Bool → List ℕ → Type 0) (u : Bool) (b : List ℕ) → Reads (Replay u) b (work_of c) → P u b → P cut bytes
+    told_script P u b r p =
+        let same : cut ≡ u = same_cut cut u (told_command (Replay cut) bytes t (Replay u) b r) in
+        subst (λ (z : Bool). P z bytes) (sym same) (subst (P u) (told_bytes (Replay cut) bytes t (Replay u) b r) p)
 
-    replayed_due : Spells bytes → IsSound c → (end : Result (Unit {0}) Refusal) → WorkEnds end (work_of c) → IsFreely 0 (status_at end)
+    told_fault : (u : Bool) (b : List ℕ) (f : ScriptFault) → Reads (Replay u) b (work_of c) → IsFaultOf u b f → IsFaultOf cut bytes f
+    told_fault u b f r p = told_script (λ z x. IsFaultOf z x f) u b r p
+
+    replayed_due : StandsFor cut bytes → IsSound c → (end : Result (Unit {0}) Refusal) → WorkEnds end (work_of c) → IsFreely 0 (status_at end)
     replayed_due s n (Ok u) w = inl refl
-    replayed_due s n (Err BadWords) w = absurd (told_asked Replay bytes t w.cause)
-    replayed_due s n (Err Absent) w = absurd (told_found Replay bytes t w.cause)
+    replayed_due s n (Err BadWords) w = absurd (told_asked (Replay cut) bytes t w.cause)
+    replayed_due s n (Err Absent) w = absurd (told_found (Replay cut) bytes t w.cause)
     replayed_due s n (Err (Config f)) w = absurd (not_checked _ w.cause.1)
-    replayed_due s n (Err (Script f)) w = absurd (told_none _ w.cause.1 w.cause.2.none s.0 s.1 s.2)
+    replayed_due s n (Err (Script f)) w = absurd (fault_stands cut bytes f (told_fault w.cause.0 _ f w.cause.2 w.cause.3) s)
     replayed_due s n (Err ReadFault) w = absurd (n.read w.shelf.counted)
     replayed_due s n (Err WriteFault) w = absurd (n.written w.cause.put.counted)
     replayed_due s n (Err NoMemory) w = inr refl
-    replayed_due s n (Err TooLong) w = absurd (told_short Replay bytes t w.cause)
+    replayed_due s n (Err TooLong) w = absurd (told_short (Replay cut) bytes t w.cause)
 
     -- the output of `replay` is that of a journal
-    told_spelled : (m : Command) (b text : List ℕ) (r : Reads m b (work_of c)) → IsOutput m r.kept b text → SpellsNone bytes → ⊥
+    told_spelled : (m : Command) (b text : List ℕ) (r : Reads m b (work_of c)) → IsOutput m r.kept b text → StandsForNone cut bytes → ⊥
     told_spelled Check b text r o none = not_checked b r
-    told_spelled Replay b text r o none = none o.0 o.1.journal (o.1.text ∙ told_bytes Replay bytes t Replay b r)
+    told_spelled (Replay u) b text r o none = stands_not cut bytes o.0 (told_script (λ z x. IsScriptOf z x o.0) u b r o.1) none
 
-    asked_spelled : (text : List ℕ) → IsAskedFor text (work_of c) → SpellsNone bytes → ⊥
+    asked_spelled : (text : List ℕ) → IsAskedFor text (work_of c) → StandsForNone cut bytes → ⊥
     asked_spelled text a none =
-        let f = of_file (asking t.kept (file_in c.words) Replay) t.asked text a in
+        let f = of_file (asking t.kept (file_in c.words) (Replay cut)) t.asked text a in
         told_spelled f.command f.bytes text f.reads f.output none
 
-    unspelled_due : SpellsNone bytes → IsRead c → (end : Result (Unit {0}) Refusal) → WorkEnds end (work_of c) → IsFreely 5 (status_at end)
+    unspelled_due : StandsForNone cut bytes → IsRead c → (end : Result (Unit {0}) Refusal) → WorkEnds end (work_of c) → IsFreely 5 (status_at end)
     unspelled_due s n (Ok u) w = absurd (asked_spelled _ w.prints.asked_for s)
-    unspelled_due s n (Err BadWords) w = absurd (told_asked Replay bytes t w.cause)
-    unspelled_due s n (Err Absent) w = absurd (told_found Replay bytes t w.cause)
+    unspelled_due s n (Err BadWords) w = absurd (told_asked (Replay cut) bytes t w.cause)
+    unspelled_due s n (Err Absent) w = absurd (told_found (Replay cut) bytes t w.cause)
     unspelled_due s n (Err (Config f)) w = absurd (not_checked _ w.cause.1)
     unspelled_due s n (Err (Script f)) w = inl refl
     unspelled_due s n (Err ReadFault) w = absurd (n w.shelf.counted)
     unspelled_due s n (Err WriteFault) w = absurd (asked_spelled _ w.cause.asked_for s)
     unspelled_due s n (Err NoMemory) w = inr refl
-    unspelled_due s n (Err TooLong) w = absurd (told_short Replay bytes t w.cause)
+    unspelled_due s n (Err TooLong) w = absurd (told_short (Replay cut) bytes t w.cause)
 
-    found_due : (fault : ScriptFault) → IsScriptFault bytes fault → (end : Result (Unit {0}) Refusal) → WorkEnds end (work_of c) →
+    found_due : (fault : ScriptFault) → HasFault cut bytes fault → (end : Result (Unit {0}) Refusal) → WorkEnds end (work_of c) →
         Speaks end (file_in c.words) c.err → status_at end ≡ 5 → IsSaid (script_message fault) c.err
     found_due fault e (Ok u) w s five = absurd (omega (arith, five))
     found_due fault e (Err (Script f)) w s five =
-        let only : IsOnlyFault bytes f = subst (λ (x : List ℕ). IsOnlyFault x f) (told_bytes Replay bytes t Replay _ w.cause.1) w.cause.2 in
-        subst (λ (z : ScriptFault). IsSaid (script_message z) c.err) (sym (only.only fault e)) s
+        let same : fault ≡ f = one_script_fault cut bytes f fault (told_fault w.cause.0 _ f w.cause.2 w.cause.3) e in
+        subst (λ (z : ScriptFault). IsSaid (script_message z) c.err) (sym same) s
     found_due fault e (Err _) w s five = absurd (omega (arith, five))
 
   module _ (bytes : List ℕ) (t : IsTold Check bytes c) where
-    not_replayed : (b : List ℕ) → Reads Replay b (work_of c) → ⊥
-    not_replayed b r = let e = told_command Check bytes t Replay b r in absurd cc
+    not_replayed : (u : Bool) (b : List ℕ) → Reads (Replay u) b (work_of c) → ⊥
+    not_replayed u b r = let e = told_command Check bytes t (Replay u) b r in absurd cc
 
     told_fault : (b : List ℕ) (found : ConfFault) → Reads Check b (work_of c) → IsFault b found → IsFault bytes found
     told_fault b found r h = subst (λ (x : List ℕ). IsFault x found) (told_bytes Check bytes t Check b r) h
 
     -- the output of `check` is that of a configuration without a fault
     told_conf : (n : Command) (b text : List ℕ) (r : Reads n b (work_of c)) → IsOutput n r.kept b text → (fault : ConfFault) → IsFault bytes fault → ⊥
-    told_conf Replay b text r o fault h = not_replayed b r
+    told_conf (Replay u) b text r o fault h = not_replayed u b r
     told_conf Check b text r o fault h =
         no_fault (loaded [] bytes) o.0 fault (subst (λ (x : List ℕ). IsConf x o.0) (told_bytes Check bytes t Check b r) o.1) h
 
@@ -290,7 +313,7 @@ module _ (c : Call) where
     refused_due fault h n (Err BadWords) w = absurd (told_asked Check bytes t w.cause)
     refused_due fault h n (Err Absent) w = absurd (told_found Check bytes t w.cause)
     refused_due fault h n (Err (Config f)) w = inl refl
-    refused_due fault h n (Err (Script f)) w = absurd (not_replayed _ w.cause.1)
+    refused_due fault h n (Err (Script f)) w = absurd (not_replayed w.cause.0 _ w.cause.2)
     refused_due fault h n (Err ReadFault) w = absurd (n w.shelf.counted)
     refused_due fault h n (Err WriteFault) w = absurd (asked_conf _ w.cause.asked_for fault h)
     refused_due fault h n (Err NoMemory) w = inr refl
@@ -301,7 +324,7 @@ module _ (c : Call) where
     checked_due jobs k n (Err BadWords) w = absurd (told_asked Check bytes t w.cause)
     checked_due jobs k n (Err Absent) w = absurd (told_found Check bytes t w.cause)
     checked_due jobs k n (Err (Config f)) w = absurd (no_fault (loaded [] bytes) jobs f k (told_fault _ f w.cause.1 w.cause.2))
-    checked_due jobs k n (Err (Script f)) w = absurd (not_replayed _ w.cause.1)
+    checked_due jobs k n (Err (Script f)) w = absurd (not_replayed w.cause.0 _ w.cause.2)
     checked_due jobs k n (Err ReadFault) w = absurd (n.read w.shelf.counted)
     checked_due jobs k n (Err WriteFault) w = absurd (n.written w.cause.put.counted)
     checked_due jobs k n (Err NoMemory) w = inr refl
@@ -320,9 +343,9 @@ complete_by status c e = record {
   words = λ none. freely 2 (words_due c e.end e.work_ends none);
   missing = λ a asked tells read. freely 3 (missing_due c a asked tells read e.end e.work_ends);
   longer = λ a asked tells read. freely 9 (longer_due c a asked tells read e.end e.work_ends);
-  replayed = λ bytes t s sound. freely 0 (replayed_due c bytes t s sound e.end e.work_ends);
-  unspelled = λ bytes t s read. freely 5 (unspelled_due c bytes t s read e.end e.work_ends);
-  misspelled = λ bytes fault t is five. found_due c bytes t fault is e.end e.work_ends e.speaks (sym e.status_is ∙ five);
+  replayed = λ cut bytes t s sound. freely 0 (replayed_due c cut bytes t s sound e.end e.work_ends);
+  unspelled = λ cut bytes t s read. freely 5 (unspelled_due c cut bytes t s read e.end e.work_ends);
+  misspelled = λ cut bytes fault t is five. found_due c cut bytes t fault is e.end e.work_ends e.speaks (sym e.status_is ∙ five);
   checked = λ bytes jobs t k sound. freely 0 (checked_due c bytes t jobs k sound e.end e.work_ends);
   refused = λ bytes fault t is read. freely 4 (refused_due c bytes t fault is read e.end e.work_ends);
   told = λ bytes fault t is four. told_due c bytes t fault is e.end e.work_ends e.speaks (sym e.status_is ∙ four);

@@ -1,12 +1,11 @@
 -- What follows of a call that ended.
 use Rattle.std.proofs.Common.{◌≡◌, ◌≢◌, ℕ, ◌≤◌, List, sym, refl, ap, ◌∙◌, inl, inr, arith, subst}
-use Rattle.std.specs.Prelude.{Result, Ok, Err}
+use Rattle.std.specs.Prelude.{Bool, Result, Ok, Err}
 use Rattle.outside.specs.Objects.{ShelfSeen, SinkSeen, Use, IsUntouched, Missed, MetLonger, FailedToRead}
 use Rattle.config_fields.specs.declared.fault.ConfFault.{ConfFault}
 use Rattle.journal_text.specs.declared.faults.ScriptFault.{ScriptFault}
-use Rattle.journal_text.specs.Faults.{IsOnlyFault}
 use Rattle.scrape_commands.specs.Checks.{IsFault, fault_message}
-use Rattle.scrape_commands.specs.Scripts.{fault_message as script_message}
+use Rattle.scrape_commands.specs.Scripts.{IsFaultOf, fault_message as script_message}
 use Rattle.command_words.specs.Words.{file_in}
 use Rattle.scrape_commands.specs.Ends.{Call, work_of, Reads, Prints, IsRefused, WorkEnds, Speaks, IsSaid, Ended, status_at, status_of, message_of}
 use Rattle.scrape_commands.specs.Laws.{Causes, NoCountFell, IsStatus}
@@ -71,11 +70,11 @@ module _ (c : Call) where
   faulty_by (Err _) is w s = absurd (omega (arith, is))
 
   abbrev Misspelled : Type 0
-  Misspelled = (fault : ScriptFault) × (bytes : List ℕ) × Reads Replay bytes (work_of c) × IsOnlyFault bytes fault × IsSaid (script_message fault) c.err
+  Misspelled = (fault : ScriptFault) × (cut : Bool) × (bytes : List ℕ) × Reads (Replay cut) bytes (work_of c) × IsFaultOf cut bytes fault × IsSaid (script_message fault) c.err
 
   misspelled_by : (end : Result (Unit {0}) Refusal) → 5 ≡ status_at end → WorkEnds end (work_of c) → Speaks end (file_in c.words) c.err → Misspelled
   misspelled_by (Ok u) is w s = absurd (omega (arith, is))
-  misspelled_by (Err (Script f)) is w s = (f, w.cause.0, w.cause.1, w.cause.2, s)
+  misspelled_by (Err (Script f)) is w s = (f, w.cause.0, w.cause.1, w.cause.2, w.cause.3, s)
   misspelled_by (Err _) is w s = absurd (omega (arith, is))
 
   pub causes_of : Causes c

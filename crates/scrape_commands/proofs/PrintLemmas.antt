@@ -3,7 +3,6 @@ use Rattle.std.proofs.Common.{◌≡◌, ℕ, ◌≤◌, Bool, List, length, inl
 use Rattle.std.specs.Prelude.{Some}
 use Rattle.outside.specs.Objects.{ShelfSeen, SinkSeen, Use, used, IsUntouched, HasFile, Took, Cut}
 use Rattle.journal_text.specs.declared.events.Event.{Event}
-use Rattle.journal_text.specs.Faults.{IsJournalOf}
 use Rattle.report_samples.specs.declared.entries.Entry.{Entry}
 use Rattle.scrape_machine.specs.Machine.{book_of}
 use Rattle.book_text.specs.Texts.{printed}
@@ -12,27 +11,28 @@ use Rattle.synth.specs.declared.scripts.Plan.{Plan}
 use Rattle.scrape_commands.specs.Checks.{IsConf, ok_line}
 use Rattle.command_words.specs.Askings.{asking}
 use Rattle.command_words.specs.Words.{limit_of}
+use Rattle.scrape_commands.specs.Scripts.{IsScriptOf}
 use Rattle.scrape_commands.specs.Synths.{synth_text}
 use Rattle.scrape_commands.specs.Ends.{work, IsAskedFor, IsDone, IsRefused}
 use Rattle.command_words.specs.declared.words.Asked.TheVariants.{File, Synth}
 use Rattle.command_words.specs.declared.words.Command.TheVariants.{Replay, Check}
 use Rattle.scrape_commands.specs.declared.refusals.Refusal.TheVariants.{WriteFault}
 
-module _ (kept : Bool) (file bytes slice : List ℕ) (journal : List Event) (entries : List Entry) (shelf : Use ShelfSeen) (out : Use SinkSeen)
-    (has : HasFile shelf.before file bytes) (short : length bytes ≤ limit_of Replay) (same : slice ≡ bytes) (is : IsJournalOf slice journal)
+module _ (cut kept : Bool) (file bytes slice : List ℕ) (journal : List Event) (entries : List Entry) (shelf : Use ShelfSeen) (out : Use SinkSeen)
+    (has : HasFile shelf.before file bytes) (short : length bytes ≤ limit_of (Replay cut)) (same : slice ≡ bytes) (is : IsScriptOf cut slice journal)
     (book : entries ≡ book_of journal) where
-  asked_for : IsAskedFor (printed kept entries) (work (Some (File (asking kept file Replay))) shelf out)
+  asked_for : IsAskedFor (printed kept entries) (work (Some (File (asking kept file (Replay cut)))) shelf out)
   asked_for = inl (record {
-    command = Replay;
+    command = Replay cut;
     bytes = bytes;
     reads = record { file = file; kept = kept; asked = refl; has = has; short = short };
-    output = (journal, subst (λ (b : List ℕ). IsJournalOf b journal) same is, ap (printed kept) book);
+    output = (journal, subst (λ (b : List ℕ). IsScriptOf cut b journal) same is, ap (printed kept) book);
   })
 
-  pub done_by : IsUntouched shelf → Took (printed kept entries) out → IsDone (work (Some (File (asking kept file Replay))) shelf out)
+  pub done_by : IsUntouched shelf → Took (printed kept entries) out → IsDone (work (Some (File (asking kept file (Replay cut)))) shelf out)
   done_by still took = record { prints = record { text = printed kept entries; asked_for = asked_for; put = took }; shelf = still }
 
-  pub cut_by : IsUntouched shelf → Cut (printed kept entries) out → IsRefused WriteFault (work (Some (File (asking kept file Replay))) shelf out)
+  pub cut_by : IsUntouched shelf → Cut (printed kept entries) out → IsRefused WriteFault (work (Some (File (asking kept file (Replay cut)))) shelf out)
   cut_by still cut = record { cause = record { text = printed kept entries; asked_for = asked_for; put = cut }; shelf = still; out = tt }
 
 module _ (kept : Bool) (file bytes : List ℕ) (jobs : List Filed) (shelf : Use ShelfSeen) (out : Use SinkSeen)

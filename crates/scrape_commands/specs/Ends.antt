@@ -3,12 +3,11 @@ use Rattle.std.specs.Prelude.{◌≡◌, ◌⊎◌, ℕ, ◌≤◌, Bool, ⊤, L
 use Rattle.outside.specs.Objects.{ShelfSeen, SinkSeen, Use, IsUntouched, Rose, HasFile, LacksFile, HasLongerFile, Missed, MetLonger, FailedToRead, Adds, AddsFront, Took, Cut}
 use Rattle.journal_text.specs.declared.events.Event.{Event}
 use Rattle.journal_text.specs.declared.faults.ScriptFault.{ScriptFault}
-use Rattle.journal_text.specs.Faults.{IsJournalOf, IsOnlyFault}
 use Rattle.jobs_in_force.specs.declared.jobs.Filed.{Filed}
 use Rattle.scrape_machine.specs.Machine.{book_of}
 use Rattle.book_text.specs.Texts.{printed}
 use Rattle.scrape_commands.specs.Checks.{IsConf, IsFault, ok_line, fault_message}
-use Rattle.scrape_commands.specs.Scripts.{fault_message as script_message}
+use Rattle.scrape_commands.specs.Scripts.{IsScriptOf, IsFaultOf, fault_message as script_message}
 use Rattle.scrape_commands.specs.Synths.{synth_text}
 use Rattle.synth.specs.declared.scripts.Plan.{Plan}
 use Rattle.command_words.specs.Askings.{asking}
@@ -50,9 +49,9 @@ pub record Reads (command : Command) (bytes : List ℕ) (w : Work) : Type 0 wher
   pub has : HasFile w.shelf.before file bytes
   pub short : length bytes ≤ limit_of command
 
--- what a command prints for the bytes of its file: the book of the journal that they spell, with verdicts or without, or the number of jobs
+-- what a command prints for the bytes of its file: the book of the journal that they stand for, with verdicts or without, or the number of jobs
 abbrev pub IsOutput : Command → Bool → List ℕ → List ℕ → Type 0
-IsOutput Replay kept bytes text = (journal : List Event) × IsJournalOf bytes journal × (text ≡ printed kept (book_of journal))
+IsOutput (Replay cut) kept bytes text = (journal : List Event) × IsScriptOf cut bytes journal × (text ≡ printed kept (book_of journal))
 IsOutput Check kept bytes text = (jobs : List Filed) × IsConf bytes jobs × (text ≡ ok_line (length jobs))
 
 -- a command over a file was asked for, and this is what it prints
@@ -111,7 +110,7 @@ abbrev pub IsCause : Refusal → Work → Type 0
 IsCause BadWords w = w.asked ≡ None
 IsCause Absent w = IsSomeAnd w.asked (OfFile (λ a. LacksFile w.shelf.before a.file))
 IsCause (Config fault) w = (bytes : List ℕ) × Reads Check bytes w × IsFault bytes fault
-IsCause (Script fault) w = (bytes : List ℕ) × Reads Replay bytes w × IsOnlyFault bytes fault
+IsCause (Script fault) w = (cut : Bool) × (bytes : List ℕ) × Reads (Replay cut) bytes w × IsFaultOf cut bytes fault
 IsCause ReadFault w = IsSomeAnd w.asked (OfFile (λ a. ⊤))
 IsCause WriteFault w = PrintsFront w
 IsCause NoMemory w = ⊤

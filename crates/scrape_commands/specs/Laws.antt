@@ -1,14 +1,11 @@
 -- What follows of a call that ended.
 use Rattle.std.specs.Prelude.{◌≡◌, ◌≢◌, ◌⊎◌, ℕ, ◌<◌, ◌≤◌, Bool, List, length, Some, None, IsSomeAnd, Ok, Err}
 use Rattle.outside.specs.Objects.{IsUntouched, Rose, file_of, LacksFile, HasLongerFile, Missed, MetLonger, FailedToRead}
-use Rattle.journal_text.specs.declared.events.Event.{Event}
-use Rattle.journal_text.specs.Events.{IsJournal, journal_text}
 use Rattle.journal_text.specs.declared.faults.ScriptFault.{ScriptFault}
-use Rattle.journal_text.specs.Faults.{SpellsNone, IsOnlyFault, IsFault as IsScriptFault}
 use Rattle.jobs_in_force.specs.declared.jobs.Filed.{Filed}
 use Rattle.config_fields.specs.declared.fault.ConfFault.{ConfFault}
 use Rattle.scrape_commands.specs.Checks.{IsConf, IsFault, fault_message}
-use Rattle.scrape_commands.specs.Scripts.{fault_message as script_message}
+use Rattle.scrape_commands.specs.Scripts.{IsFaultOf, StandsFor, StandsForNone, HasFault, fault_message as script_message}
 use Rattle.scrape_commands.specs.Ends.{Call, work_of, Ended, Reads, Prints, PrintsFront, IsSaid, message_of, status_of}
 use Rattle.synth.specs.declared.scripts.Plan.{Plan}
 use Rattle.command_words.specs.Askings.{Asking, asking}
@@ -25,7 +22,8 @@ pub record Causes (c : Call) : Type 0 where
   pub bad_words : Ended 2 c → asked_in c.words ≡ None
   pub absent : Ended 3 c → Missed c.shelf × IsSomeAnd (asked_in c.words) (OfFile (λ a. LacksFile c.shelf.before a.file))
   pub faulty : Ended 4 c → (fault : ConfFault) × (bytes : List ℕ) × Reads Check bytes (work_of c) × IsFault bytes fault × IsSaid (fault_message fault) c.err
-  pub misspelled : Ended 5 c → (fault : ScriptFault) × (bytes : List ℕ) × Reads Replay bytes (work_of c) × IsOnlyFault bytes fault × IsSaid (script_message fault) c.err
+  pub misspelled : Ended 5 c → (fault : ScriptFault) × (cut : Bool) × (bytes : List ℕ) × Reads (Replay cut) bytes (work_of c)
+      × IsFaultOf cut bytes fault × IsSaid (script_message fault) c.err
   pub read_fault : Ended 6 c → FailedToRead c.shelf
   pub front : Ended 7 c → PrintsFront (work_of c)
   pub too_long : Ended 9 c → MetLonger c.shelf × IsSomeAnd (asked_in c.words) (OfFile (λ a. HasLongerFile c.shelf.before a.file (limit_of a.command)))
@@ -69,13 +67,9 @@ pub record IsUncounted (c : Call) : Type 0 where
 abbrev pub IsFreely : ℕ → ℕ → Type 0
 IsFreely due status = (status ≡ due) ⊎ (status ≡ 8)
 
--- the bytes spell a journal
-abbrev pub Spells : List ℕ → Type 0
-Spells bytes = (journal : List Event) × IsJournal journal × (journal_text journal ≡ bytes)
-
 -- the status for a file whose content a command refuses
 abbrev pub refused_at : Command → ℕ
-refused_at Replay = 5
+refused_at (Replay cut) = 5
 refused_at Check = 4
 
 -- which status is due: where the words are others; where the file is told and reading and writing don't fail; where nothing is counted.
@@ -84,9 +78,10 @@ pub record Complete (status : ℕ) (c : Call) : Type 0 where
   pub words : asked_in c.words ≡ None → IsFreely 2 status
   pub missing : (a : Asking) → asked_in c.words ≡ Some (File a) → TellsNone c → IsRead c → IsFreely 3 status
   pub longer : (a : Asking) → asked_in c.words ≡ Some (File a) → TellsLonger a.command c → IsRead c → IsFreely 9 status
-  pub replayed : (bytes : List ℕ) → IsTold Replay bytes c → Spells bytes → IsSound c → IsFreely 0 status
-  pub unspelled : (bytes : List ℕ) → IsTold Replay bytes c → SpellsNone bytes → IsRead c → IsFreely 5 status
-  pub misspelled : (bytes : List ℕ) (fault : ScriptFault) → IsTold Replay bytes c → IsScriptFault bytes fault → status ≡ 5 → IsSaid (script_message fault) c.err
+  pub replayed : (cut : Bool) (bytes : List ℕ) → IsTold (Replay cut) bytes c → StandsFor cut bytes → IsSound c → IsFreely 0 status
+  pub unspelled : (cut : Bool) (bytes : List ℕ) → IsTold (Replay cut) bytes c → StandsForNone cut bytes → IsRead c → IsFreely 5 status
+  pub misspelled : (cut : Bool) (bytes : List ℕ) (fault : ScriptFault) → IsTold (Replay cut) bytes c → HasFault cut bytes fault → status ≡ 5 →
+      IsSaid (script_message fault) c.err
   pub checked : (bytes : List ℕ) (jobs : List Filed) → IsTold Check bytes c → IsConf bytes jobs → IsSound c → IsFreely 0 status
   pub refused : (bytes : List ℕ) (fault : ConfFault) → IsTold Check bytes c → IsFault bytes fault → IsRead c → IsFreely 4 status
   pub told : (bytes : List ℕ) (fault : ConfFault) → IsTold Check bytes c → IsFault bytes fault → status ≡ 4 → IsSaid (fault_message fault) c.err

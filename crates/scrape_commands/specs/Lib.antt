@@ -3,3 +3,4 @@ pub mod Scripts
 pub mod Synths
 pub mod Ends
 pub mod Laws
+pub mod Cuts

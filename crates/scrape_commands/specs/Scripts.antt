@@ -1,9 +1,45 @@
--- What is said of a script that is the text of no journal.
-use Rattle.std.specs.Prelude.{ℕ, List, ◌++◌, codes}
+-- What a script stands for, and what is said of one that stands for nothing.
+use Rattle.std.specs.Prelude.{◌≡◌, ◌≢◌, ℕ, Bool, true, false, List, ◌++◌, codes}
 use Rattle.std.specs.Fmt.{decimal}
 use Rattle.journal_text.specs.declared.faults.ScriptCause.{ScriptCause}
 use Rattle.journal_text.specs.declared.faults.ScriptCause.TheVariants.{Header, Line, Rest, Order}
 use Rattle.journal_text.specs.declared.faults.ScriptFault.{ScriptFault}
+use Rattle.journal_text.specs.declared.faults.ScriptError.{ScriptError}
+use Rattle.journal_text.specs.declared.faults.ScriptError.TheVariants.{Bad, NoMemory}
+use Rattle.journal_text.specs.declared.events.Event.{Event}
+use Rattle.journal_text.specs.Events.{IsJournal, first_line, journal_text}
+use Rattle.journal_text.specs.Faults.{IsFault, IsJournalOf, IsOnlyFault, SpellsNone}
+use Rattle.journal_text.specs.Fronts.{IsFrontOf, IsHeadless}
+
+-- the journal that a script stands for: the one that it spells, or with `--cut` the one of the events before the first that isn't read
+abbrev pub IsScriptOf : Bool → List ℕ → List Event → Type 0
+IsScriptOf false bytes journal = IsJournalOf bytes journal
+IsScriptOf true bytes journal = (left : ℕ) × IsFrontOf bytes journal left
+
+-- the fault of one that stands for none: its only one, or with `--cut` that it doesn't begin with the first line
+abbrev pub IsFaultOf : Bool → List ℕ → ScriptFault → Type 0
+IsFaultOf false bytes fault = IsOnlyFault bytes fault
+IsFaultOf true bytes fault = IsHeadless bytes fault
+
+-- a script was refused for its fault, or memory ran out
+abbrev pub RefusesScript : Bool → List ℕ → ScriptError → Type 0
+RefusesScript cut bytes (Bad fault) = IsFaultOf cut bytes fault
+RefusesScript cut bytes NoMemory = Unit {0}
+
+-- a script stands for a journal
+abbrev pub StandsFor : Bool → List ℕ → Type 0
+StandsFor false bytes = (journal : List Event) × IsJournal journal × (journal_text journal ≡ bytes)
+StandsFor true bytes = (rest : List ℕ) × (bytes ≡ first_line ++ rest)
+
+-- it stands for none
+abbrev pub StandsForNone : Bool → List ℕ → Type 0
+StandsForNone false bytes = SpellsNone bytes
+StandsForNone true bytes = (rest : List ℕ) → bytes ≢ first_line ++ rest
+
+-- it has this fault
+abbrev pub HasFault : Bool → List ℕ → ScriptFault → Type 0
+HasFault false bytes fault = IsFault bytes fault
+HasFault true bytes fault = IsHeadless bytes fault
 
 -- the word of a cause
 abbrev pub cause_word : ScriptCause → List ℕ

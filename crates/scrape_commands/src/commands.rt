@@ -46,27 +46,28 @@ fn read_file<S: Shelf>(
     }
 }
 
-/// Replays a script and prints the book of its journal, each line with its verdict where that is wanted.
+/// Replays a script, of one that may have been cut what it begins with, and prints the book of its journal, each line with its verdict where that
+/// is wanted.
 fn replay<S: Shelf, O: Sink>(
     means: Means,
-    kept: bool,
-    script: &str,
+    cut: bool,
+    asked: &OfFile<'_>,
     shelf: &mut S,
     out: &mut O,
 ) -> Result<(), Refusal>
     ensures { WorkEnds result
-        (work (Some (File (asking kept script.now Replay))) (used (S.seen shelf.old) (S.seen shelf.new)) (used (O.seen out.old) (O.seen out.new))) }
+        (work (Some (File (asking asked.now.kept asked.now.file (Replay cut)))) (used (S.seen shelf.old) (S.seen shelf.new)) (used (O.seen out.old) (O.seen out.new))) }
 {
-    let bytes = match read_file(means.alloc, Command::Replay, script, shelf) {
+    let bytes = match read_file(means.alloc, Command::Replay { cut }, asked.file, shelf) {
         Ok(bytes) => bytes,
         Err(refusal) => return Err(refusal),
     };
-    let core = match replayed(means, bytes.as_slice()) {
+    let core = match replayed(means, cut, bytes.as_slice()) {
         Ok(core) => core,
         Err(ScriptError::Bad(fault)) => return Err(Refusal::Script(fault)),
         Err(ScriptError::NoMemory) => return Err(Refusal::NoMemory),
     };
-    match print_book(means.alloc, kept, core.book(), out) {
+    match print_book(means.alloc, asked.kept, core.book(), out) {
         Ok(()) => {
             core.let_go();
             Ok(())
@@ -133,7 +134,7 @@ fn summary_for(means: Means, load: &Workload) -> Result<Vec<u8>, NoMemory>
     ensures { IfOk result (λ text. text.items ≡ synth_text load.now) }
 {
     let script = make_script(means.alloc, load.seed(), load.targets(), load.scrapes())?;
-    match replayed(means, script.as_slice()) {
+    match replayed(means, false, script.as_slice()) {
         Ok(core) => {
             let text = summary_with_runs(means.alloc, &core);
             core.let_go();
@@ -168,7 +169,7 @@ fn perform_file<S: Shelf, O: Sink>(
         (work (Some (File asked.now)) (used (S.seen shelf.old) (S.seen shelf.new)) (used (O.seen out.old) (O.seen out.new))) }
 {
     match asked.command {
-        Command::Replay => replay(means, asked.kept, asked.file, shelf, out),
+        Command::Replay { cut } => replay(means, cut, asked, shelf, out),
         Command::Check => check(means.alloc, asked.file, shelf, out),
     }
 }

@@ -1,5 +1,5 @@
 //! The program but for its live run, over whatever has files and takes bytes.
-ghost use Rattle.std.specs.Prelude.{◌≡◌, ◌≢◌, ℕ, List, map, string_bytes};
+ghost use Rattle.std.specs.Prelude.{◌≡◌, ◌≢◌, ℕ, Bool, List, map, string_bytes};
 ghost use Rattle.label_set.specs.declared.texts.Pair.{Pair};
 ghost use Rattle.journal_text.specs.declared.events.Event.{Event};
 ghost use Rattle.outside.specs.Objects.{SinkSeen, Use, used, IsUntouched};
@@ -7,6 +7,7 @@ ghost use Rattle.scrape_machine.specs.Machine.{World};
 ghost use Rattle.scrape_laws.specs.Markers.{MarkerLaw, ReportMarkerLaw};
 ghost use Rattle.scrape_laws.specs.Runs.{ClosedRunsLaw};
 ghost use Rattle.scrape_laws.specs.Late.{LateLaw};
+ghost use Rattle.scrape_commands.specs.Cuts.{CutLaw, IsCutOf};
 ghost use Rattle.scrape_commands.specs.Ends as spec;
 ghost use Rattle.scrape_commands.specs.Laws.{Causes, Complete, NoCountFell, IsStatus};
 ghost use Rattle.command_words.specs.Words.{asked_in, file_in, file_asked};
@@ -104,17 +105,18 @@ pub fn status_at(end: &Result<(), Refusal>) -> u8
 ///
 /// | status | comes |
 /// |---|---|
-/// | 0 | `replay`: the script was replayed and the whole text of its book, with verdicts where `--kept` was given, added to `out`; `check`: the configuration has no fault, and the line with the number of its jobs was added; `synth`: the script of the numbers was made and replayed, and the summary of its book added, with the number of its relabelling runs |
+/// | 0 | `replay`: the script was replayed, or with `--cut` the events before the first that isn't read, and the whole text of its book, with verdicts where `--kept` was given, added to `out`; `check`: the configuration has no fault, and the line with the number of its jobs was added; `synth`: the script of the numbers was made and replayed, and the summary of its book added, with the number of its relabelling runs |
 /// | 2 | exactly where the words are none of these commands', but for want of memory |
 /// | 3 | the shelf has no file of the name, and counted that |
 /// | 4 | `check`: the configuration has a fault, which the message names |
-/// | 5 | `replay`: the file has the text of no journal, for the fault that the message names, with its offset |
+/// | 5 | `replay`: the file has the text of no journal, for the fault that the message names, with its offset; with `--cut`: it doesn't begin with the first line of a journal |
 /// | 6, 7 | reading or writing failed, and was counted |
 /// | 8 | memory ran out |
 /// | 9 | the file is longer than its command takes, and the shelf counted that |
 ///
 /// `ended` is that table; `printed`, `unwritten`, `complete` and `later` are what a reader looks for first, and follow from it. What each status
-/// says, taken alone, is `causes`. Trail and control are left as they are (`trail`, `control`).
+/// says, taken alone, is `causes`. Trail and control are left as they are (`trail`, `control`). What a run whose trail was cut leaves behind replays to
+/// a front of what the run would have printed (`cuts`).
 /// `markers`, `closed_runs`, `report_markers` and `late` hold of every journal, so of the one that a script spells: in the book that is printed each closed run of a tracked series
 /// has exactly one stale marker, after it, no marker stands elsewhere, and a fetch that was cancelled adds nothing.
 pub fn tool_still<S: Shelf, O: Sink, E: Sink, R: Sink, C: Source>(
@@ -141,7 +143,9 @@ pub fn tool_still<S: Shelf, O: Sink, E: Sink, R: Sink, C: Source>(
     ensures closed_runs { (journal : List Event) (n : ℕ) (x : List Pair) → ClosedRunsLaw journal n x }
     ensures report_markers { (journal : List Event) → ReportMarkerLaw journal }
     ensures late { (w : World) → LateLaw w }
+    ensures cuts { (journal front : List Event) (kept : Bool) → IsCutOf journal front → CutLaw journal front kept }
 {
+    cuts();
     markers();
     closed_runs();
     report_markers();
@@ -155,4 +159,10 @@ pub fn tool_still<S: Shelf, O: Sink, E: Sink, R: Sink, C: Source>(
 pub fn causes()
     ensures causes { (c : spec.Call) → Causes c }
     ensures statuses { (status : ℕ) (c : spec.Call) → spec.Ended status c → IsStatus status }
+{}
+
+/// Where a text begins that of a journal and holds its first line, the journal of its events (`read_front`) begins that journal, and what is
+/// printed of it is the beginning of what is printed of the whole one, with verdicts or without.
+pub fn cuts()
+    ensures { (journal front : List Event) (kept : Bool) → IsCutOf journal front → CutLaw journal front kept }
 {}

@@ -1,7 +1,7 @@
 //! Live runs over objects in memory: control lines of each kind, and a reload while two fetches are held.
 ghost use Rattle.std.specs.Prelude.{◌≡◌, vec_len, IfOk};
 
-use super::{ROOM, fails, means_of, still, words_of};
+use super::{ROOM, Ran, fails, files, means_of, run_over, words_of};
 use crate::tool::{Finished, tool};
 use label_set::{Blob, Name, NoMemory};
 use outside::{
@@ -153,7 +153,7 @@ fn held_fetches(alloc: Global, stage: &Arc<Stage, Global>) -> Result<Vec<HeldFet
     Ok(vec![in alloc; one, other]?)
 }
 
-fn stored(alloc: Global, name: &str, text: &str) -> Result<StoredFile, NoMemory> {
+pub fn stored(alloc: Global, name: &str, text: &str) -> Result<StoredFile, NoMemory> {
     Ok(StoredFile {
         name: Name::from_str(alloc, name)?,
         bytes: Blob::from_slice(alloc, text.as_bytes())?,
@@ -171,11 +171,11 @@ fn new_stage(alloc: Global) -> Result<Arc<Stage, Global>, NoMemory> {
 
 /// What a run put to its outputs.
 #[derive(Drop)]
-struct Put {
-    status: u8,
-    out: MemSink,
-    err: MemSink,
-    trail: MemSink,
+pub struct Put {
+    pub status: u8,
+    pub out: MemSink,
+    pub err: MemSink,
+    pub trail: MemSink,
 }
 
 /// Runs `run --turns TURNS c.json`.
@@ -216,20 +216,19 @@ fn run_of<W: Threads + Wait + Sync, C: Source, K: Clock + Send, F: Fetch + Send>
     })
 }
 
-/// The trail of a run replays to what the run printed.
-fn replays(rt: &impl Abort, means: Means, put: &Put) -> Result<(), Fail> {
+/// What a trail replays to.
+pub fn replayed(rt: &impl Abort, means: Means, trail: &[u8]) -> Result<MemSink, Fail> {
     let alloc = means.alloc;
-    let words = words_of(alloc, &["replay", "trail"])?;
-    let file = StoredFile {
-        name: Name::from_str(alloc, "trail")?,
-        bytes: Blob::from_slice(alloc, put.trail.bytes())?,
-    };
-    let items = vec![in alloc; file]?;
-    let mut shelf = MemShelf::new(FileList { items }, fails(alloc, &[])?)?;
-    let mut out = MemSink::new(alloc, ROOM, fails(alloc, &[])?)?;
-    let mut err = MemSink::new(alloc, ROOM, fails(alloc, &[])?)?;
-    let status = still(means, words.as_slice(), &mut shelf, &mut out, &mut err)?;
+    let words = words_of(alloc, &["replay", "s"])?;
+    let mut shelf = MemShelf::new(files(alloc, trail)?, fails(alloc, &[])?)?;
+    let Ran { status, out, .. } = run_over(means, words.as_slice(), &mut shelf, ROOM, &[])?;
     assert_eq!(rt; status, 0);
+    Ok(out)
+}
+
+/// The trail of a run replays to what the run printed.
+pub fn replays(rt: &impl Abort, means: Means, put: &Put) -> Result<(), Fail> {
+    let out = replayed(rt, means, put.trail.bytes())?;
     assert!(rt; out.bytes() == put.out.bytes());
     Ok(())
 }
@@ -279,11 +278,11 @@ fn run_with_held_fetches(rt: HostRuntime) -> Result<(), Fail> {
 }
 
 /// A configuration with a listed file.
-const LISTING: &str =
+pub const LISTING: &str =
     r#"{"scrape_configs":[{"job_name":"j","file_sd_configs":[{"files":["f.json"]}],"static_configs":[{"targets":["a:1"]}]}]}"#;
 
 /// Control lines that succeed, and one for each way not to but a file that is too long.
-const LINES: &str =
+pub const LINES: &str =
     "load c.json\nload bad.json\nload no.json\nx\ntargets j f.json\ntargets k f.json\ntargets j c.json";
 
 const SAID: &str =

@@ -1,0 +1,211 @@
+//! Each call of each outside object fails in turn: what a replay and a run leave then. docs/TESTED.md tells how many calls these are.
+ghost use Rattle.std.specs.Prelude.{◌≡◌, vec_len, IfOk};
+
+use super::live::{LINES, LISTING, Put, replayed, replays, stored};
+use super::{ROOM, fails, means_of, words_of};
+use crate::tool::{Finished, tool};
+use label_set::{Blob, NoMemory};
+use outside::{
+    CallList, FetchedList, FileList, MemClock, MemFetch, MemShelf, MemSink, MemSource, MomentList,
+};
+use scrape_core::Means;
+use std::alloc::Global;
+use std::marker::Sync;
+use std::process::Abort;
+use std::sync::Wait;
+use std::test::Fail;
+use std::thread::Threads;
+
+/// More calls than an object gets here.
+const MOST_CALLS: u64 = 100;
+
+/// The outside objects whose calls can fail.
+#[derive(Clone, Copy, PartialEq, Eq)]
+enum Object {
+    Shelf,
+    Out,
+    Err,
+    Trail,
+    Control,
+    Fetch,
+}
+
+/// The call that fails: of which object, and its number.
+#[derive(Clone, Copy)]
+struct Failing {
+    object: Object,
+    call: u64,
+}
+
+impl Failing {
+    /// The calls of an object that fail.
+    fn of(&self, alloc: Global, object: Object) -> Result<CallList, NoMemory> {
+        if object == self.object {
+            fails(alloc, &[self.call])
+        } else {
+            fails(alloc, &[])
+        }
+    }
+
+    fn sink(&self, alloc: Global, object: Object) -> Result<MemSink, NoMemory> {
+        MemSink::new(alloc, ROOM, self.of(alloc, object)?)
+    }
+
+    fn fetcher(&self, alloc: Global) -> Result<MemFetch, NoMemory> {
+        let items = Vec::new(alloc);
+        MemFetch::new(alloc, FetchedList { items }, self.of(alloc, Object::Fetch)?)
+    }
+
+    fn fetchers(&self, alloc: Global) -> Result<Vec<MemFetch>, NoMemory>
+        ensures { IfOk result (λ v. vec_len v ≡ 2) }
+    {
+        let one = self.fetcher(alloc)?;
+        let other = self.fetcher(alloc)?;
+        Ok(vec![in alloc; one, other]?)
+    }
+}
+
+fn files_of_run(alloc: Global) -> Result<FileList, NoMemory> {
+    let mut items = Vec::new(alloc);
+    items.push(stored(alloc, "c.json", LISTING)?)?;
+    items.push(stored(alloc, "f.json", r#"[{"targets":["c:1"]}]"#)?)?;
+    items.push(stored(alloc, "bad.json", "{")?)?;
+    Ok(FileList { items })
+}
+
+/// What a run reads: files, control lines of each kind, and the time.
+#[derive(Drop)]
+struct Inputs {
+    shelf: MemShelf,
+    control: MemSource,
+    clock: MemClock,
+}
+
+fn inputs_of(alloc: Global, failing: Failing) -> Result<Inputs, NoMemory> {
+    let shelf = MemShelf::new(files_of_run(alloc)?, failing.of(alloc, Object::Shelf)?)?;
+    let lines = Blob::from_slice(alloc, LINES.as_bytes())?;
+    let control = MemSource::new(lines, failing.of(alloc, Object::Control)?)?;
+    let items = vec![in alloc; 0, 0, 60_000, 120_000]?;
+    let clock = MemClock::new(MomentList { items })?;
+    Ok(Inputs {
+        shelf,
+        control,
+        clock,
+    })
+}
+
+fn outputs_of(alloc: Global, failing: Failing) -> Result<Put, NoMemory> {
+    let out = failing.sink(alloc, Object::Out)?;
+    let err = failing.sink(alloc, Object::Err)?;
+    let trail = failing.sink(alloc, Object::Trail)?;
+    Ok(Put {
+        status: 0,
+        out,
+        err,
+        trail,
+    })
+}
+
+/// Runs `run --turns 3 c.json` with control lines of each kind.
+fn run_failing<W: Threads + Wait + Sync>(
+    rt: &W,
+    means: Means,
+    failing: Failing,
+) -> Result<Put, Fail> {
+    let alloc = means.alloc;
+    let words = words_of(alloc, &["run", "--turns", "3", "c.json"])?;
+    let Inputs {
+        mut shelf,
+        control,
+        clock,
+    } = inputs_of(alloc, failing)?;
+    let mut put = outputs_of(alloc, failing)?;
+    let fetchers = failing.fetchers(alloc)?;
+    let Finished { status, .. } = tool(
+        rt,
+        means,
+        words.as_slice(),
+        &mut shelf,
+        &mut put.out,
+        &mut put.err,
+        &mut put.trail,
+        control,
+        clock,
+        fetchers,
+    );
+    put.status = status;
+    Ok(put)
+}
+
+/// What a run leaves of which a call failed: one that was refused at its start, and one of which `err` failed, have written nothing; one of which
+/// control or a later file couldn't be read has written both texts; and where a text couldn't be written a front of it is there.
+fn assert_run(rt: &impl Abort, means: Means, failing: Failing, put: &Put) -> Result<(), Fail> {
+    let nothing = put.out.bytes().is_empty() && put.trail.bytes().is_empty();
+    match failing.object {
+        Object::Shelf | Object::Control => {
+            assert_eq!(rt; put.status, 6);
+            if failing.object == Object::Shelf && failing.call == 0 {
+                assert!(rt; nothing);
+                return Ok(());
+            }
+            replays(rt, means, put)
+        }
+        Object::Err => {
+            assert_eq!(rt; put.status, 7);
+            assert!(rt; nothing);
+            Ok(())
+        }
+        Object::Trail => {
+            assert_eq!(rt; put.status, 7);
+            assert!(rt; put.out.bytes().is_empty());
+            Ok(())
+        }
+        Object::Out => {
+            assert_eq!(rt; put.status, 7);
+            let whole = replayed(rt, means, put.trail.bytes())?;
+            assert!(rt; whole.bytes().starts_with(put.out.bytes()));
+            Ok(())
+        }
+        Object::Fetch => Ok(()),
+    }
+}
+
+/// Fails each call of an object in turn, until a run meets no failure; tells how many runs failed.
+fn failing_runs<W: Threads + Wait + Sync + Abort>(
+    rt: &W,
+    means: Means,
+    object: Object,
+) -> Result<u64, Fail> {
+    for call in 0..MOST_CALLS {
+        let failing = Failing { object, call };
+        let put = run_failing(rt, means, failing)?;
+        if put.status == 0 {
+            replays(rt, means, &put)?;
+            return Ok(call);
+        }
+        assert_run(rt, means, failing, &put)?;
+    }
+    Ok(MOST_CALLS)
+}
+
+#[test]
+fn each_call_of_a_run_fails_in_turn(rt: HostRuntime) -> Result<(), Fail> {
+    let means = means_of(&rt)?;
+    for (object, calls) in [
+        (Object::Shelf, 6),
+        (Object::Out, 1),
+        (Object::Err, 5),
+        (Object::Trail, 1),
+        (Object::Control, 2),
+    ] {
+        assert_eq!(rt; failing_runs(&rt, means, object)?, calls);
+    }
+    // a fetch that fails is a lost scrape, and the run goes on
+    for call in 0..4 {
+        let object = Object::Fetch;
+        let put = run_failing(&rt, means, Failing { object, call })?;
+        assert_eq!(rt; put.status, 0);
+        replays(&rt, means, &put)?;
+    }
+    Ok(())
+}
