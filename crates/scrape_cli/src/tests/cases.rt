@@ -13,7 +13,7 @@ use super::{ROOM, Ran, means_of, run_over};
 use label_set::{Blob, Name, NoMemory};
 use outside::{FileList, StoredFile, SureShelf};
 use scrape_cases::{
-    bodies, broken, checked, conflicts, endings, fields, flags, limits, relabelling, reloads,
+    bodies, broken, checked, conflicts, cuts, endings, fields, flags, limits, relabelling, reloads,
     scripts, synths, targets, texts, updates, verdicts, words,
 };
 use scrape_core::Means;
@@ -23,12 +23,13 @@ use std::str;
 use std::test::Fail;
 
 /// All cases, by subject.
-const TEXTS: [&str; 17] = [
+const TEXTS: [&str; 18] = [
     words::CASES,
     flags::CASES,
     scripts::CASES,
     synths::CASES,
     broken::CASES,
+    cuts::CASES,
     reloads::CASES,
     updates::CASES,
     endings::CASES,

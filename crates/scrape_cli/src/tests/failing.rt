@@ -192,7 +192,7 @@ fn failing_runs<W: Threads + Wait + Sync + Abort>(
 fn each_call_of_a_run_fails_in_turn(rt: HostRuntime) -> Result<(), Fail> {
     let means = means_of(&rt)?;
     for (object, calls) in [
-        (Object::Shelf, 6),
+        (Object::Shelf, 9),
         (Object::Out, 1),
         (Object::Err, 5),
         (Object::Trail, 1),

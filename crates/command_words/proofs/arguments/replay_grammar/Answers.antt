@@ -8,4 +8,4 @@ unfolding replay_app
 returns c =
     c.in_ok-whole.ensures.shape (search rules)
     ∙ ap₂ with_rule (c.in_ok-with_cut.ensures.shape (search rules)
-    ∙ ap₂ with_rule (c.in_ok-with_kept.ensures.shape (search rules) ∙ ap₂ with_rule c.bare.ensures c.flag.ensures.rule) c.flag-with_cut.ensures.rule) c.word.ensures.rule
+    ∙ ap₂ with_rule (c.in_ok-with_kept.ensures.shape (search rules) ∙ ap₂ with_rule c.bare.ensures c.flag.ensures.rule) c.flag-2.ensures.rule) c.word.ensures.rule
