@@ -44,6 +44,8 @@ mod journals;
 #[cfg(test)]
 mod limits;
 #[cfg(test)]
+mod openmetrics;
+#[cfg(test)]
 mod patterns;
 #[cfg(test)]
 mod places;

@@ -1,0 +1,6 @@
+pub mod Bodies
+pub mod Faults
+pub mod Forms
+pub mod Grammar
+pub mod Laws
+pub mod Timestamps

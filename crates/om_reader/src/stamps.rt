@@ -1,0 +1,170 @@
+//! Timestamps in seconds, as milliseconds. No number is made of more digits than 64 bits hold, whatever the exponent.
+ghost use Rattle.std.specs.Prelude.{◌≡◌, ◌≤◌, ◌<◌, ◌+◌, ◌++◌, ◌*◌, ◌^◌, ◌∷◌, ℕ, List, length, take, drop, min, IsTrue, OnOk, Some, None, true, option_map};
+ghost use Rattle.std.specs.List.{list_all};
+ghost use Rattle.std.specs.Char.{is_ascii_digit};
+ghost use Rattle.std.specs.Fmt.{signed_decimal};
+ghost use Rattle.std.specs.Option.{SomeIff};
+ghost use Rattle.std.specs.Str.Parse.{digits_value, digits_value_after};
+ghost use Rattle.value_text.specs.Values.{is_exponent};
+ghost use Rattle.om_reader.specs.Timestamps as spec;
+
+use crate::numbers::{is_number, without_sign};
+use crate::parts::{Part, cut};
+use itoa::Buffer;
+use label_set::NoMemory;
+use value_text::{digit_count, number_of};
+
+/// Milliseconds: their number, and whether they are below zero.
+#[derive(Clone, Copy)]
+pub struct Millis {
+    minus: bool,
+    count: u64,
+}
+
+/// The most bytes of a timestamp.
+const LONGEST: usize = 128;
+
+/// The greatest power of ten whose exact number matters: no timestamp has so many digits.
+const FAR: u64 = 1000;
+
+/// The least number of milliseconds that is out of range.
+const END: u64 = 1 << 63;
+
+/// The milliseconds of a timestamp: a number as a value has it, in seconds. Its point is moved three places to the right, and what stands behind it
+/// then is dropped.
+pub fn read_stamp(bytes: &[u8]) -> Option<Millis>
+    ensures { option_map spec.millis_of result ≡ spec.stamp_millis bytes.now }
+{
+    let number = without_sign(bytes);
+    if bytes.len() > LONGEST || !is_number(number) {
+        return None;
+    }
+    match thousands(number) {
+        Some(count) => in_range(bytes[0] == b'-', count),
+        None => None,
+    }
+}
+
+/// The milliseconds, where they are in range.
+fn in_range(minus: bool, count: u64) -> Option<Millis> {
+    if count < END || minus && count == END {
+        Some(Millis { minus, count })
+    } else {
+        None
+    }
+}
+
+/// The parts of a number with no sign: the digits before its point and behind it, and its exponent.
+#[derive(Clone, Copy)]
+struct Parts<'a> {
+    whole: &'a [u8],
+    part: &'a [u8],
+    exponent: &'a [u8],
+}
+
+/// The digits in front, and what follows them.
+fn digits_of(bytes: &[u8]) -> Part<'_> {
+    cut(bytes, digit_count(bytes))
+}
+
+fn parts_of(number: &[u8]) -> Parts<'_> {
+    let whole = digits_of(number);
+    if whole.rest.is_empty() || whole.rest[0] != b'.' {
+        return Parts {
+            whole: whole.bytes,
+            part: &[],
+            exponent: whole.rest,
+        };
+    }
+    let part = digits_of(&whole.rest[1..]);
+    Parts {
+        whole: whole.bytes,
+        part: part.bytes,
+        exponent: part.rest,
+    }
+}
+
+/// By how many places an exponent moves the point, or `FAR` where it is more.
+fn power_of(exponent: &[u8]) -> u64 {
+    if exponent.is_empty() {
+        return 0;
+    }
+    match number_of(without_sign(&exponent[1..])) {
+        Some(power) => power.min(FAR),
+        None => FAR,
+    }
+}
+
+/// Before how many digits the point stands once it is moved.
+fn place_of(count: usize, exponent: &[u8]) -> usize {
+    let power = power_of(exponent) as usize;
+    if exponent.len() > 1 && exponent[1] == b'-' {
+        (count + 3).saturating_sub(power)
+    } else {
+        count + 3 + power
+    }
+}
+
+/// So many bytes in front, or all.
+fn front(bytes: &[u8], count: usize) -> &[u8] {
+    &bytes[..count.min(bytes.len())]
+}
+
+/// The number with its point moved three places to the right, without what stands behind it, where it has 64 bits.
+fn thousands(number: &[u8]) -> Option<u64> {
+    let parts = parts_of(number);
+    let place = place_of(parts.whole.len(), parts.exponent);
+    let whole = front(parts.whole, place);
+    let part = front(parts.part, place - whole.len());
+    let Some(count) = with_digits(0, whole) else {
+        return None;
+    };
+    let Some(count) = with_digits(count, part) else {
+        return None;
+    };
+    with_zeros(count, place - whole.len() - part.len())
+}
+
+/// A number with digits behind it, where it has 64 bits.
+fn with_digits(number: u64, digits: &[u8]) -> Option<u64> {
+    let mut number = number;
+    for digit in digits {
+        number = match with_digit(number, *digit) {
+            Some(longer) => longer,
+            None => return None,
+        };
+    }
+    Some(number)
+}
+
+/// A number with one more digit, where it has 64 bits.
+fn with_digit(number: u64, digit: u8) -> Option<u64> {
+    let longer = number as u128 * 10 + (digit - b'0') as u128;
+    if longer < 1 << 64 {
+        Some(longer as u64)
+    } else {
+        None
+    }
+}
+
+/// A number with zeros behind it, where it has 64 bits.
+fn with_zeros(number: u64, zeros: usize) -> Option<u64> {
+    let mut number = number;
+    for _ in 0..zeros {
+        number = match number.checked_mul(10) {
+            Some(longer) => longer,
+            None => return None,
+        };
+    }
+    Some(number)
+}
+
+/// Adds milliseconds to a text.
+pub fn push_millis(text: &mut Vec<u8>, millis: Millis) -> Result<(), NoMemory> {
+    let mut buffer = Buffer::new();
+    if millis.minus && millis.count > 0 {
+        text.push(b'-')?;
+    }
+    text.extend_from_slice(buffer.format(millis.count).as_bytes())?;
+    Ok(())
+}
