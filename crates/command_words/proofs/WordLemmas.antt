@@ -11,10 +11,10 @@ use Rattle.clap.specs.declared.error.kind.ErrorKind.TheVariants.{OutOfMemory}
 use Rattle.clap.specs.declared.parser.matches.ArgMatches.{ArgMatches}
 use Rattle.clap.proofs.OnLiterals.{clap_on_literals}
 use Rattle.clap.proofs.WalkLemmas.{first_value-rows}
-use Rattle.command_words.specs.Arguments.{replay_app, check_app, synth_app, run_app, app_for, fault_in, rows_in}
+use Rattle.command_words.specs.Arguments.{replay_app, file_app, synth_app, run_app, app_for, fault_in, rows_in}
 use Rattle.command_words.specs.Words.{order_of, asked_in, order_by, file_in, file_asked, unless_refused, is_given}
 use Rattle.command_words.specs.declared.words.Verb.{Verb}
-use Rattle.command_words.specs.declared.words.Verb.TheVariants.{Replay, Check, Synth, Run}
+use Rattle.command_words.specs.declared.words.Verb.TheVariants.{Replay, Check, Convert, Synth, Run}
 use Rattle.command_words.specs.declared.words.Asked.{Asked}
 use Rattle.command_words.specs.declared.words.Order.{Order}
 
@@ -22,9 +22,13 @@ free_replay : is_simple_and_free replay_app ≡ true
 unfolding replay_app clap_on_literals
 free_replay = refl
 
-free_check : is_simple_and_free check_app ≡ true
-unfolding check_app clap_on_literals
+free_check : is_simple_and_free (file_app (codes "check")) ≡ true
+unfolding file_app clap_on_literals
 free_check = refl
+
+free_convert : is_simple_and_free (file_app (codes "convert")) ≡ true
+unfolding file_app clap_on_literals
+free_convert = refl
 
 free_synth : is_simple_and_free synth_app ≡ true
 unfolding synth_app clap_on_literals
@@ -38,9 +42,13 @@ simple_replay : is_simple replay_app ≡ true
 unfolding replay_app clap_on_literals
 simple_replay = refl
 
-simple_check : is_simple check_app ≡ true
-unfolding check_app clap_on_literals
+simple_check : is_simple (file_app (codes "check")) ≡ true
+unfolding file_app clap_on_literals
 simple_check = refl
+
+simple_convert : is_simple (file_app (codes "convert")) ≡ true
+unfolding file_app clap_on_literals
+simple_convert = refl
 
 simple_synth : is_simple synth_app ≡ true
 unfolding synth_app clap_on_literals
@@ -53,12 +61,14 @@ simple_run = refl
 is_free : (command : Verb) → is_simple_and_free (app_for command) ≡ true
 is_free Replay = free_replay
 is_free Check = free_check
+is_free Convert = free_convert
 is_free Synth = free_synth
 is_free Run = free_run
 
 has_simple : (command : Verb) → is_simple (app_for command) ≡ true
 has_simple Replay = simple_replay
 has_simple Check = simple_check
+has_simple Convert = simple_convert
 has_simple Synth = simple_synth
 has_simple Run = simple_run
 

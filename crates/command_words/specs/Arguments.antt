@@ -5,7 +5,7 @@ use Rattle.clap.specs.Kinds.{Kinds}
 use Rattle.clap.specs.Faults.{fault_of}
 use Rattle.clap.specs.declared.builder.action.ArgAction.TheVariants.{SetTrue}
 use Rattle.command_words.specs.declared.words.Verb.{Verb}
-use Rattle.command_words.specs.declared.words.Verb.TheVariants.{Replay, Check, Synth, Run}
+use Rattle.command_words.specs.declared.words.Verb.TheVariants.{Replay, Check, Convert, Synth, Run}
 
 abbrev pub kept_id : Text
 kept_id = codes "kept"
@@ -48,9 +48,9 @@ bare_app name = let a = new_app name in record a { top = record a.top { disable_
 unfoldable pub replay_app : App
 replay_app = with_rule (with_rule (with_rule (bare_app (codes "replay")) (flag_rule kept_id)) (flag_rule cut_id)) (word_rule file_id)
 
--- `check FILE`
-unfoldable pub check_app : App
-check_app = with_rule (bare_app (codes "check")) (word_rule file_id)
+-- `check FILE` and `convert FILE`
+unfoldable pub file_app : Text → App
+file_app name = with_rule (bare_app name) (word_rule file_id)
 
 -- `synth SEED TARGETS SCRAPES`
 unfoldable pub synth_app : App
@@ -62,7 +62,8 @@ run_app = with_rule (with_rule (with_rule (bare_app (codes "run")) turns_rule) (
 
 abbrev pub app_for : Verb → App
 app_for Replay = replay_app
-app_for Check = check_app
+app_for Check = file_app (codes "check")
+app_for Convert = file_app (codes "convert")
 app_for Synth = synth_app
 app_for Run = run_app
 

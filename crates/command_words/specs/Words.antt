@@ -6,7 +6,7 @@ use Rattle.std.specs.Str.Parse.{digits_value}
 use Rattle.clap.specs.Kinds.{Kinds}
 use Rattle.clap.specs.Words.{Row, Text, first_of}
 use Rattle.value_text.specs.Values.{digits}
-use Rattle.outside.specs.Sizes.{most_text_bytes}
+use Rattle.outside.specs.Sizes.{most_body_bytes, most_text_bytes}
 use Rattle.synth.specs.Scripts.{plan, most_targets, most_scrapes, most_scrapes_of_all}
 use Rattle.synth.specs.declared.scripts.Plan.{Plan}
 use Rattle.command_words.specs.Arguments.{kept_id, cut_id, file_id, seed_id, targets_id, scrapes_id, turns_id, fault_in, rows_in}
@@ -14,7 +14,7 @@ use Rattle.command_words.specs.Askings.{Asking, asking, running}
 use Rattle.command_words.specs.declared.words.Verb.{Verb}
 use Rattle.command_words.specs.declared.words.Verb.TheVariants as verb
 use Rattle.command_words.specs.declared.words.Command.{Command}
-use Rattle.command_words.specs.declared.words.Command.TheVariants.{Replay, Check}
+use Rattle.command_words.specs.declared.words.Command.TheVariants.{Replay, Check, Convert}
 use Rattle.command_words.specs.declared.words.Asked.{Asked}
 use Rattle.command_words.specs.declared.words.Asked.TheVariants.{File, Synth}
 use Rattle.command_words.specs.declared.words.Order.{Order}
@@ -25,6 +25,7 @@ abbrev pub verb_named : List ℕ → Option Verb
 verb_named word =
     if bytes_eq word (codes "replay") then Some verb.Replay
     else if bytes_eq word (codes "check") then Some verb.Check
+    else if bytes_eq word (codes "convert") then Some verb.Convert
     else if bytes_eq word (codes "synth") then Some verb.Synth
     else if bytes_eq word (codes "run") then Some verb.Run
     else None
@@ -78,6 +79,7 @@ workload_by rows = asked_by_numbers (number_in seed_id (2 ^ 32) rows) (number_in
 abbrev pub order_by : Verb → List Row → Option Order
 order_by verb.Replay rows = option_map Still (replay_asked rows)
 order_by verb.Check rows = option_map Still (asked_by_file Check rows)
+order_by verb.Convert rows = option_map Still (asked_by_file Convert rows)
 order_by verb.Synth rows = option_map Still (workload_by rows)
 order_by verb.Run rows = order_by_turns (is_given kept_id rows) (number_in turns_id 1000001 rows) (first_of file_id rows)
 
@@ -118,7 +120,8 @@ abbrev pub OfFile : (Asking → Type 0) → Asked → Type 0
 OfFile P (File a) = P a
 OfFile P (Synth p) = ⊥
 
--- a script is at most 256 MiB long, and a configuration as long as one may be
+-- a script is at most 256 MiB long, a configuration as long as one may be, and so is a body
 abbrev pub limit_of : Command → ℕ
 limit_of (Replay cut) = 268435456
 limit_of Check = most_text_bytes
+limit_of Convert = most_body_bytes

@@ -68,11 +68,11 @@ fn replay_grammar<'a>(alloc: Global) -> Result<Grammar<'a>, AllocError>
     Ok(whole)
 }
 
-/// `check FILE`.
-fn check_grammar<'a>(alloc: Global) -> Result<Grammar<'a>, AllocError>
-    ensures { IfOk result (λ g. app_of g ≡ grammar.check_app) }
+/// `check FILE`, `convert FILE`.
+fn file_grammar<'a>(alloc: Global, name: &'a str) -> Result<Grammar<'a>, AllocError>
+    ensures { IfOk result (λ g. app_of g ≡ grammar.file_app name.now) }
 {
-    let whole = bare(alloc, "check").arg(word(alloc, "file"))?;
+    let whole = bare(alloc, name).arg(word(alloc, "file"))?;
     Ok(whole)
 }
 
@@ -102,7 +102,8 @@ fn grammar_of<'a>(alloc: Global, verb: Verb) -> Result<Grammar<'a>, AllocError>
 {
     match verb {
         Verb::Replay => replay_grammar(alloc),
-        Verb::Check => check_grammar(alloc),
+        Verb::Check => file_grammar(alloc, "check"),
+        Verb::Convert => file_grammar(alloc, "convert"),
         Verb::Synth => synth_grammar(alloc),
         Verb::Run => run_grammar(alloc),
     }
@@ -235,6 +236,7 @@ fn order_by<'a>(verb: Verb, matches: &ArgMatches<'a>) -> Option<Order<'a>>
     match verb {
         Verb::Replay => still(replay_asked(matches)),
         Verb::Check => still(asked_by_file(Command::Check, matches)),
+        Verb::Convert => still(asked_by_file(Command::Convert, matches)),
         Verb::Synth => still(asked_by_numbers(matches)),
         Verb::Run => order_by_turns(matches),
     }

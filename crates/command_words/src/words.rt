@@ -5,7 +5,7 @@ ghost use Rattle.command_words.specs.Askings.{running};
 ghost use Rattle.command_words.specs.Words as spec;
 ghost use Rattle.command_words.specs.declared.words.Order.TheVariants as order;
 
-use outside::MOST_TEXT_BYTES;
+use outside::{MOST_BODY_BYTES, MOST_TEXT_BYTES};
 use std::marker::Model;
 use synth::MOST_SCRAPES_OF_ALL;
 
@@ -14,6 +14,7 @@ use synth::MOST_SCRAPES_OF_ALL;
 pub enum Verb {
     Replay,
     Check,
+    Convert,
     Synth,
     Run,
 }
@@ -25,6 +26,8 @@ pub enum Command {
     Replay { cut: bool },
     /// Check the configuration in a file.
     Check,
+    /// Convert the OpenMetrics body in a file.
+    Convert,
 }
 
 /// A command with its flag, and the name of its file.
@@ -159,6 +162,8 @@ pub fn verb_named(word: &str) -> Option<Verb>
         Some(Verb::Replay)
     } else if word == "check" {
         Some(Verb::Check)
+    } else if word == "convert" {
+        Some(Verb::Convert)
     } else if word == "synth" {
         Some(Verb::Synth)
     } else if word == "run" {
@@ -199,12 +204,13 @@ pub fn live_of<'a>(turns: u64, kept: bool, file: &'a str) -> Order<'a>
     })
 }
 
-/// How many bytes the file of a command may have: 256 MiB for a script, and 4 MiB for a configuration.
+/// How many bytes the file of a command may have: 256 MiB for a script, 4 MiB for a configuration, and 64 MiB for a body.
 pub fn limit_of(command: Command) -> usize
     ensures { result ≡ spec.limit_of command }
 {
     match command {
         Command::Replay { .. } => 268_435_456,
         Command::Check => MOST_TEXT_BYTES as usize,
+        Command::Convert => MOST_BODY_BYTES as usize,
     }
 }

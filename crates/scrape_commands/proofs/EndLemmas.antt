@@ -4,32 +4,35 @@ use Rattle.std.specs.Prelude.{Bool, Result, Ok, Err}
 use Rattle.outside.specs.Objects.{ShelfSeen, SinkSeen, Use, IsUntouched, Missed, MetLonger, FailedToRead}
 use Rattle.config_fields.specs.declared.fault.ConfFault.{ConfFault}
 use Rattle.journal_text.specs.declared.faults.ScriptFault.{ScriptFault}
+use Rattle.om_reader.specs.Bodies.{converted}
 use Rattle.scrape_commands.specs.Checks.{IsFault, fault_message}
 use Rattle.scrape_commands.specs.Scripts.{IsFaultOf, fault_message as script_message}
 use Rattle.command_words.specs.Words.{file_in}
-use Rattle.scrape_commands.specs.Ends.{Call, work_of, Reads, Prints, IsRefused, WorkEnds, Speaks, IsSaid, Ended, status_at, status_of, message_of}
+use Rattle.scrape_commands.specs.Ends.{Call, work_of, Reads, Prints, IsRefused, WorkEnds, Speaks, IsSaid, Ended, status_at, status_of, line_message, message_of}
 use Rattle.scrape_commands.specs.Laws.{Causes, NoCountFell, IsStatus}
-use Rattle.command_words.specs.declared.words.Command.TheVariants.{Replay, Check}
+use Rattle.command_words.specs.declared.words.Command.TheVariants.{Replay, Check, Convert}
 use Rattle.scrape_commands.specs.declared.refusals.Refusal.{Refusal}
-use Rattle.scrape_commands.specs.declared.refusals.Refusal.TheVariants.{BadWords, Absent, Config, Script, ReadFault, WriteFault, NoMemory, TooLong}
+use Rattle.scrape_commands.specs.declared.refusals.Refusal.TheVariants.{BadWords, Absent, Config, Script, OpenMetrics, ReadFault, WriteFault, NoMemory, TooLong}
 
 -- a status tells its refusal, but for the fault of a file
-same_refusal : (r s : Refusal) → status_of r ≢ 4 → status_of r ≢ 5 → status_of r ≡ status_of s → s ≡ r
-same_refusal BadWords BadWords n m e = refl
-same_refusal Absent Absent n m e = refl
-same_refusal (Config f) s n m e = absurd (n refl)
-same_refusal (Script f) s n m e = absurd (m refl)
-same_refusal ReadFault ReadFault n m e = refl
-same_refusal WriteFault WriteFault n m e = refl
-same_refusal NoMemory NoMemory n m e = refl
-same_refusal TooLong TooLong n m e = refl
-same_refusal _ _ n m e = absurd (omega (arith, e))
+same_refusal : (r s : Refusal) → status_of r ≢ 4 → status_of r ≢ 5 → status_of r ≢ 13 → status_of r ≡ status_of s → s ≡ r
+same_refusal BadWords BadWords n m o e = refl
+same_refusal Absent Absent n m o e = refl
+same_refusal (Config f) s n m o e = absurd (n refl)
+same_refusal (Script f) s n m o e = absurd (m refl)
+same_refusal (OpenMetrics l) s n m o e = absurd (o refl)
+same_refusal ReadFault ReadFault n m o e = refl
+same_refusal WriteFault WriteFault n m o e = refl
+same_refusal NoMemory NoMemory n m o e = refl
+same_refusal TooLong TooLong n m o e = refl
+same_refusal _ _ n m o e = absurd (omega (arith, e))
 
 not_zero : (r : Refusal) → status_of r ≡ 0 → ⊥
 not_zero BadWords e = omega (arith, e)
 not_zero Absent e = omega (arith, e)
 not_zero (Config f) e = omega (arith, e)
 not_zero (Script f) e = omega (arith, e)
+not_zero (OpenMetrics l) e = omega (arith, e)
 not_zero ReadFault e = omega (arith, e)
 not_zero WriteFault e = omega (arith, e)
 not_zero NoMemory e = omega (arith, e)
@@ -41,13 +44,13 @@ module _ (c : Call) where
     pub refused : IsRefused r (work_of c)
     pub said : IsSaid (message_of (file_in c.words) r) c.err
 
-  told_by : (r : Refusal) → status_of r ≢ 4 → status_of r ≢ 5 → Ended (status_of r) c → Told r
-  told_by r n m e = of e.end e.status_is e.work_ends e.speaks
+  told_by : (r : Refusal) → status_of r ≢ 4 → status_of r ≢ 5 → status_of r ≢ 13 → Ended (status_of r) c → Told r
+  told_by r n m o e = of e.end e.status_is e.work_ends e.speaks
     where
       of : (end : Result (Unit {0}) Refusal) → status_of r ≡ status_at end → WorkEnds end (work_of c) → Speaks end (file_in c.words) c.err → Told r
       of (Ok u) is w s = absurd (not_zero r is)
       of (Err other) is w s =
-          let same : other ≡ r = same_refusal r other n m is in
+          let same : other ≡ r = same_refusal r other n m o is in
           record {
             refused = subst (λ (z : Refusal). IsRefused z (work_of c)) same w;
             said = subst (λ (z : Refusal). IsSaid (message_of (file_in c.words) z) c.err) same s;
@@ -77,18 +80,27 @@ module _ (c : Call) where
   misspelled_by (Err (Script f)) is w s = (f, w.cause.0, w.cause.1, w.cause.2, w.cause.3, s)
   misspelled_by (Err _) is w s = absurd (omega (arith, is))
 
+  abbrev FaultyLine : Type 0
+  FaultyLine = (line : ℕ) × (bytes : List ℕ) × Reads Convert bytes (work_of c) × (converted bytes ≡ Err line) × IsSaid (line_message line) c.err
+
+  line_by : (end : Result (Unit {0}) Refusal) → 13 ≡ status_at end → WorkEnds end (work_of c) → Speaks end (file_in c.words) c.err → FaultyLine
+  line_by (Ok u) is w s = absurd (omega (arith, is))
+  line_by (Err (OpenMetrics l)) is w s = (l, w.cause.0, w.cause.1, w.cause.2, s)
+  line_by (Err _) is w s = absurd (omega (arith, is))
+
   pub causes_of : Causes c
   causes_of = record {
     done = λ e. done_by e.end e.status_is e.work_ends;
     quiet = λ e. quiet_by e.end e.status_is e.speaks;
-    bad_words = λ e. (told_by BadWords (λ z. omega (arith, z)) (λ z. omega (arith, z)) e).refused.cause;
-    absent = λ e. let t = told_by Absent (λ z. omega (arith, z)) (λ z. omega (arith, z)) e in (t.refused.shelf, t.refused.cause);
+    bad_words = λ e. (told_by BadWords (λ z. omega (arith, z)) (λ z. omega (arith, z)) (λ z. omega (arith, z)) e).refused.cause;
+    absent = λ e. let t = told_by Absent (λ z. omega (arith, z)) (λ z. omega (arith, z)) (λ z. omega (arith, z)) e in (t.refused.shelf, t.refused.cause);
     faulty = λ e. faulty_by e.end e.status_is e.work_ends e.speaks;
     misspelled = λ e. misspelled_by e.end e.status_is e.work_ends e.speaks;
-    read_fault = λ e. (told_by ReadFault (λ z. omega (arith, z)) (λ z. omega (arith, z)) e).refused.shelf;
-    front = λ e. (told_by WriteFault (λ z. omega (arith, z)) (λ z. omega (arith, z)) e).refused.cause;
-    too_long = λ e. let t = told_by TooLong (λ z. omega (arith, z)) (λ z. omega (arith, z)) e in (t.refused.shelf, t.refused.cause);
-    said = λ r n m e. (told_by r n m e).said;
+    faulty_line = λ e. line_by e.end e.status_is e.work_ends e.speaks;
+    read_fault = λ e. (told_by ReadFault (λ z. omega (arith, z)) (λ z. omega (arith, z)) (λ z. omega (arith, z)) e).refused.shelf;
+    front = λ e. (told_by WriteFault (λ z. omega (arith, z)) (λ z. omega (arith, z)) (λ z. omega (arith, z)) e).refused.cause;
+    too_long = λ e. let t = told_by TooLong (λ z. omega (arith, z)) (λ z. omega (arith, z)) (λ z. omega (arith, z)) e in (t.refused.shelf, t.refused.cause);
+    said = λ r n m o e. (told_by r n m o e).said;
   }
 
 pub status_by : (status : ℕ) (c : Call) → Ended status c → IsStatus status
@@ -111,6 +123,7 @@ unwritten_by status c e some other = of e.end e.status_is e.work_ends
     of (Err Absent) is w = w.out
     of (Err (Config f)) is w = w.out
     of (Err (Script f)) is w = w.out
+    of (Err (OpenMetrics l)) is w = w.out
     of (Err ReadFault) is w = w.out
     of (Err WriteFault) is w = absurd (other is)
     of (Err NoMemory) is w = w.out
@@ -161,6 +174,7 @@ later_by status c e =
     of_shelf (Err Absent) w = missed_counts c.shelf w.shelf
     of_shelf (Err (Config f)) w = same_counts c.shelf w.shelf
     of_shelf (Err (Script f)) w = same_counts c.shelf w.shelf
+    of_shelf (Err (OpenMetrics l)) w = same_counts c.shelf w.shelf
     of_shelf (Err ReadFault) w = failed_counts c.shelf w.shelf
     of_shelf (Err WriteFault) w = same_counts c.shelf w.shelf
     of_shelf (Err NoMemory) w = same_counts c.shelf w.shelf
@@ -172,6 +186,7 @@ later_by status c e =
     of_out (Err Absent) w = same_puts c.out w.out
     of_out (Err (Config f)) w = same_puts c.out w.out
     of_out (Err (Script f)) w = same_puts c.out w.out
+    of_out (Err (OpenMetrics l)) w = same_puts c.out w.out
     of_out (Err ReadFault) w = same_puts c.out w.out
     of_out (Err WriteFault) w = w.cause.put.counted.0
     of_out (Err NoMemory) w = same_puts c.out w.out

@@ -1,5 +1,6 @@
 -- How a call of the program ends: the one table of its refusals.
 use Rattle.std.specs.Prelude.{◌≡◌, ◌⊎◌, ℕ, ◌≤◌, Bool, ⊤, List, ◌++◌, codes, length, Option, Some, None, IsSomeAnd, Result, Ok, Err}
+use Rattle.std.specs.Fmt.{decimal}
 use Rattle.outside.specs.Objects.{ShelfSeen, SinkSeen, Use, IsUntouched, Rose, HasFile, LacksFile, HasLongerFile, Missed, MetLonger, FailedToRead, Adds, AddsFront, Took, Cut}
 use Rattle.journal_text.specs.declared.events.Event.{Event}
 use Rattle.journal_text.specs.declared.faults.ScriptFault.{ScriptFault}
@@ -9,15 +10,16 @@ use Rattle.book_text.specs.Texts.{printed}
 use Rattle.scrape_commands.specs.Checks.{IsConf, IsFault, ok_line, fault_message}
 use Rattle.scrape_commands.specs.Scripts.{IsScriptOf, IsFaultOf, fault_message as script_message}
 use Rattle.scrape_commands.specs.Synths.{synth_text}
+use Rattle.om_reader.specs.Bodies.{converted}
 use Rattle.synth.specs.declared.scripts.Plan.{Plan}
 use Rattle.command_words.specs.Askings.{asking}
 use Rattle.command_words.specs.Words.{OfFile, asked_in, file_in, limit_of}
 use Rattle.command_words.specs.declared.words.Asked.{Asked}
 use Rattle.command_words.specs.declared.words.Asked.TheVariants.{File, Synth}
 use Rattle.command_words.specs.declared.words.Command.{Command}
-use Rattle.command_words.specs.declared.words.Command.TheVariants.{Replay, Check}
+use Rattle.command_words.specs.declared.words.Command.TheVariants.{Replay, Check, Convert}
 use Rattle.scrape_commands.specs.declared.refusals.Refusal.{Refusal}
-use Rattle.scrape_commands.specs.declared.refusals.Refusal.TheVariants.{BadWords, Absent, Config, Script, ReadFault, WriteFault, NoMemory, TooLong}
+use Rattle.scrape_commands.specs.declared.refusals.Refusal.TheVariants.{BadWords, Absent, Config, Script, OpenMetrics, ReadFault, WriteFault, NoMemory, TooLong}
 
 -- a call of the program: its words, and what it made of each outside object
 pub record Call : Type 0 where
@@ -49,10 +51,11 @@ pub record Reads (command : Command) (bytes : List ℕ) (w : Work) : Type 0 wher
   pub has : HasFile w.shelf.before file bytes
   pub short : length bytes ≤ limit_of command
 
--- what a command prints for the bytes of its file: the book of the journal that they stand for, with verdicts or without, or the number of jobs
+-- what a command prints for the bytes of its file: the book of the journal that they stand for, with verdicts or without, the number of jobs, or the body that they become
 abbrev pub IsOutput : Command → Bool → List ℕ → List ℕ → Type 0
 IsOutput (Replay cut) kept bytes text = (journal : List Event) × IsScriptOf cut bytes journal × (text ≡ printed kept (book_of journal))
 IsOutput Check kept bytes text = (jobs : List Filed) × IsConf bytes jobs × (text ≡ ok_line (length jobs))
+IsOutput Convert kept bytes text = converted bytes ≡ Ok text
 
 -- a command over a file was asked for, and this is what it prints
 pub record IsOfFile (text : List ℕ) (w : Work) : Type 0 where
@@ -89,10 +92,15 @@ status_of BadWords = 2
 status_of Absent = 3
 status_of (Config fault) = 4
 status_of (Script fault) = 5
+status_of (OpenMetrics line) = 13
 status_of ReadFault = 6
 status_of WriteFault = 7
 status_of NoMemory = 8
 status_of TooLong = 9
+
+-- the message of a body of OpenMetrics whose first faulty line has this number
+abbrev pub line_message : ℕ → List ℕ
+line_message line = codes "scrape: openmetrics line " ++ (decimal line ++ codes "\n")
 
 -- the message of a refusal, for the file that the words name
 abbrev pub message_of : List ℕ → Refusal → List ℕ
@@ -100,6 +108,7 @@ message_of file BadWords = codes "scrape: bad words\n"
 message_of file Absent = codes "scrape: absent " ++ (file ++ codes "\n")
 message_of file (Config fault) = fault_message fault
 message_of file (Script fault) = script_message fault
+message_of file (OpenMetrics line) = line_message line
 message_of file ReadFault = codes "scrape: read fault\n"
 message_of file WriteFault = codes "scrape: write fault\n"
 message_of file NoMemory = codes "scrape: no memory\n"
@@ -111,6 +120,7 @@ IsCause BadWords w = w.asked ≡ None
 IsCause Absent w = IsSomeAnd w.asked (OfFile (λ a. LacksFile w.shelf.before a.file))
 IsCause (Config fault) w = (bytes : List ℕ) × Reads Check bytes w × IsFault bytes fault
 IsCause (Script fault) w = (cut : Bool) × (bytes : List ℕ) × Reads (Replay cut) bytes w × IsFaultOf cut bytes fault
+IsCause (OpenMetrics line) w = (bytes : List ℕ) × Reads Convert bytes w × (converted bytes ≡ Err line)
 IsCause ReadFault w = IsSomeAnd w.asked (OfFile (λ a. ⊤))
 IsCause WriteFault w = PrintsFront w
 IsCause NoMemory w = ⊤
@@ -122,6 +132,7 @@ LeavesShelf BadWords shelf = IsUntouched shelf
 LeavesShelf Absent shelf = Missed shelf
 LeavesShelf (Config fault) shelf = IsUntouched shelf
 LeavesShelf (Script fault) shelf = IsUntouched shelf
+LeavesShelf (OpenMetrics line) shelf = IsUntouched shelf
 LeavesShelf ReadFault shelf = FailedToRead shelf
 LeavesShelf WriteFault shelf = IsUntouched shelf
 LeavesShelf NoMemory shelf = IsUntouched shelf
@@ -133,6 +144,7 @@ LeavesOut BadWords out = IsUntouched out
 LeavesOut Absent out = IsUntouched out
 LeavesOut (Config fault) out = IsUntouched out
 LeavesOut (Script fault) out = IsUntouched out
+LeavesOut (OpenMetrics line) out = IsUntouched out
 LeavesOut ReadFault out = IsUntouched out
 LeavesOut WriteFault out = ⊤
 LeavesOut NoMemory out = IsUntouched out

@@ -6,13 +6,14 @@ use Rattle.jobs_in_force.specs.declared.jobs.Filed.{Filed}
 use Rattle.config_fields.specs.declared.fault.ConfFault.{ConfFault}
 use Rattle.scrape_commands.specs.Checks.{IsConf, IsFault, fault_message}
 use Rattle.scrape_commands.specs.Scripts.{IsFaultOf, StandsFor, StandsForNone, HasFault, fault_message as script_message}
-use Rattle.scrape_commands.specs.Ends.{Call, work_of, Ended, Reads, Prints, PrintsFront, IsSaid, message_of, status_of}
+use Rattle.scrape_commands.specs.Ends.{Call, work_of, Ended, Reads, Prints, PrintsFront, IsSaid, line_message, message_of, status_of}
+use Rattle.om_reader.specs.Bodies.{converted}
 use Rattle.synth.specs.declared.scripts.Plan.{Plan}
 use Rattle.command_words.specs.Askings.{Asking, asking}
 use Rattle.command_words.specs.Words.{OfFile, asked_in, file_in, limit_of}
 use Rattle.command_words.specs.declared.words.Asked.TheVariants.{File, Synth}
 use Rattle.command_words.specs.declared.words.Command.{Command}
-use Rattle.command_words.specs.declared.words.Command.TheVariants.{Replay, Check}
+use Rattle.command_words.specs.declared.words.Command.TheVariants.{Replay, Check, Convert}
 use Rattle.scrape_commands.specs.declared.refusals.Refusal.{Refusal}
 
 -- what each status says of the call
@@ -24,10 +25,11 @@ pub record Causes (c : Call) : Type 0 where
   pub faulty : Ended 4 c → (fault : ConfFault) × (bytes : List ℕ) × Reads Check bytes (work_of c) × IsFault bytes fault × IsSaid (fault_message fault) c.err
   pub misspelled : Ended 5 c → (fault : ScriptFault) × (cut : Bool) × (bytes : List ℕ) × Reads (Replay cut) bytes (work_of c)
       × IsFaultOf cut bytes fault × IsSaid (script_message fault) c.err
+  pub faulty_line : Ended 13 c → (line : ℕ) × (bytes : List ℕ) × Reads Convert bytes (work_of c) × (converted bytes ≡ Err line) × IsSaid (line_message line) c.err
   pub read_fault : Ended 6 c → FailedToRead c.shelf
   pub front : Ended 7 c → PrintsFront (work_of c)
   pub too_long : Ended 9 c → MetLonger c.shelf × IsSomeAnd (asked_in c.words) (OfFile (λ a. HasLongerFile c.shelf.before a.file (limit_of a.command)))
-  pub said : (r : Refusal) → status_of r ≢ 4 → status_of r ≢ 5 → Ended (status_of r) c → IsSaid (message_of (file_in c.words) r) c.err
+  pub said : (r : Refusal) → status_of r ≢ 4 → status_of r ≢ 5 → status_of r ≢ 13 → Ended (status_of r) c → IsSaid (message_of (file_in c.words) r) c.err
 
 -- a call ends with one of these statuses
 abbrev pub IsStatus : ℕ → Type 0
@@ -71,6 +73,7 @@ IsFreely due status = (status ≡ due) ⊎ (status ≡ 8)
 abbrev pub refused_at : Command → ℕ
 refused_at (Replay cut) = 5
 refused_at Check = 4
+refused_at Convert = 13
 
 -- which status is due: where the words are others; where the file is told and reading and writing don't fail; where nothing is counted.
 -- Want of memory alone may stand in its place
@@ -85,6 +88,9 @@ pub record Complete (status : ℕ) (c : Call) : Type 0 where
   pub checked : (bytes : List ℕ) (jobs : List Filed) → IsTold Check bytes c → IsConf bytes jobs → IsSound c → IsFreely 0 status
   pub refused : (bytes : List ℕ) (fault : ConfFault) → IsTold Check bytes c → IsFault bytes fault → IsRead c → IsFreely 4 status
   pub told : (bytes : List ℕ) (fault : ConfFault) → IsTold Check bytes c → IsFault bytes fault → status ≡ 4 → IsSaid (fault_message fault) c.err
+  pub plain : (bytes text : List ℕ) → IsTold Convert bytes c → converted bytes ≡ Ok text → IsSound c → IsFreely 0 status
+  pub faulty : (bytes : List ℕ) (line : ℕ) → IsTold Convert bytes c → converted bytes ≡ Err line → IsRead c → IsFreely 13 status
+  pub line : (bytes : List ℕ) (line : ℕ) → IsTold Convert bytes c → converted bytes ≡ Err line → status ≡ 13 → IsSaid (line_message line) c.err
   pub made : (p : Plan) → asked_in c.words ≡ Some (Synth p) → IsWritten c → IsFreely 0 status
   pub untold : (a : Asking) → asked_in c.words ≡ Some (File a) → IsUncounted c → IsFreely 0 status ⊎ (status ≡ refused_at a.command)
 

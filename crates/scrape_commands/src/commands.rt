@@ -8,7 +8,7 @@ ghost use Rattle.command_words.specs.declared.words.Asked.TheVariants.{File, Syn
 ghost use Rattle.book_text.specs.Summaries.{number_line};
 ghost use Rattle.scrape_commands.specs.Synths as synths;
 ghost use Rattle.scrape_commands.specs.Synths.{synth_text};
-ghost use Rattle.command_words.specs.declared.words.Command.TheVariants.{Replay, Check};
+ghost use Rattle.command_words.specs.declared.words.Command.TheVariants.{Replay, Check, Convert};
 
 use crate::checks::{conf_of, print_ok};
 use crate::refusals::Refusal;
@@ -18,6 +18,7 @@ use command_words::{Asked, Command, OfFile, Workload, limit_of};
 use itoa::Buffer;
 use journal_text::ScriptError;
 use label_set::{Blob, NoMemory};
+use om_reader::OmError;
 use outside::{Shelf, ShelfError, Sink};
 use scrape_config::ConfError;
 use scrape_core::{Core, Means};
@@ -109,6 +110,31 @@ fn check<S: Shelf, O: Sink>(
     }
 }
 
+/// Prints the body that one of OpenMetrics in a file becomes.
+fn convert<S: Shelf, O: Sink>(
+    alloc: Global,
+    file: &str,
+    shelf: &mut S,
+    out: &mut O,
+) -> Result<(), Refusal>
+    ensures { (kept : Bool) → WorkEnds result
+        (work (Some (File (asking kept file.now Convert))) (used (S.seen shelf.old) (S.seen shelf.new)) (used (O.seen out.old) (O.seen out.new))) }
+{
+    let bytes = match read_file(alloc, Command::Convert, file, shelf) {
+        Ok(bytes) => bytes,
+        Err(refusal) => return Err(refusal),
+    };
+    let text = match om_reader::convert(alloc, bytes.as_slice()) {
+        Ok(text) => text,
+        Err(OmError::Line(line)) => return Err(Refusal::OpenMetrics(line)),
+        Err(OmError::NoMemory) => return Err(Refusal::NoMemory),
+    };
+    match out.put(text.as_slice()) {
+        Ok(()) => Ok(()),
+        Err(_) => Err(Refusal::WriteFault),
+    }
+}
+
 /// Adds the line that says how often relabelling rules were run.
 fn push_runs(text: &mut Vec<u8>, runs: u128) -> Result<(), NoMemory>
     ensures { OnOk result (text.new.items ≡ text.old.items ++ number_line (codes "runs") runs) }
@@ -171,6 +197,7 @@ fn perform_file<S: Shelf, O: Sink>(
     match asked.command {
         Command::Replay { cut } => replay(means, cut, asked, shelf, out),
         Command::Check => check(means.alloc, asked.file, shelf, out),
+        Command::Convert => convert(means.alloc, asked.file, shelf, out),
     }
 }
 

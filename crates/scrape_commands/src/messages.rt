@@ -4,7 +4,7 @@ ghost use Rattle.std.specs.Prelude.{◌≡◌, ◌++◌, codes, OnOk, OnErr};
 ghost use Rattle.control_lines.specs.Faults.{fault_limit};
 ghost use Rattle.outside.specs.Objects.{used, Took, Cut};
 ghost use Rattle.scrape_commands.specs.Checks as checks;
-ghost use Rattle.scrape_commands.specs.Ends.{IsSaid, message_of};
+ghost use Rattle.scrape_commands.specs.Ends.{IsSaid, line_message, message_of};
 ghost use Rattle.scrape_commands.specs.Scripts as scripts;
 
 use crate::refusals::Refusal;
@@ -112,6 +112,16 @@ fn say_script<E: Sink>(err: &mut E, fault: &ScriptFault)
     }
 }
 
+/// Tries the message of a faulty line.
+fn say_line<E: Sink>(err: &mut E, line: u64)
+    ensures { IsSaid (line_message line) (used (E.seen err.old) (E.seen err.new)) }
+{
+    match err.put(b"scrape: openmetrics line ") {
+        Ok(()) => say_number(err, line),
+        Err(_) => {}
+    }
+}
+
 /// Tries the message of a refusal.
 pub fn say<E: Sink>(err: &mut E, file: &str, refusal: &Refusal)
     ensures { IsSaid (message_of file.now refusal.now) (used (E.seen err.old) (E.seen err.new)) }
@@ -121,6 +131,7 @@ pub fn say<E: Sink>(err: &mut E, file: &str, refusal: &Refusal)
         Refusal::Absent => say_three(err, b"scrape: absent ", file.as_bytes(), b"\n"),
         Refusal::Config(fault) => say_fault(err, fault),
         Refusal::Script(fault) => say_script(err, fault),
+        Refusal::OpenMetrics(line) => say_line(err, *line),
         Refusal::ReadFault => say_text(err, b"scrape: read fault\n"),
         Refusal::WriteFault => say_text(err, b"scrape: write fault\n"),
         Refusal::NoMemory => say_text(err, b"scrape: no memory\n"),

@@ -13,6 +13,8 @@ pub enum Refusal {
     Config(ConfFault),
     /// The script is the text of no journal, for this fault.
     Script(ScriptFault),
+    /// The body of OpenMetrics has a faulty line, the first of this number.
+    OpenMetrics(u64),
     /// Reading the file failed.
     ReadFault,
     /// Writing the output failed.
