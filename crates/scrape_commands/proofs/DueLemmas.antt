@@ -12,17 +12,18 @@ use Rattle.jobs_in_force.specs.declared.jobs.Filed.{Filed}
 use Rattle.config_fields.specs.declared.fault.ConfFault.{ConfFault}
 use Rattle.scrape_commands.specs.Checks.{IsFault, IsConf, fault_message}
 use Rattle.scrape_commands.specs.Scripts.{IsScriptOf, IsFaultOf, StandsFor, StandsForNone, HasFault, fault_message as script_message}
+use Rattle.om_reader.specs.Bodies.{converted}
 use Rattle.synth.specs.declared.scripts.Plan.{Plan}
 use Rattle.command_words.specs.Askings.{Asking, asking}
 use Rattle.command_words.specs.Words.{OfFile, asked_in, file_in, file_asked, limit_of}
 use Rattle.command_words.specs.declared.words.Asked.{Asked}
 use Rattle.command_words.specs.declared.words.Asked.TheVariants.{File, Synth}
-use Rattle.scrape_commands.specs.Ends.{Call, work_of, Reads, IsOutput, IsOfFile, IsOfScript, IsAskedFor, WorkEnds, Speaks, IsSaid, Ended, status_at}
+use Rattle.scrape_commands.specs.Ends.{Call, work_of, Reads, IsOutput, IsOfFile, IsOfScript, IsAskedFor, WorkEnds, Speaks, IsSaid, Ended, line_message, status_at}
 use Rattle.scrape_commands.specs.Laws.{Complete, IsTold, TellsNone, TellsLonger, IsRead, IsWritten, IsSound, IsUncounted, IsFreely, refused_at}
 use Rattle.command_words.specs.declared.words.Command.{Command}
-use Rattle.command_words.specs.declared.words.Command.TheVariants.{Replay, Check}
+use Rattle.command_words.specs.declared.words.Command.TheVariants.{Replay, Check, Convert}
 use Rattle.scrape_commands.specs.declared.refusals.Refusal.{Refusal}
-use Rattle.scrape_commands.specs.declared.refusals.Refusal.TheVariants.{BadWords, Absent, Config, Script, ReadFault, WriteFault, NoMemory, TooLong}
+use Rattle.scrape_commands.specs.declared.refusals.Refusal.TheVariants.{BadWords, Absent, Config, Script, OpenMetrics, ReadFault, WriteFault, NoMemory, TooLong}
 
 some_same : {A : Type 0} (a b : A) → Some a ≡ Some b → a ≡ b
 some_same a b e = cc
@@ -101,6 +102,13 @@ one_script_fault : (cut : Bool) (bytes : List ℕ) (f g : ScriptFault) → IsFau
 one_script_fault false bytes f g only is = only.only g is
 one_script_fault true bytes f g only is = is.fault_is ∙ sym only.fault_is
 
+-- lines of OpenMetrics
+no_line : (said : Result (List ℕ) ℕ) (text : List ℕ) (line : ℕ) → said ≡ Ok text → said ≡ Err line → ⊥
+no_line said text line e h = absurd cc
+
+one_line : (said : Result (List ℕ) ℕ) (line found : ℕ) → said ≡ Err line → said ≡ Err found → found ≡ line
+one_line said line found e h = cc
+
 module _ (c : Call) where
   asked_file : (a : Asking) → asked_in c.words ≡ Some (File a) → file_in c.words ≡ a.file
   asked_file a e = ap (λ (o : Option Asked). option_map_or file_asked o []) e
@@ -133,6 +141,7 @@ module _ (c : Call) where
   words_due (Err Absent) w e = absurd (some_asked (asked_in c.words) _ e w.cause)
   words_due (Err (Config f)) w e = absurd (read_asked _ _ e w.cause.1)
   words_due (Err (Script f)) w e = absurd (read_asked _ _ e w.cause.2)
+  words_due (Err (OpenMetrics l)) w e = absurd (read_asked _ _ e w.cause.1)
   words_due (Err ReadFault) w e = absurd (some_asked (asked_in c.words) _ e w.cause)
   words_due (Err WriteFault) w e = absurd (text_asked _ e w.cause.asked_for)
   words_due (Err NoMemory) w e = inr refl
@@ -152,6 +161,7 @@ module _ (c : Call) where
     made_due n (Err Absent) w = absurd (no_file _ w.cause)
     made_due n (Err (Config f)) w = absurd (none_read _ _ w.cause.1)
     made_due n (Err (Script f)) w = absurd (none_read _ _ w.cause.2)
+    made_due n (Err (OpenMetrics l)) w = absurd (none_read _ _ w.cause.1)
     made_due n (Err ReadFault) w = absurd (no_file _ w.cause)
     made_due n (Err WriteFault) w = absurd (n w.cause.put.counted)
     made_due n (Err NoMemory) w = inr refl
@@ -183,6 +193,7 @@ module _ (c : Call) where
     missing_due t n (Err Absent) w = inl refl
     missing_due t n (Err (Config f)) w = absurd (none_has c.shelf.before.files (file_in c.words) _ t (read_file _ _ w.cause.1))
     missing_due t n (Err (Script f)) w = absurd (none_has c.shelf.before.files (file_in c.words) _ t (read_file _ _ w.cause.2))
+    missing_due t n (Err (OpenMetrics l)) w = absurd (none_has c.shelf.before.files (file_in c.words) _ t (read_file _ _ w.cause.1))
     missing_due t n (Err ReadFault) w = absurd (n w.shelf.counted)
     missing_due t n (Err WriteFault) w = absurd (none_has c.shelf.before.files (file_in c.words) _ t (read_file _ _ (of_file _ w.cause.asked_for).reads))
     missing_due t n (Err NoMemory) w = inr refl
@@ -201,6 +212,7 @@ module _ (c : Call) where
     longer_due t n (Err Absent) w = absurd (longer_lacks c.shelf.before.files (file_in c.words) _ t (lacks w.cause))
     longer_due t n (Err (Config f)) w = absurd (not_long _ _ t w.cause.1)
     longer_due t n (Err (Script f)) w = absurd (not_long _ _ t w.cause.2)
+    longer_due t n (Err (OpenMetrics l)) w = absurd (not_long _ _ t w.cause.1)
     longer_due t n (Err ReadFault) w = absurd (n w.shelf.counted)
     longer_due t n (Err WriteFault) w = absurd (not_long _ _ t (of_file _ w.cause.asked_for).reads)
     longer_due t n (Err NoMemory) w = inr refl
@@ -215,6 +227,7 @@ module _ (c : Call) where
     untold_due n (Err Absent) w = absurd (n.found w.shelf.counted)
     untold_due n (Err (Config f)) w = inr (refused_of Check _ w.cause.1)
     untold_due n (Err (Script f)) w = inr (refused_of (Replay w.cause.0) _ w.cause.2)
+    untold_due n (Err (OpenMetrics l)) w = inr (refused_of Convert _ w.cause.1)
     untold_due n (Err ReadFault) w = absurd (n.sound.read w.shelf.counted)
     untold_due n (Err WriteFault) w = absurd (n.sound.written w.cause.put.counted)
     untold_due n (Err NoMemory) w = inl (inr refl)
@@ -238,6 +251,9 @@ module _ (c : Call) where
     told_asked e = let at = t.asked in absurd cc
 
   module _ (cut : Bool) (bytes : List ℕ) (t : IsTold (Replay cut) bytes c) where
+    not_converted : (b : List ℕ) → Reads Convert b (work_of c) → ⊥
+    not_converted b r = let e = told_command (Replay cut) bytes t Convert b r in absurd cc
+
     not_checked : (b : List ℕ) → Reads Check b (work_of c) → ⊥
     not_checked b r = let e = told_command (Replay cut) bytes t Check b r in absurd cc
 
@@ -256,6 +272,7 @@ module _ (c : Call) where
     replayed_due s n (Err Absent) w = absurd (told_found (Replay cut) bytes t w.cause)
     replayed_due s n (Err (Config f)) w = absurd (not_checked _ w.cause.1)
     replayed_due s n (Err (Script f)) w = absurd (fault_stands cut bytes f (told_fault w.cause.0 _ f w.cause.2 w.cause.3) s)
+    replayed_due s n (Err (OpenMetrics l)) w = absurd (not_converted _ w.cause.1)
     replayed_due s n (Err ReadFault) w = absurd (n.read w.shelf.counted)
     replayed_due s n (Err WriteFault) w = absurd (n.written w.cause.put.counted)
     replayed_due s n (Err NoMemory) w = inr refl
@@ -264,6 +281,7 @@ module _ (c : Call) where
     -- the output of `replay` is that of a journal
     told_spelled : (m : Command) (b text : List ℕ) (r : Reads m b (work_of c)) → IsOutput m r.kept b text → StandsForNone cut bytes → ⊥
     told_spelled Check b text r o none = not_checked b r
+    told_spelled Convert b text r o none = not_converted b r
     told_spelled (Replay u) b text r o none = stands_not cut bytes o.0 (told_script (λ z x. IsScriptOf z x o.0) u b r o.1) none
 
     asked_spelled : (text : List ℕ) → IsAskedFor text (work_of c) → StandsForNone cut bytes → ⊥
@@ -277,6 +295,7 @@ module _ (c : Call) where
     unspelled_due s n (Err Absent) w = absurd (told_found (Replay cut) bytes t w.cause)
     unspelled_due s n (Err (Config f)) w = absurd (not_checked _ w.cause.1)
     unspelled_due s n (Err (Script f)) w = inl refl
+    unspelled_due s n (Err (OpenMetrics l)) w = absurd (not_converted _ w.cause.1)
     unspelled_due s n (Err ReadFault) w = absurd (n w.shelf.counted)
     unspelled_due s n (Err WriteFault) w = absurd (asked_spelled _ w.cause.asked_for s)
     unspelled_due s n (Err NoMemory) w = inr refl
@@ -291,6 +310,9 @@ module _ (c : Call) where
     found_due fault e (Err _) w s five = absurd (omega (arith, five))
 
   module _ (bytes : List ℕ) (t : IsTold Check bytes c) where
+    not_converted : (b : List ℕ) → Reads Convert b (work_of c) → ⊥
+    not_converted b r = let e = told_command Check bytes t Convert b r in absurd cc
+
     not_replayed : (u : Bool) (b : List ℕ) → Reads (Replay u) b (work_of c) → ⊥
     not_replayed u b r = let e = told_command Check bytes t (Replay u) b r in absurd cc
 
@@ -300,6 +322,7 @@ module _ (c : Call) where
     -- the output of `check` is that of a configuration without a fault
     told_conf : (n : Command) (b text : List ℕ) (r : Reads n b (work_of c)) → IsOutput n r.kept b text → (fault : ConfFault) → IsFault bytes fault → ⊥
     told_conf (Replay u) b text r o fault h = not_replayed u b r
+    told_conf Convert b text r o fault h = not_converted b r
     told_conf Check b text r o fault h =
         no_fault (loaded [] bytes) o.0 fault (subst (λ (x : List ℕ). IsConf x o.0) (told_bytes Check bytes t Check b r) o.1) h
 
@@ -314,6 +337,7 @@ module _ (c : Call) where
     refused_due fault h n (Err Absent) w = absurd (told_found Check bytes t w.cause)
     refused_due fault h n (Err (Config f)) w = inl refl
     refused_due fault h n (Err (Script f)) w = absurd (not_replayed w.cause.0 _ w.cause.2)
+    refused_due fault h n (Err (OpenMetrics l)) w = absurd (not_converted _ w.cause.1)
     refused_due fault h n (Err ReadFault) w = absurd (n w.shelf.counted)
     refused_due fault h n (Err WriteFault) w = absurd (asked_conf _ w.cause.asked_for fault h)
     refused_due fault h n (Err NoMemory) w = inr refl
@@ -325,6 +349,7 @@ module _ (c : Call) where
     checked_due jobs k n (Err Absent) w = absurd (told_found Check bytes t w.cause)
     checked_due jobs k n (Err (Config f)) w = absurd (no_fault (loaded [] bytes) jobs f k (told_fault _ f w.cause.1 w.cause.2))
     checked_due jobs k n (Err (Script f)) w = absurd (not_replayed w.cause.0 _ w.cause.2)
+    checked_due jobs k n (Err (OpenMetrics l)) w = absurd (not_converted _ w.cause.1)
     checked_due jobs k n (Err ReadFault) w = absurd (n.read w.shelf.counted)
     checked_due jobs k n (Err WriteFault) w = absurd (n.written w.cause.put.counted)
     checked_due jobs k n (Err NoMemory) w = inr refl
@@ -338,6 +363,60 @@ module _ (c : Call) where
         subst (λ (z : ConfFault). IsSaid (fault_message z) c.err) same s
     told_due fault e (Err _) w s four = absurd (omega (arith, four))
 
+  module _ (bytes : List ℕ) (t : IsTold Convert bytes c) where
+    body_not_checked : (b : List ℕ) → Reads Check b (work_of c) → ⊥
+    body_not_checked b r = let e = told_command Convert bytes t Check b r in absurd cc
+
+    body_not_replayed : (u : Bool) (b : List ℕ) → Reads (Replay u) b (work_of c) → ⊥
+    body_not_replayed u b r = let e = told_command Convert bytes t (Replay u) b r in absurd cc
+
+    told_line : (b : List ℕ) (l : ℕ) → Reads Convert b (work_of c) → converted b ≡ Err l → converted bytes ≡ Err l
+    told_line b l r h = subst (λ (x : List ℕ). converted x ≡ Err l) (told_bytes Convert bytes t Convert b r) h
+
+    -- the output of `convert` is that of a body without a faulty line
+    told_plain : (n : Command) (b text : List ℕ) (r : Reads n b (work_of c)) → IsOutput n r.kept b text → (line : ℕ) → converted bytes ≡ Err line → ⊥
+    told_plain (Replay u) b text r o line h = body_not_replayed u b r
+    told_plain Check b text r o line h = body_not_checked b r
+    told_plain Convert b text r o line h =
+        no_line (converted bytes) text line (subst (λ (x : List ℕ). converted x ≡ Ok text) (told_bytes Convert bytes t Convert b r) o) h
+
+    asked_plain : (text : List ℕ) → IsAskedFor text (work_of c) → (line : ℕ) → converted bytes ≡ Err line → ⊥
+    asked_plain text a line h =
+        let f = of_file (asking t.kept (file_in c.words) Convert) t.asked text a in
+        told_plain f.command f.bytes text f.reads f.output line h
+
+    faulty_due : (line : ℕ) → converted bytes ≡ Err line → IsRead c → (end : Result (Unit {0}) Refusal) → WorkEnds end (work_of c) → IsFreely 13 (status_at end)
+    faulty_due line h n (Ok u) w = absurd (asked_plain _ w.prints.asked_for line h)
+    faulty_due line h n (Err BadWords) w = absurd (told_asked Convert bytes t w.cause)
+    faulty_due line h n (Err Absent) w = absurd (told_found Convert bytes t w.cause)
+    faulty_due line h n (Err (Config f)) w = absurd (body_not_checked _ w.cause.1)
+    faulty_due line h n (Err (Script f)) w = absurd (body_not_replayed w.cause.0 _ w.cause.2)
+    faulty_due line h n (Err (OpenMetrics l)) w = inl refl
+    faulty_due line h n (Err ReadFault) w = absurd (n w.shelf.counted)
+    faulty_due line h n (Err WriteFault) w = absurd (asked_plain _ w.cause.asked_for line h)
+    faulty_due line h n (Err NoMemory) w = inr refl
+    faulty_due line h n (Err TooLong) w = absurd (told_short Convert bytes t w.cause)
+
+    plain_due : (text : List ℕ) → converted bytes ≡ Ok text → IsSound c → (end : Result (Unit {0}) Refusal) → WorkEnds end (work_of c) → IsFreely 0 (status_at end)
+    plain_due text k n (Ok u) w = inl refl
+    plain_due text k n (Err BadWords) w = absurd (told_asked Convert bytes t w.cause)
+    plain_due text k n (Err Absent) w = absurd (told_found Convert bytes t w.cause)
+    plain_due text k n (Err (Config f)) w = absurd (body_not_checked _ w.cause.1)
+    plain_due text k n (Err (Script f)) w = absurd (body_not_replayed w.cause.0 _ w.cause.2)
+    plain_due text k n (Err (OpenMetrics l)) w = absurd (no_line (converted bytes) text l k (told_line _ l w.cause.1 w.cause.2))
+    plain_due text k n (Err ReadFault) w = absurd (n.read w.shelf.counted)
+    plain_due text k n (Err WriteFault) w = absurd (n.written w.cause.put.counted)
+    plain_due text k n (Err NoMemory) w = inr refl
+    plain_due text k n (Err TooLong) w = absurd (told_short Convert bytes t w.cause)
+
+    line_due : (line : ℕ) → converted bytes ≡ Err line → (end : Result (Unit {0}) Refusal) → WorkEnds end (work_of c) →
+        Speaks end (file_in c.words) c.err → status_at end ≡ 13 → IsSaid (line_message line) c.err
+    line_due line e (Ok u) w s is = absurd (omega (arith, is))
+    line_due line e (Err (OpenMetrics l)) w s is =
+        let same : l ≡ line = one_line (converted bytes) line l e (told_line _ l w.cause.1 w.cause.2) in
+        subst (λ (z : ℕ). IsSaid (line_message z) c.err) same s
+    line_due line e (Err _) w s is = absurd (omega (arith, is))
+
 pub complete_by : (status : ℕ) (c : Call) → Ended status c → Complete status c
 complete_by status c e = record {
   words = λ none. freely 2 (words_due c e.end e.work_ends none);
@@ -349,6 +428,9 @@ complete_by status c e = record {
   checked = λ bytes jobs t k sound. freely 0 (checked_due c bytes t jobs k sound e.end e.work_ends);
   refused = λ bytes fault t is read. freely 4 (refused_due c bytes t fault is read e.end e.work_ends);
   told = λ bytes fault t is four. told_due c bytes t fault is e.end e.work_ends e.speaks (sym e.status_is ∙ four);
+  plain = λ bytes text t k sound. freely 0 (plain_due c bytes t text k sound e.end e.work_ends);
+  faulty = λ bytes line t is read. freely 13 (faulty_due c bytes t line is read e.end e.work_ends);
+  line = λ bytes line t is at. line_due c bytes t line is e.end e.work_ends e.speaks (sym e.status_is ∙ at);
   made = λ p asked written. freely 0 (made_due c p asked written e.end e.work_ends);
   untold = λ a asked n. at_last a (untold_due c a asked n e.end e.work_ends);
 }
