@@ -4,6 +4,7 @@ use Rattle.std.specs.Prelude.{Option, Some, None, slice_get, nat_lt}
 use Rattle.std.specs.List.{list_any}
 use Rattle.std.proofs.lemmas.Bool.Decides.{nat_tests}
 use Rattle.std.proofs.lemmas.List.Sums.{sum_by-cons}
+use Rattle.journal_text.specs.Events.{IsJournal}
 use Rattle.journal_text.specs.declared.events.Event.{Event}
 use Rattle.journal_text.specs.declared.events.Event.TheVariants.{Load, Targets, Tick, Sweep, Finish, Halt}
 use Rattle.outside.specs.declared.replies.Reply.{Reply}
@@ -120,8 +121,8 @@ fresh_runs es out none fresh = record {
 all_landed : (k n m : ℕ) → 0 + m ≡ cond {A = ℕ} (nat_lt k n) 1 0 → k < n → m ≡ 1
 all_landed k n m h lt = grind (arith, nat_tests, h)
 
-pub run_is_whole : (es js : List Event) (m : ℤ) (next started : ℕ) (out : List (Option ℕ)) → IsRunning es next started out → next ≡ started → held out ≡ 0 → js ≡ es ++ Halt m ∷ [] → IsWhole js
-run_is_whole es js m next started out run all none now =
+pub run_is_whole : (es js : List Event) (m : ℤ) (next started : ℕ) (out : List (Option ℕ)) → IsRunning es next started out → next ≡ started → held out ≡ 0 → js ≡ es ++ Halt m ∷ [] → IsJournal js → IsWhole js
+run_is_whole es js m next started out run all none now journal =
     let n : started_of js ≡ started = started_push es js (Halt m) run.live now ∙ (sym (started_is_length es) ∙ sym run.started_is) in
     record {
       once = λ k lt.
@@ -129,5 +130,6 @@ run_is_whole es js m next started out run all none now =
           ∙ (omega (arith, run.counted k)
           ∙ all_landed k next (landed_in k es) (ap (λ z. z + landed_in k es) (sym (none_out out k none)) ∙ run.settled k) (omega (arith, lt, n, all)));
       found = lost_push es js (Halt m) run.live now run.found refl;
-      halts = (es, m, now);
+      journal = journal;
+      halts = (es, m, now, run.live);
     }

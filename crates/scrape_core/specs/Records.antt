@@ -1,6 +1,7 @@
 -- What a journal records of started scrapes and of their finishes.
 use Rattle.std.specs.Prelude.{◌≡◌, ◌<◌, ℕ, ℤ, Bool, true, false, List, [], ◌∷◌, ◌++◌, length, slice_get, count_by, Option, Some, None, if◌then◌else◌}
 use Rattle.std.specs.List.{list_any}
+use Rattle.journal_text.specs.Events.{IsJournal}
 use Rattle.journal_text.specs.declared.events.Event.{Event}
 use Rattle.journal_text.specs.declared.events.Event.TheVariants.{Load, Targets, Tick, Sweep, Finish, Halt}
 use Rattle.scrape_laws.specs.Flights.{is_finish_of}
@@ -73,8 +74,10 @@ pub record IsFresh (es : List Event) : Type 0 where
   pub unfinished : list_any is_finish es ≡ false
   pub live : is_live es ≡ true
 
--- every started scrape has exactly one finish, no finish was of another ticket, and the last event is a halt
+-- a text spells it, so moments never go back; every started scrape has exactly one finish, no finish was of another ticket, and the last event is
+-- a halt, before which there was none
 pub record IsWhole (es : List Event) : Type 0 where
   pub once : (k : ℕ) → k < started_of es → finishes k es ≡ 1
   pub found : has_lost es ≡ false
-  pub halts : (before : List Event) × (m : ℤ) × (es ≡ before ++ Halt m ∷ [])
+  pub journal : IsJournal es
+  pub halts : (before : List Event) × (m : ℤ) × (es ≡ before ++ Halt m ∷ []) × (is_live before ≡ true)

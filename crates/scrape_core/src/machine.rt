@@ -2,7 +2,7 @@
 ghost use Rattle.std.specs.Prelude.{◌≡◌, ◌+◌, ◌≤◌, ◌^◌, nat_lt, ◌++◌, [], ◌∷◌, length, pos, true, is_some, IfOk, IfSome, OnOk, OnErr};
 ghost use Rattle.journal_text.specs.declared.events.Event.{Event};
 ghost use Rattle.journal_text.specs.declared.events.Event.TheVariants.{Finish, Halt};
-ghost use Rattle.journal_text.specs.Events.{IsInLimits, MayFollow, now_of};
+ghost use Rattle.journal_text.specs.Events.{IsInLimits, IsJournal, MayFollow, now_of};
 ghost use Rattle.journal_text.specs.Lines.{IsMoment, number};
 ghost use Rattle.scrape_core.specs.Readers.{IsWake, MayFetch, awaits, is_due, request};
 ghost use Rattle.scrape_core.specs.Records.{is_live, started_of};
@@ -230,7 +230,8 @@ impl Core {
     /// A halt at `now`, for which room is kept from the start. No halt came before.
     pub fn halt(&mut self)
         requires { is_live self.old ≡ true }
-        ensures { self.new ≡ self.old ++ Halt (pos (now_of self.old)) ∷ [] }
+        ensures halted { self.new ≡ self.old ++ Halt (pos (now_of self.old)) ∷ [] }
+        ensures journal { IsJournal self.new }
     {
         let moment = last_moment(&self.journal);
         self.state.halted = true;

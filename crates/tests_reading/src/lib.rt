@@ -29,6 +29,7 @@
 //! | `message_of` | `control::refusals_are_told` |
 //! | `faults::{fault_word, fault_place, push_fault}` | `control::refusals_are_told`; `fields` |
 //! | `read_journal`, `write_journal` | `journals`; `broken` |
+//! | `read_front` | `scrape_cli`'s test `cuts::script_cut_at_each_place`; `scrape_cases::cuts` |
 //! | `Journal::{new, reserve, push, events, into_events, len, is_empty, now}` | `journals::events_are_read_and_written` |
 //! | `texts_tell_apart` | contract alone |
 #![tactic(auto)]

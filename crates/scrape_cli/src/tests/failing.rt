@@ -1,8 +1,9 @@
-//! Each call of each outside object fails in turn: what a replay and a run leave then. docs/TESTED.md tells how many calls these are.
+//! Each call of each outside object fails in turn: what a replay and a run leave then.
+//! docs/TESTED.md tells how many calls these are.
 ghost use Rattle.std.specs.Prelude.{◌≡◌, vec_len, IfOk};
 
 use super::live::{LINES, LISTING, Put, replayed, replays, stored};
-use super::{ROOM, fails, means_of, words_of};
+use super::{ROOM, Ran, fails, files, means_of, still, words_of};
 use crate::tool::{Finished, tool};
 use label_set::{Blob, NoMemory};
 use outside::{
@@ -137,8 +138,9 @@ fn run_failing<W: Threads + Wait + Sync>(
     Ok(put)
 }
 
-/// What a run leaves of which a call failed: one that was refused at its start, and one of which `err` failed, have written nothing; one of which
-/// control or a later file couldn't be read has written both texts; and where a text couldn't be written a front of it is there.
+/// What a run leaves of which a call failed. One that was refused at its start, and one of which `err` failed, have
+/// written nothing; one of which control or a later file couldn't be read has written both texts; and where a text
+/// couldn't be written a front of it is there.
 fn assert_run(rt: &impl Abort, means: Means, failing: Failing, put: &Put) -> Result<(), Fail> {
     let nothing = put.out.bytes().is_empty() && put.trail.bytes().is_empty();
     match failing.object {
@@ -186,6 +188,93 @@ fn failing_runs<W: Threads + Wait + Sync + Abort>(
         assert_run(rt, means, failing, &put)?;
     }
     Ok(MOST_CALLS)
+}
+
+/// A series that vanishes, and one that a reload renames: the scripts of the cases of these names.
+const VANISHING: &str = r#"scrape-journal 1
+load 0 76
+{"scrape_configs":[{"job_name":"j","static_configs":[{"targets":["a:1"]}]}]}
+sweep 0
+body 15 0 200 8
+x 1
+y 2
+
+sweep 60000
+body 15 1 200 4
+x 1
+
+"#;
+
+const RENAMED: &str = r#"scrape-journal 1
+load 0 76
+{"scrape_configs":[{"job_name":"j","static_configs":[{"targets":["a:1"]}]}]}
+sweep 0
+body 15 0 200 4
+x 1
+
+sweep 60000
+load 60010 191
+{"scrape_configs":[{"job_name":"j","metric_relabel_configs":[{"source_labels":["__name__"],"regex":"x","target_label":"__name__","replacement":"x2"}],"static_configs":[{"targets":["a:1"]}]}]}
+body 15 1 200 4
+x 9
+
+sweep 60010
+body 15 2 200 4
+x 2
+
+sweep 120010
+body 15 3 200 4
+x 3
+
+sweep 185999
+sweep 186000
+"#;
+
+/// Replays a script.
+fn replay_failing(means: Means, script: &str, failing: Failing) -> Result<Ran, Fail> {
+    let alloc = means.alloc;
+    let words = words_of(alloc, &["replay", "s"])?;
+    let fails = failing.of(alloc, Object::Shelf)?;
+    let mut shelf = MemShelf::new(files(alloc, script.as_bytes())?, fails)?;
+    let mut out = failing.sink(alloc, Object::Out)?;
+    let mut err = failing.sink(alloc, Object::Err)?;
+    let status = still(means, words.as_slice(), &mut shelf, &mut out, &mut err)?;
+    Ok(Ran { status, out, err })
+}
+
+/// Fails each call of an object in turn, until a replay meets no failure; tells how many replays failed.
+fn failing_replays(
+    rt: &impl Abort,
+    means: Means,
+    script: &str,
+    object: Object,
+) -> Result<u64, Fail> {
+    let sound = Failing {
+        object: Object::Fetch,
+        call: 0,
+    };
+    let whole = replay_failing(means, script, sound)?;
+    for call in 0..MOST_CALLS {
+        let ran = replay_failing(means, script, Failing { object, call })?;
+        assert!(rt; whole.out.bytes().starts_with(ran.out.bytes()));
+        if ran.status == 0 {
+            assert!(rt; whole.out.bytes() == ran.out.bytes());
+            return Ok(call);
+        }
+        assert_eq!(rt; ran.status, if object == Object::Shelf { 6 } else { 7 });
+    }
+    Ok(MOST_CALLS)
+}
+
+#[test]
+fn each_call_of_a_replay_fails_in_turn(rt: HostRuntime) -> Result<(), Fail> {
+    let means = means_of(&rt)?;
+    for script in [VANISHING, RENAMED] {
+        assert_eq!(rt; failing_replays(&rt, means, script, Object::Shelf)?, 1);
+        assert_eq!(rt; failing_replays(&rt, means, script, Object::Out)?, 1);
+        assert_eq!(rt; failing_replays(&rt, means, script, Object::Err)?, 0);
+    }
+    Ok(())
 }
 
 #[test]
