@@ -7,6 +7,7 @@ pub mod bodies;
 pub mod broken;
 pub mod checked;
 pub mod conflicts;
+pub mod conversions;
 pub mod cuts;
 pub mod endings;
 pub mod fields;

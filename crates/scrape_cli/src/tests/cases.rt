@@ -13,8 +13,8 @@ use super::{ROOM, Ran, means_of, run_over};
 use label_set::{Blob, Name, NoMemory};
 use outside::{FileList, StoredFile, SureShelf};
 use scrape_cases::{
-    bodies, broken, checked, conflicts, cuts, endings, fields, flags, limits, relabelling, reloads,
-    scripts, synths, targets, texts, updates, verdicts, words,
+    bodies, broken, checked, conflicts, conversions, cuts, endings, fields, flags, limits,
+    relabelling, reloads, scripts, synths, targets, texts, updates, verdicts, words,
 };
 use scrape_core::Means;
 use std::alloc::{AllocError, Global};
@@ -23,13 +23,14 @@ use std::str;
 use std::test::Fail;
 
 /// All cases, by subject.
-const TEXTS: [&str; 18] = [
+const TEXTS: [&str; 19] = [
     words::CASES,
     flags::CASES,
     scripts::CASES,
     synths::CASES,
     broken::CASES,
     cuts::CASES,
+    conversions::CASES,
     reloads::CASES,
     updates::CASES,
     endings::CASES,
