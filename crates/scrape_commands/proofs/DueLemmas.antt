@@ -263,15 +263,15 @@ module _ (c : Call) where
         let same : cut ≡ u = same_cut cut u (told_command (Replay cut) bytes t (Replay u) b r) in
         subst (λ (z : Bool). P z bytes) (sym same) (subst (P u) (told_bytes (Replay cut) bytes t (Replay u) b r) p)
 
-    told_fault : (u : Bool) (b : List ℕ) (f : ScriptFault) → Reads (Replay u) b (work_of c) → IsFaultOf u b f → IsFaultOf cut bytes f
-    told_fault u b f r p = told_script (λ z x. IsFaultOf z x f) u b r p
+    told_script_fault : (u : Bool) (b : List ℕ) (f : ScriptFault) → Reads (Replay u) b (work_of c) → IsFaultOf u b f → IsFaultOf cut bytes f
+    told_script_fault u b f r p = told_script (λ z x. IsFaultOf z x f) u b r p
 
     replayed_due : StandsFor cut bytes → IsSound c → (end : Result (Unit {0}) Refusal) → WorkEnds end (work_of c) → IsFreely 0 (status_at end)
     replayed_due s n (Ok u) w = inl refl
     replayed_due s n (Err BadWords) w = absurd (told_asked (Replay cut) bytes t w.cause)
     replayed_due s n (Err Absent) w = absurd (told_found (Replay cut) bytes t w.cause)
     replayed_due s n (Err (Config f)) w = absurd (not_checked _ w.cause.1)
-    replayed_due s n (Err (Script f)) w = absurd (fault_stands cut bytes f (told_fault w.cause.0 _ f w.cause.2 w.cause.3) s)
+    replayed_due s n (Err (Script f)) w = absurd (fault_stands cut bytes f (told_script_fault w.cause.0 _ f w.cause.2 w.cause.3) s)
     replayed_due s n (Err (OpenMetrics l)) w = absurd (not_converted _ w.cause.1)
     replayed_due s n (Err ReadFault) w = absurd (n.read w.shelf.counted)
     replayed_due s n (Err WriteFault) w = absurd (n.written w.cause.put.counted)
@@ -305,7 +305,7 @@ module _ (c : Call) where
         Speaks end (file_in c.words) c.err → status_at end ≡ 5 → IsSaid (script_message fault) c.err
     found_due fault e (Ok u) w s five = absurd (omega (arith, five))
     found_due fault e (Err (Script f)) w s five =
-        let same : fault ≡ f = one_script_fault cut bytes f fault (told_fault w.cause.0 _ f w.cause.2 w.cause.3) e in
+        let same : fault ≡ f = one_script_fault cut bytes f fault (told_script_fault w.cause.0 _ f w.cause.2 w.cause.3) e in
         subst (λ (z : ScriptFault). IsSaid (script_message z) c.err) (sym same) s
     found_due fault e (Err _) w s five = absurd (omega (arith, five))
 

@@ -47,19 +47,27 @@ fn read_file<S: Shelf>(
     }
 }
 
+/// The flags of a replay.
+#[derive(Clone, Copy)]
+struct Flags {
+    cut: bool,
+    kept: bool,
+}
+
 /// Replays a script, of one that may have been cut what it begins with, and prints the book of its journal, each line with its verdict where that
 /// is wanted.
 fn replay<S: Shelf, O: Sink>(
     means: Means,
-    cut: bool,
-    asked: &OfFile<'_>,
+    flags: Flags,
+    script: &str,
     shelf: &mut S,
     out: &mut O,
 ) -> Result<(), Refusal>
     ensures { WorkEnds result
-        (work (Some (File (asking asked.now.kept asked.now.file (Replay cut)))) (used (S.seen shelf.old) (S.seen shelf.new)) (used (O.seen out.old) (O.seen out.new))) }
+        (work (Some (File (asking flags.kept script.now (Replay flags.cut)))) (used (S.seen shelf.old) (S.seen shelf.new)) (used (O.seen out.old) (O.seen out.new))) }
 {
-    let bytes = match read_file(means.alloc, Command::Replay { cut }, asked.file, shelf) {
+    let Flags { cut, kept } = flags;
+    let bytes = match read_file(means.alloc, Command::Replay { cut }, script, shelf) {
         Ok(bytes) => bytes,
         Err(refusal) => return Err(refusal),
     };
@@ -68,7 +76,7 @@ fn replay<S: Shelf, O: Sink>(
         Err(ScriptError::Bad(fault)) => return Err(Refusal::Script(fault)),
         Err(ScriptError::NoMemory) => return Err(Refusal::NoMemory),
     };
-    match print_book(means.alloc, asked.kept, core.book(), out) {
+    match print_book(means.alloc, kept, core.book(), out) {
         Ok(()) => {
             core.let_go();
             Ok(())
@@ -195,7 +203,10 @@ fn perform_file<S: Shelf, O: Sink>(
         (work (Some (File asked.now)) (used (S.seen shelf.old) (S.seen shelf.new)) (used (O.seen out.old) (O.seen out.new))) }
 {
     match asked.command {
-        Command::Replay { cut } => replay(means, cut, asked, shelf, out),
+        Command::Replay { cut } => {
+            let kept = asked.kept;
+            replay(means, Flags { cut, kept }, asked.file, shelf, out)
+        }
         Command::Check => check(means.alloc, asked.file, shelf, out),
         Command::Convert => convert(means.alloc, asked.file, shelf, out),
     }
