@@ -1,7 +1,10 @@
 //! Whole bodies.
-ghost use Rattle.std.specs.Prelude.{◌≡◌, ◌≤◌, ◌<◌, ◌++◌, drop, length, IfErr, IfOk, Ok};
-ghost use Rattle.expo_reader.specs.Bodies.{line_len};
+ghost use Rattle.std.specs.Prelude.{◌≡◌, ◌≤◌, ◌<◌, ◌++◌, ◌^◌, [], List, Option, drop, length, IfErr, IfOk, MatchResult, Ok, OnOk, option_map};
+ghost use Rattle.expo_reader.specs.Bodies.{line_len, lines_of, row_list};
+ghost use Rattle.expo_reader.specs.declared.rows.BodyRow.{BodyRow};
+ghost use Rattle.om_reader.specs.Bodies as spec;
 ghost use Rattle.om_reader.specs.Bodies.{converted};
+ghost use Rattle.om_reader.specs.Timestamps.{millis_of};
 ghost use Rattle.om_reader.specs.Laws.{CauseIs, HasOneReading, IsCauseOf, IsConverted, KeepsRows, ReadsTheFormat};
 
 use crate::faults::Fault;
@@ -63,7 +66,9 @@ fn behind(bytes: &[u8], place: usize) -> &[u8]
 }
 
 /// Adds a sample as a line.
-fn push_line(text: &mut Vec<u8>, line: Line<'_>) -> Result<(), NoMemory> {
+fn push_line(text: &mut Vec<u8>, line: Line<'_>) -> Result<(), NoMemory>
+    ensures { OnOk result (text.new.items ≡ text.old.items ++ spec.line_text line.entry.raw.now line.entry.value.now (option_map millis_of line.entry.stamp)) }
+{
     text.extend_from_slice(line.raw)?;
     text.push(b' ')?;
     text.extend_from_slice(line.value)?;
@@ -82,7 +87,9 @@ fn convert_line<'b>(
     line: &'b [u8],
     room: &mut Room<'b>,
     text: &mut Vec<u8>,
-) -> Result<(), OmError> {
+) -> Result<(), OmError>
+    ensures { let said = spec.line_reading number line.now in MatchResult result (λ _. (row : Option BodyRow) × (said ≡ Ok row) × (text.new.items ≡ text.old.items ++ spec.plain_text (row_list row))) (λ e. CauseIs e said) }
+{
     if !line.is_empty() && line[0] == b'#' {
         return Ok(());
     }
@@ -99,7 +106,9 @@ fn convert_lines<'b>(
     body: &'b [u8],
     room: &mut Room<'b>,
     text: &mut Vec<u8>,
-) -> Result<(), OmError> {
+) -> Result<(), OmError>
+    ensures { let said = spec.reading body.now in MatchResult result (λ _. (rows : List BodyRow) × (said ≡ Ok rows) × (text.new.items ≡ text.old.items ++ spec.plain_text rows)) (λ e. CauseIs e said) }
+{
     let mut place = 0;
     let mut number = 1;
     while place < body.len() {
@@ -117,7 +126,10 @@ fn convert_lines<'b>(
 }
 
 /// Whether a body ends at a place behind `# EOF`, the line of that number.
-fn ended(number: u64, body: &[u8], place: usize) -> Result<(), OmError> {
+fn ended(number: u64, body: &[u8], place: usize) -> Result<(), OmError>
+    requires { number < 2 ^ 63 }
+    ensures { let said = spec.ended number (lines_of (drop place body.now)) in MatchResult result (λ _. said ≡ Ok []) (λ e. CauseIs e said) }
+{
     if place < body.len() {
         Err(OmError::Line(number + 1))
     } else {

@@ -49,7 +49,7 @@ fn few_differ(names: &[LentName<'_>]) -> bool
 }
 
 /// Whether a name is among some.
-pub fn has_name(names: &[LentName<'_>], sought: &[u8]) -> bool
+fn has_name(names: &[LentName<'_>], sought: &[u8]) -> bool
     ensures { result ≡ list_any (bytes_eq sought.now) names.now }
 {
     names.iter().any(|name| sought == name.bytes)
