@@ -1,27 +1,22 @@
 -- What is written in the format is read: the parts of a line that are put together are found again.
-use Rattle.std.proofs.Common.{◌≡◌, ◌≢◌, ℕ, ℤ, suc, zero, ◌+◌, ◌-◌, ◌<◌, ◌≤◌, Bool, true, false, not, ◌&&◌, ◌||◌, List, [], ◌∷◌, ◌++◌, length, take, drop, refl, sym, ap, ap₂, ◌∙◌, arith, ◌==◌, Option, Some, None, subst, slice_index, ⊎_elim, inl, inr, ◌⊎◌, append_assoc, append-nil, length-append, option_map, codes}
-use Rattle.std.specs.List.{list_all}
-use Rattle.std.specs.Str.{bytes_eq, is_utf8}
+use Rattle.std.proofs.Common.{◌≡◌, ◌≢◌, ℕ, ℤ, suc, zero, ◌+◌, ◌-◌, ◌<◌, ◌≤◌, true, false, not, ◌&&◌, ◌||◌, List, [], ◌∷◌, ◌++◌, length, take, drop, refl, sym, ap, ap₂, ◌∙◌, arith, ◌==◌, Option, Some, None, subst, slice_index, ⊎_elim, inl, inr, ◌⊎◌, append_assoc, append-nil, length-append, codes}
+use Rattle.std.specs.Str.{bytes_eq}
 use Rattle.std.proofs.Math.Seq.{take-append_seam}
-use Rattle.std.proofs.lemmas.Bool.{and_from, or_from, or_left, or_right, false_from_ne_true}
+use Rattle.std.proofs.lemmas.Bool.{or_right}
 use Rattle.std.proofs.lemmas.Bool.Decides.{nat_tests}
 use Rattle.std.proofs.lemmas.Grind.{common_steps}
-use Rattle.std.proofs.lemmas.Slice.Eq.{bytes_eq-Decides}
-use Rattle.label_set.specs.Bytes.{is_label_name, is_metric_name, is_metric_start, is_metric_byte, is_name_start}
+use Rattle.label_set.specs.Bytes.{is_label_name, is_metric_name, is_metric_start, is_name_start}
 use Rattle.label_set.specs.declared.texts.Pair.{Pair}
-use Rattle.value_text.specs.Values.{is_value}
 use Rattle.value_text.proofs.GrammarLemmas.{value-found as value-test}
 use Rattle.expo_lexer.specs.Tokens.{is_blank, is_mark, is_word_byte}
-use Rattle.expo_reader.specs.Bodies.{has_metric_label}
 use Rattle.expo_reader.specs.Forms.{closed_or, names_differ, names_differ_from, with_first}
-use Rattle.expo_reader.specs.Texts.{mark_at, text_at, text_value, word_at}
+use Rattle.expo_reader.specs.Texts.{mark_at, text_at, word_at}
 use Rattle.expo_reader.specs.declared.rows.BodyRow.{BodyRow}
 use Rattle.expo_reader.proofs.FrontLemmas.{both, Stops}
 use Rattle.expo_reader.proofs.QuoteLemmas.{written, text-found as value-found}
-use Rattle.expo_reader.proofs.WordLemmas.{IsWord, metric_name-word, value-word}
-use Rattle.om_reader.specs.Bodies.{eof, row_of}
-use Rattle.om_reader.specs.Forms.{Sample, after_label, after_name, all_labels_at, braced, cut, differing, field_at, is_end, is_last, is_measured, label_and_more, label_at, label_of, labelled, labels_at, made, measure_at, named, named_label, sample_at, stamp_at, stamped, valued, valued_label}
-use Rattle.om_reader.specs.Grammar.{IsBraces, IsExemplar, IsLabel, IsLabelled, IsLabels, IsMeasure, IsSample}
+use Rattle.expo_reader.proofs.WordLemmas.{metric_name-word, value-word}
+use Rattle.om_reader.specs.Forms.{Sample, after_label, after_name, all_labels_at, braced, cut, differing, field_at, is_end, is_last, is_measured, label_and_more, label_at, labelled, labels_at, made, measure_at, named, named_label, sample_at, stamp_at, stamped, valued, valued_label}
+use Rattle.om_reader.specs.Grammar.{IsExemplar, IsLabel, IsLabelled, IsLabels, IsMeasure, IsSample}
 use Rattle.om_reader.specs.Timestamps.{stamp_millis}
 use Rattle.om_reader.proofs.WordLemmas.{EndsField, field-found, label_name-word, stamp-no_hash, stamp-word, text-found, word-found}
 
@@ -166,15 +161,17 @@ labels-behind : (braces : List ℕ) (labels : List Pair) → IsLabelled braces l
 unfolding is_word_byte is_blank is_mark
 labels-behind braces labels (inl e) line name measure rest m =
     let whole : braces ++ measure ≡ 32 ∷ rest = ap (λ b. b ++ measure) e.0 ∙ m in
-    let same : braces ++ measure ≡ measure = ap (λ b. b ++ measure) e.0 in
-    (subst (Stops is_word_byte) (sym whole) refl,
-    ap (λ s. after_name line name s (mark_at 123 s)) whole ∙ ap (λ s. cut line name [] s) (sym m) ∙ ap (λ ls. cut line name ls measure) (sym e.1))
+    let same : braces ++ measure ≡ measure = ap (λ b. b ++ measure) e.0 in (
+      subst (Stops is_word_byte) (sym whole) refl,
+      ap (λ s. after_name line name s (mark_at 123 s)) whole ∙ ap (λ s. cut line name [] s) (sym m) ∙ ap (λ ls. cut line name ls measure) (sym e.1),
+    )
 labels-behind braces labels (inr b) line name measure rest m =
     let inside = b.0.0 in
     let whole : braces ++ measure ≡ 123 ∷ (inside ++ 125 ∷ measure) = ap (λ s. s ++ measure) b.0.3 ∙ simp append_assoc in
-    let found = inside-found labels inside b.0.1 b.0.2 measure in
-    (subst (Stops is_word_byte) (sym whole) refl,
-    ap (λ s. after_name line name s (mark_at 123 s)) whole ∙ ap (labelled line name) found ∙ rw b.1 refl)
+    let found = inside-found labels inside b.0.1 b.0.2 measure in (
+      subst (Stops is_word_byte) (sym whole) refl,
+      ap (λ s. after_name line name s (mark_at 123 s)) whole ∙ ap (labelled line name) found ∙ rw b.1 refl,
+    )
 
 measure-starts : (bs value : List ℕ) (stamp : Option ℤ) → IsMeasure bs value stamp → (rest : List ℕ) × (bs ≡ 32 ∷ rest)
 measure-starts bs value None m = (value, m.1)

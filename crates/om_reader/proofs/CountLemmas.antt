@@ -1,16 +1,16 @@
 -- Digits, zeros behind them, and the numbers that they spell.
-use Rattle.std.proofs.Common.{◌≡◌, ℕ, suc, zero, ◌+◌, ◌-◌, ◌*◌, ◌^◌, ◌<◌, ◌≤◌, true, List, [], ◌∷◌, ◌++◌, length, take, drop, refl, sym, ap, ap₂, ◌∙◌, arith, subst, get_or, add-one, drop-cons, append_assoc, append-nil, length-append, replicate, min, Option, Some, None, ⊎_elim, ◌⊎◌, inl, inr, nat_le, nat_lt, false}
+use Rattle.std.proofs.Common.{◌≡◌, ℕ, suc, zero, ◌+◌, ◌-◌, ◌*◌, ◌^◌, ◌<◌, ◌≤◌, true, List, [], ◌∷◌, ◌++◌, length, take, drop, refl, sym, ap, ap₂, ◌∙◌, arith, subst, get_or, add-one, drop-cons, append_assoc, replicate, min, Option, Some, None, ⊎_elim, ◌⊎◌, inl, inr, nat_le, nat_lt, false}
 use Rattle.std.specs.List.{list_all}
 use Rattle.std.specs.Char.{is_ascii_digit, digit_value}
 use Rattle.std.specs.Option.{SomeIff}
 use Rattle.std.specs.Str.Parse.{digits_value, digits_value_after}
 use Rattle.std.proofs.Math.ListN.{drop_of_length-le}
 use Rattle.std.proofs.Math.Nat.{mul_assoc, pow-le-pow_right}
-use Rattle.std.proofs.Math.Seq.{take-append-add, take-length}
+use Rattle.std.proofs.Math.Seq.{take-append-add}
 use Rattle.std.proofs.lemmas.Bool.{and_from, cases_Bool}
 use Rattle.std.proofs.lemmas.Bool.Decides.{nat_tests}
 use Rattle.std.proofs.lemmas.Grind.{common_steps}
-use Rattle.std.proofs.lemmas.List.{take-append-le, take-replicate, length-take-le, length-take}
+use Rattle.std.proofs.lemmas.List.{take-append-le, take-replicate, length-take-le}
 use Rattle.std.proofs.lemmas.Nat.{mul-le, pow-add}
 use Rattle.value_text.proofs.DigitLemmas.{both}
 use Rattle.om_reader.specs.Timestamps.{digits_before, is_lowered, near_place, point_place, power}

@@ -15,7 +15,7 @@ use Rattle.expo_reader.specs.Texts.{word_at, mark_at, text_at, text_value}
 use Rattle.om_reader.specs.declared.faults.Fault.{Fault}
 use Rattle.om_reader.specs.declared.faults.Fault.TheVariants.{Faulty, NoMemory}
 use Rattle.om_reader.specs.Faults.{FaultIs}
-use Rattle.om_reader.specs.Forms.{after_label, braced, differing, label_and_more, label_at, label_of, labels_at, named_label, valued_label}
+use Rattle.om_reader.specs.Forms.{after_label, braced, differing, label_and_more, label_at, labels_at, named_label, valued_label}
 
 -- a label by its parts
 pub label-no_word : (bs : List ℕ) → word_at bs ≡ None → label_at bs ≡ None

@@ -1,9 +1,9 @@
 -- Reading and writing agree: line by line, and over whole bodies.
-use Rattle.std.proofs.Common.{◌≡◌, ◌≢◌, ℕ, ◌+◌, Bool, true, false, List, [], ◌∷◌, ◌++◌, refl, sym, ap, ◌∙◌, Option, Some, None, option_map, Result, Ok, Err, subst, slice_index, ⊎_elim, inl, inr, ◌⊎◌, ◌==◌, true≢false, length, arith}
+use Rattle.std.proofs.Common.{◌≡◌, ◌≢◌, ℕ, ◌+◌, true, false, List, [], ◌∷◌, ◌++◌, refl, sym, ap, ◌∙◌, Option, Some, None, Result, Ok, Err, subst, slice_index, ⊎_elim, inl, inr, ◌⊎◌, ◌==◌, true≢false, length, arith}
 use Rattle.std.specs.Str.{bytes_eq}
 use Rattle.std.proofs.lemmas.Bool.{cases_Bool, eqb-true}
 use Rattle.std.proofs.lemmas.Slice.Eq.{bytes_eq-Decides}
-use Rattle.expo_reader.specs.Bodies.{joined, line_then, lines_of, sample_or_fault}
+use Rattle.expo_reader.specs.Bodies.{joined, line_then, lines_of}
 use Rattle.expo_reader.specs.declared.rows.BodyRow.{BodyRow}
 use Rattle.om_reader.specs.declared.bodies.OmError.{OmError}
 use Rattle.om_reader.specs.declared.bodies.OmError.TheVariants.{Line, NoMemory}

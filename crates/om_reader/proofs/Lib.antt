@@ -5,6 +5,7 @@ pub mod LawLemmas
 pub mod LineLemmas
 pub mod NumberLemmas
 pub mod PlainLemmas
+pub mod SampleLemmas
 pub mod SoundLemmas
 pub mod TextLemmas
 pub mod WordLemmas

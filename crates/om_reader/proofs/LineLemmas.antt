@@ -1,16 +1,13 @@
 -- Lines of a body, one at a time, and what they become.
-use Rattle.std.proofs.Common.{◌≡◌, ◌≢◌, ℕ, ℤ, suc, ◌+◌, ◌<◌, ◌≤◌, Bool, true, false, List, [], ◌∷◌, ◌++◌, length, take, drop, Option, Some, None, option_map, Result, Ok, Err, refl, sym, ap, ap₂, ◌∙◌, arith, append_assoc, append-nil, slice_index, ◌==◌, MatchResult, if◌then◌else◌}
+use Rattle.std.proofs.Common.{◌≡◌, ℕ, ℤ, ◌+◌, ◌<◌, ◌≤◌, true, false, List, [], ◌∷◌, ◌++◌, length, take, drop, Option, Some, None, Result, Ok, Err, refl, sym, ap, ap₂, ◌∙◌, arith, append_assoc, append-nil, length-drop, drop-drop, subst, slice_index, ◌==◌, MatchResult, if◌then◌else◌}
 use Rattle.std.specs.Str.{bytes_eq}
 use Rattle.std.proofs.Math.ListN.{drop_of_length-le}
 use Rattle.std.proofs.lemmas.Grind.{flat_map-append}
-use Rattle.expo_reader.specs.Bodies.{joined, line_len, line_then, lines_of, row_list, sample_or_fault}
+use Rattle.expo_reader.specs.Bodies.{joined, line_len, line_then, lines_of, row_list}
 use Rattle.expo_reader.specs.declared.rows.BodyRow.{BodyRow}
 use Rattle.expo_reader.proofs.LineLemmas.{joined-twice, lines_of-first}
 use Rattle.om_reader.specs.declared.bodies.OmError.{OmError}
 use Rattle.om_reader.specs.declared.bodies.OmError.TheVariants.{Line, NoMemory}
-use Rattle.om_reader.specs.declared.faults.Fault.{Fault}
-use Rattle.om_reader.specs.declared.faults.Fault.TheVariants.{Faulty, NoMemory as Full}
-use Rattle.om_reader.specs.Faults.{FaultIs}
 use Rattle.om_reader.specs.Bodies.{converted, ended, eof, line_reading, line_text, plain_text, reading, row_of, row_text, rows_from, text_of}
 use Rattle.om_reader.specs.Forms.{Sample, sample_at}
 use Rattle.om_reader.specs.Laws.{CauseIs}
@@ -127,3 +124,38 @@ pub cause-converted : (bytes : List ℕ) (e : OmError) → CauseIs e (reading by
 unfolding converted
 cause-converted bytes (Line n) h = ap text_of h
 cause-converted bytes NoMemory h = tt
+
+-- one turn over the lines, at a place in the body
+module _ (old new body rest : List ℕ) (number place end : ℕ) (total : Result (List BodyRow) ℕ) (rest_is : rest ≡ drop place body) (lt : place < length body) (end_is : end ≡ line_len rest)
+    (h : HasConverted old new number (drop place body) total) where
+  here : HasConverted old new number rest total
+  here = record { rows = h.rows; items = h.items; told = ap (λ b. joined h.rows (rows_from number (lines_of b))) rest_is ∙ h.told }
+
+  long : 0 < length rest
+  long = omega (arith, lt, ap length rest_is, length-drop place body)
+
+  next : drop (place + (end + 1)) body ≡ drop (line_len rest + 1) rest
+  next = sym (drop-drop (end + 1) place body) ∙ ap₂ (λ k b. drop (k + 1) b) end_is (sym rest_is)
+
+  first-line : take end rest ≡ take (line_len rest) rest
+  first-line = ap (λ k. take k rest) end_is
+
+  pub loop-end : bytes_eq (take end rest) eof ≡ true → joined h.rows (ended number (lines_of (drop (place + (end + 1)) body))) ≡ total
+  unfolding here
+  loop-end e =
+      ap (λ b. joined h.rows (ended number (lines_of b))) next
+      ∙ converted-end old new number rest total long here (ap (λ l. bytes_eq l eof) (sym first-line) ∙ e)
+
+  pub loop-fault : (e : OmError) → bytes_eq (take end rest) eof ≡ false → CauseIs e (line_reading number (take end rest)) → CauseIs e total
+  loop-fault (Line n) other r =
+      converted-fault old new number rest total long here n (ap (λ l. bytes_eq l eof) (sym first-line) ∙ other) (ap (line_reading number) (sym first-line) ∙ r)
+  loop-fault NoMemory other r = tt
+
+  pub loop-more : (row : Option BodyRow) (longer : List ℕ) → bytes_eq (take end rest) eof ≡ false → line_reading number (take end rest) ≡ Ok row → longer ≡ new ++ plain_text (row_list row) →
+      HasConverted old longer (number + 1) (drop (place + (end + 1)) body) total
+  loop-more row longer other r added =
+      subst (λ (b : List ℕ). HasConverted old longer (number + 1) b total) (sym next)
+      (converted-more old new number rest total long here row longer (ap (λ l. bytes_eq l eof) (sym first-line) ∙ other) (ap (line_reading number) (sym first-line) ∙ r) added)
+
+  pub loop-near : end ≤ length rest → place + (end + 1) ≤ length body + 1
+  loop-near within = omega (arith, within, lt, ap length rest_is, length-drop place body)

@@ -1,5 +1,5 @@
 -- The parts of a number.
-use Rattle.std.proofs.Common.{◌≡◌, ℕ, suc, zero, ◌+◌, ◌-◌, ◌<◌, ◌≤◌, ◌^◌, ℤ, pos, negsuc, neg_ℤ, Bool, true, false, not, ◌&&◌, ◌||◌, ◌==◌, List, [], ◌∷◌, length, take, drop, slice_index, refl, sym, ap, ◌∙◌, arith, nat_lt, Option, Some, None, ⊎_elim, if◌then◌else◌}
+use Rattle.std.proofs.Common.{◌≡◌, ℕ, suc, zero, ◌-◌, ◌<◌, ◌≤◌, ◌^◌, Bool, true, false, not, ◌||◌, ◌==◌, List, [], ◌∷◌, length, take, drop, refl, sym, ap, ◌∙◌, arith, nat_lt, ⊎_elim}
 use Rattle.std.specs.List.{list_all}
 use Rattle.std.specs.Char.{is_ascii_digit}
 use Rattle.std.specs.Str.{all_ascii_digits}
@@ -8,7 +8,7 @@ use Rattle.std.proofs.lemmas.Bool.{and_from, cases_Bool}
 use Rattle.std.proofs.lemmas.Bool.Decides.{nat_tests}
 use Rattle.std.proofs.lemmas.List.{length-take, length-drop}
 use Rattle.value_text.specs.Numbers.{is_in_range}
-use Rattle.value_text.specs.Values.{digits, is_digits, is_exponent, is_fraction, is_number, is_tail, unsigned}
+use Rattle.value_text.specs.Values.{digits, is_digits, is_exponent, is_fraction, is_number, unsigned}
 use Rattle.value_text.proofs.DigitLemmas.{both, front-digits}
 use Rattle.om_reader.specs.Timestamps.{behind_whole, exponent, has_point, part, signed, whole}
 

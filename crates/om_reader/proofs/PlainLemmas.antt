@@ -1,5 +1,5 @@
 -- The text that is made of rows reads as just these rows.
-use Rattle.std.proofs.Common.{◌≡◌, ◌≢◌, ℕ, ℤ, pos, negsuc, suc, zero, ◌+◌, ◌<◌, ◌^◌, Bool, true, false, not, ◌&&◌, ◌||◌, List, [], ◌∷◌, ◌++◌, length, refl, sym, ap, ap₂, ◌∙◌, arith, ◌==◌, Option, Some, None, Result, Ok, Err, subst, slice_index, nat_lt, eqb, ⊎_elim, inl, inr, ◌⊎◌, append_assoc, append-nil, if◌then◌else◌, codes}
+use Rattle.std.proofs.Common.{◌≡◌, ◌≢◌, ℕ, ℤ, pos, negsuc, suc, ◌+◌, ◌<◌, ◌^◌, Bool, true, false, not, ◌||◌, List, [], ◌∷◌, ◌++◌, length, refl, sym, ap, ◌∙◌, arith, ◌==◌, Option, Some, None, Ok, subst, nat_lt, ⊎_elim, inl, inr, append_assoc, append-nil}
 use Rattle.std.specs.Fmt.{decimal, signed_decimal}
 use Rattle.std.specs.List.{list_all}
 use Rattle.std.specs.Char.{is_ascii_digit}
@@ -18,15 +18,14 @@ use Rattle.value_text.specs.Numbers.{is_in_range, millis}
 use Rattle.value_text.specs.Values.{is_digits, is_sign, unsigned}
 use Rattle.value_text.proofs.DigitLemmas.{both, decimal-digits, digit-no_sign}
 use Rattle.expo_lexer.specs.Tokens.{is_blank}
-use Rattle.expo_reader.specs.Bodies.{has_metric_label, lines_of, onto_first, reading as plain_reading}
+use Rattle.expo_reader.specs.Bodies.{has_metric_label, lines_of, onto_first}
 use Rattle.expo_reader.specs.Forms.{is_exposed_name}
 use Rattle.expo_reader.specs.Grammar.{AreLines as ArePlainLines, IsLabel as IsPlainLabel, IsLabels as ArePlainLabels, IsLineEnd, IsMiddle, IsSample as IsPlainSample}
 use Rattle.expo_reader.specs.declared.rows.BodyRow.{BodyRow}
 use Rattle.expo_reader.proofs.LawLemmas.{reads_the_format as plain-reads}
-use Rattle.om_reader.specs.Bodies.{line_text, on_line, on_lines, plain_text, row_text, stamp_text}
-use Rattle.om_reader.specs.Grammar.{AreLines, IsBraces, IsExemplar, IsLabel, IsLabelled, IsLabels, IsMeasure, IsSample, IsSkipped, OmLines}
-use Rattle.om_reader.specs.Laws.{IsConverted, IsPlain, KeepsRows}
-use Rattle.om_reader.specs.Timestamps.{stamp_millis}
+use Rattle.om_reader.specs.Bodies.{on_line, on_lines, plain_text, stamp_text}
+use Rattle.om_reader.specs.Grammar.{AreLines, IsLabel, IsLabelled, IsLabels, IsMeasure, IsSample, OmLines}
+use Rattle.om_reader.specs.Laws.{IsPlain, KeepsRows}
 use Rattle.om_reader.proofs.WordLemmas.{stamp-range}
 
 -- labels without blanks are labels
@@ -44,12 +43,14 @@ or-parts false y e = (refl, e)
 plain-labels : (labels : List Pair) (bs : List ℕ) → IsLabels bs labels → has_metric_label labels ≡ false → ArePlainLabels bs labels
 plain-labels [] bs l m = subst (λ (s : List ℕ). ArePlainLabels s []) (sym l) refl
 plain-labels (label ∷ labels) bs l m =
-    let k = or-parts (bytes_eq label.name metric_label) (has_metric_label labels) m in
-    (l.0, plain-label l.0 label l.1 k.0,
-    ⊎_elim
-    (λ (last : (labels ≡ []) × (bs ≡ l.0)). inl last)
-    (λ (more : (rest : List ℕ) × (labels ≢ []) × (bs ≡ l.0 ++ 44 ∷ rest) × IsLabels rest labels). inr (more.0, more.2, plain-labels labels more.0 more.3 k.1))
-    l.2)
+    let k = or-parts (bytes_eq label.name metric_label) (has_metric_label labels) m in (
+      l.0,
+      plain-label l.0 label l.1 k.0,
+      ⊎_elim
+          (λ (last : (labels ≡ []) × (bs ≡ l.0)). inl last)
+          (λ (more : (rest : List ℕ) × (labels ≢ []) × (bs ≡ l.0 ++ 44 ∷ rest) × IsLabels rest labels). inr (more.0, more.2, plain-labels labels more.0 more.3 k.1))
+          l.2,
+    )
 
 -- milliseconds are a timestamp
 first-digit : (ds : List ℕ) → is_digits ds ≡ true → unsigned ds ≡ ds

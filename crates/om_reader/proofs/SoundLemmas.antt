@@ -1,5 +1,5 @@
 -- What is read is written in the format: the parts of a line that are found make it up.
-use Rattle.std.proofs.Common.{◌≡◌, ◌≢◌, ℕ, ℤ, suc, zero, ◌+◌, ◌-◌, ◌<◌, Bool, true, false, not, ◌&&◌, ◌||◌, List, [], ◌∷◌, ◌++◌, length, take, drop, refl, sym, ap, ap₂, ◌∙◌, arith, ◌==◌, Option, Some, None, subst, slice_index, ⊎_elim, inl, inr, ◌⊎◌, append_assoc, append-nil, length-append, option_map, option_and_then, codes, if◌then◌else◌}
+use Rattle.std.proofs.Common.{◌≡◌, ◌≢◌, ℕ, ℤ, suc, zero, ◌+◌, ◌-◌, true, false, not, ◌&&◌, List, [], ◌∷◌, ◌++◌, length, take, drop, refl, sym, ap, ap₂, ◌∙◌, arith, ◌==◌, Option, Some, None, subst, slice_index, ⊎_elim, inl, inr, ◌⊎◌, append_assoc, append-nil, length-append, option_map, option_and_then, codes}
 use Rattle.std.specs.Str.{bytes_eq}
 use Rattle.std.proofs.Math.Seq.{take-append_seam}
 use Rattle.std.proofs.lemmas.List.{take-append-drop, nil_from_length}
@@ -204,7 +204,15 @@ module _ (number : ℕ) (line name rest : List ℕ) (s : Sample) (whole : line �
       let len : length line - length tail ≡ length (name ++ braces) = omega (arith, ap length all, length-append (name ++ braces) tail) in
       let raw : s.raw ≡ name ++ braces = k.0 ∙ ap₂ take len all ∙ take-append_seam (name ++ braces) tail in
       let m = k.3 in (
-        braces, m.0, m.1, refl, ap is_metric_name k.1 ∙ good, subst (IsLabelled braces) (sym k.2) is, raw ∙ ap (λ n. n ++ braces) (sym k.1), m.2, m.3,
+        braces,
+        m.0,
+        m.1,
+        refl,
+        ap is_metric_name k.1 ∙ good,
+        subst (IsLabelled braces) (sym k.2) is,
+        raw ∙ ap (λ n. n ++ braces) (sym k.1),
+        m.2,
+        m.3,
         all ∙ ap₂ (λ r t. r ++ t) (sym raw) m.4,
       )
 

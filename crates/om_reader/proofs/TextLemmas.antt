@@ -1,5 +1,5 @@
 -- Texts in quotes that write a value.
-use Rattle.std.proofs.Common.{◌≡◌, ℕ, Bool, true, false, List, ap, sym, ◌∙◌, refl, Option, Some, None, is_some, if◌then◌else◌}
+use Rattle.std.proofs.Common.{◌≡◌, ℕ, Bool, true, false, List, ap, sym, ◌∙◌, refl, Some, None, is_some, if◌then◌else◌}
 use Rattle.std.specs.Str.{is_utf8}
 use Rattle.expo_reader.specs.Texts.{resolved, text_value}
 

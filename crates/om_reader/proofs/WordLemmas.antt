@@ -1,19 +1,17 @@
 -- Names, values and timestamps are words, and what ends them.
-use Rattle.std.proofs.Common.{◌≡◌, ℕ, ℤ, ◌<◌, ◌≤◌, Bool, true, false, not, ◌&&◌, ◌||◌, List, [], ◌∷◌, ◌++◌, length, take, drop, refl, sym, ap, ap₂, ◌∙◌, arith, ◌==◌, Option, Some, None, nat_lt, nat_le, slice_index, ⊎_elim, subst, option_map, if◌then◌else◌}
-use Rattle.std.specs.List.{list_all, prefix_len}
-use Rattle.std.specs.Char.{is_ascii_digit}
+use Rattle.std.proofs.Common.{◌≡◌, ℕ, ℤ, ◌<◌, Bool, true, false, not, ◌&&◌, List, [], ◌∷◌, ◌++◌, length, take, drop, refl, sym, ap, ap₂, ◌∙◌, arith, ◌==◌, Some, nat_lt, nat_le, slice_index, subst}
+use Rattle.std.specs.List.{list_all}
 use Rattle.std.proofs.Math.Seq.{take-append_seam, drop-append_seam}
 use Rattle.std.proofs.lemmas.List.{take-append-drop}
-use Rattle.std.proofs.lemmas.List.Folds.{length-prefix_len}
-use Rattle.std.proofs.lemmas.Bool.{and_from, cases_Bool, eqb-true, false_from_ne_true, not-true}
+use Rattle.std.proofs.lemmas.Bool.{and_from, eqb-true, false_from_ne_true}
 use Rattle.std.proofs.lemmas.Bool.Decides.{nat_tests}
 use Rattle.std.proofs.lemmas.Grind.{common_steps}
 use Rattle.label_set.specs.Bytes.{is_label_name, is_name_byte, is_name_start}
 use Rattle.value_text.specs.Numbers.{is_in_range}
-use Rattle.value_text.specs.Values.{is_sign, unsigned, is_number, is_infinity, is_value, digits, is_digits, is_exponent, is_tail}
+use Rattle.value_text.specs.Values.{is_sign, unsigned, is_number, is_value}
 use Rattle.expo_lexer.specs.Tokens.{is_blank, is_mark, is_word_byte, word_len}
-use Rattle.expo_reader.specs.Texts.{bare, mark_at, text_at, text_in, word_at}
-use Rattle.expo_reader.proofs.FrontLemmas.{both, Stops, bare-front, front-len, passes, stops-drop, text-front}
+use Rattle.expo_reader.specs.Texts.{mark_at, text_at, text_in, word_at}
+use Rattle.expo_reader.proofs.FrontLemmas.{both, Stops, bare-front, front-len, text-front}
 use Rattle.expo_reader.proofs.QuoteLemmas.{is_text}
 use Rattle.expo_reader.proofs.RowLemmas.{chosen, mapped, pair}
 use Rattle.expo_reader.proofs.SoundLemmas.{blanks, text-sound as text-behind}

@@ -1,5 +1,5 @@
 -- The parts of a sample line as they are found in it, from its front on (OpenMetrics 1.0, "ABNF").
-use Rattle.std.specs.Prelude.{ℕ, zero, suc, ℤ, ◌+◌, ◌-◌, Bool, false, not, ◌&&◌, ◌||◌, List, [], ◌∷◌, length, take, drop, slice_index, Option, Some, None, option_map, option_and_then, if◌then◌else◌, ◌==◌, codes}
+use Rattle.std.specs.Prelude.{ℕ, zero, suc, ℤ, ◌+◌, ◌-◌, Bool, false, not, ◌&&◌, ◌||◌, List, [], length, take, drop, slice_index, Option, Some, None, option_map, option_and_then, if◌then◌else◌, ◌==◌, codes}
 use Rattle.std.specs.List.{prefix_len}
 use Rattle.std.specs.Str.{bytes_eq}
 use Rattle.label_set.specs.Bytes.{is_label_name, is_metric_name}

@@ -1,5 +1,6 @@
 //! Whole bodies.
-ghost use Rattle.std.specs.Prelude.{◌≡◌, ◌≤◌, ◌<◌, ◌++◌, ◌^◌, [], List, Option, drop, length, IfErr, IfOk, MatchResult, Ok, OnOk, option_map};
+ghost use Rattle.std.specs.Prelude.{◌≡◌, ◌≤◌, ◌<◌, ◌++◌, ◌^◌, ◌==◌, [], List, Option, drop, length, IfErr, IfOk, MatchResult, Ok, OnOk, option_map, slice_index};
+ghost use Rattle.std.specs.Str.{bytes_eq};
 ghost use Rattle.expo_reader.specs.Bodies.{line_len, lines_of, row_list};
 ghost use Rattle.expo_reader.specs.declared.rows.BodyRow.{BodyRow};
 ghost use Rattle.om_reader.specs.Bodies as spec;
@@ -80,6 +81,20 @@ fn push_line(text: &mut Vec<u8>, line: Line<'_>) -> Result<(), NoMemory>
     Ok(())
 }
 
+/// Whether a line begins with `#`.
+fn is_comment(line: &[u8]) -> bool
+    ensures { result ≡ (slice_index line.now 0 == 35) }
+{
+    !line.is_empty() && line[0] == b'#'
+}
+
+/// Whether a line is the one that a body ends with.
+fn is_eof(line: &[u8]) -> bool
+    ensures { result ≡ bytes_eq line.now spec.eof }
+{
+    line == b"# EOF".as_slice()
+}
+
 /// Adds what a line becomes: nothing where it is skipped.
 fn convert_line<'b>(
     alloc: Global,
@@ -90,7 +105,7 @@ fn convert_line<'b>(
 ) -> Result<(), OmError>
     ensures { let said = spec.line_reading number line.now in MatchResult result (λ _. (row : Option BodyRow) × (said ≡ Ok row) × (text.new.items ≡ text.old.items ++ spec.plain_text (row_list row))) (λ e. CauseIs e said) }
 {
-    if !line.is_empty() && line[0] == b'#' {
+    if is_comment(line) {
         return Ok(());
     }
     match sample_at(alloc, line, room) {
@@ -116,11 +131,13 @@ fn convert_lines<'b>(
         let end = line_end(rest);
         let line = &rest[..end];
         place += end + 1;
-        if line == b"# EOF".as_slice() {
+        if is_eof(line) {
             return ended(number, body, place);
         }
-        convert_line(alloc, number, line, room, text)?;
-        number += 1;
+        match convert_line(alloc, number, line, room, text) {
+            Ok(()) => number += 1,
+            Err(error) => return Err(error),
+        }
     }
     Err(OmError::Line(number))
 }
@@ -148,8 +165,10 @@ pub fn convert(alloc: Global, bytes: &[u8]) -> Result<Blob, OmError>
 {
     let mut text = Vec::with_capacity(alloc, bytes.len())?;
     let mut room = Room::new(alloc);
-    convert_lines(alloc, bytes, &mut room, &mut text)?;
-    Ok(Blob { bytes: text })
+    match convert_lines(alloc, bytes, &mut room, &mut text) {
+        Ok(()) => Ok(Blob { bytes: text }),
+        Err(error) => Err(error),
+    }
 }
 
 /// The law that ties the conversion to the format: a body is converted exactly where its lines through `# EOF` are skipped or sample lines and no line

@@ -9,7 +9,7 @@ ghost use Rattle.om_reader.specs.Forms as spec;
 
 use crate::faults::Fault;
 use crate::parts::{Part, mark_at, text_at, word_at};
-use crate::repeats::{LentName, names_differ};
+use crate::repeats::{LentName, has_metric_name, names_differ};
 use crate::texts::is_written;
 use label_set::names::are_label_name;
 use std::alloc::Global;
@@ -43,9 +43,7 @@ impl<'b> Room<'b> {
     pub fn has_metric_label(&self) -> bool
         ensures { (labels : List Pair) → self.now ≡ names_of labels → result ≡ has_metric_label labels }
     {
-        self.names
-            .iter()
-            .any(|name| name.bytes == b"__name__".as_slice())
+        has_metric_name(self.names.as_slice())
     }
 }
 

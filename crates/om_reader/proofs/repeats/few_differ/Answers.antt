@@ -1,8 +1,7 @@
 use Rattle.std.proofs.Common.{◌≡◌, ◌∙◌, ℕ, List, ap, sym, take, false, true}
 use Rattle.std.specs.List.{list_any}
 use Rattle.std.specs.Str.{bytes_eq}
-use Rattle.std.proofs.lemmas.List.{take_more}
-use Rattle.om_reader.proofs.LabelLemmas.{differ-again, differ-end, differ-more, next-name}
+use Rattle.om_reader.proofs.LabelLemmas.{differ-again, differ-end, next-name}
 use Rattle.om_reader.proofs.repeats.few_differ.Goals as goal
 
 pub returns-then-has_name : goal.returns-then-has_name

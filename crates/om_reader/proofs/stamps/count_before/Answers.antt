@@ -1,4 +1,4 @@
-use Rattle.std.proofs.Common.{◌≡◌, ◌*◌, ◌^◌, ◌-◌, ◌<◌, ◌∙◌, ℕ, List, arith, sym, ap, ap₂, subst, length, take, true}
+use Rattle.std.proofs.Common.{◌*◌, ◌^◌, ◌-◌, ◌<◌, ◌∙◌, ℕ, arith, sym, ap, subst, length}
 use Rattle.std.specs.Char.{is_ascii_digit}
 use Rattle.std.specs.List.{list_all}
 use Rattle.std.specs.Option.{SomeIff}

@@ -1,4 +1,4 @@
-use Rattle.std.proofs.Common.{◌≡◌, ◌≤◌, ◌+◌, ◌*◌, ◌-◌, ◌∙◌, arith, sym, drop, get_or, refl}
+use Rattle.std.proofs.Common.{◌≡◌, ◌+◌, ◌*◌, ◌-◌, ◌∙◌, arith, sym, drop, get_or, refl}
 use Rattle.std.specs.Str.Parse.{digits_value_after}
 use Rattle.om_reader.proofs.CountLemmas.{value-end, value-grows, value-step, digit-at}
 use Rattle.om_reader.proofs.stamps.with_digits.Goals as goal
