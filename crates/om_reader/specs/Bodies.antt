@@ -1,6 +1,5 @@
 -- Bodies of OpenMetrics, and the bodies of the text exposition format that they become (OpenMetrics 1.0, "Overall Structure").
-use Rattle.std.specs.Prelude.{◌≡◌, ℕ, ◌+◌, Bool, List, [], ◌∷◌, ◌++◌, Option, Some, None, option_map, Result, Ok, Err, slice_index, if◌then◌else◌, ◌==◌, codes}
-use Rattle.std.specs.Int.RustNames.{ℤ}
+use Rattle.std.specs.Prelude.{ℕ, ℤ, ◌+◌, List, [], ◌∷◌, ◌++◌, Option, Some, None, option_map, Result, Ok, Err, slice_index, if◌then◌else◌, ◌==◌, codes}
 use Rattle.std.specs.List.{flat_map}
 use Rattle.std.specs.Fmt.{signed_decimal}
 use Rattle.std.specs.Str.{bytes_eq}
@@ -39,9 +38,13 @@ abbrev pub stamp_text : Option ℤ → List ℕ
 stamp_text None = []
 stamp_text (Some ms) = 32 ∷ signed_decimal ms
 
--- a row as a line of the text exposition format: its raw text, a space, its value, a space and the milliseconds where it has a timestamp, and a line feed
+-- a line of the text exposition format: a raw text, a space, a value, a space and the milliseconds where there is a timestamp, and a line feed
+abbrev pub line_text : List ℕ → List ℕ → Option ℤ → List ℕ
+line_text raw value stamp = raw ++ 32 ∷ (value ++ (stamp_text stamp ++ 10 ∷ []))
+
+-- that of a row
 abbrev pub row_text : BodyRow → List ℕ
-row_text r = r.raw ++ 32 ∷ (r.value ++ (stamp_text r.stamp ++ 10 ∷ []))
+row_text r = line_text r.raw r.value r.stamp
 
 -- rows as a body of it
 abbrev pub plain_text : List BodyRow → List ℕ

@@ -1,5 +1,5 @@
 -- The parts of a sample line as they are found in it, from its front on (OpenMetrics 1.0, "ABNF").
-use Rattle.std.specs.Prelude.{ℕ, zero, suc, ℤ, ◌+◌, ◌-◌, Bool, false, not, ◌&&◌, ◌||◌, List, [], ◌∷◌, length, take, drop, slice_index, Option, Some, None, option_map, option_and_then, if◌then◌else◌, ◌==◌, codes}
+use Rattle.std.specs.Prelude.{ℕ, zero, suc, ℤ, ◌+◌, ◌-◌, Bool, false, not, ◌&&◌, ◌||◌, List, [], length, take, drop, slice_index, Option, Some, None, option_map, option_and_then, if◌then◌else◌, ◌==◌, codes}
 use Rattle.std.specs.List.{prefix_len}
 use Rattle.std.specs.Str.{bytes_eq}
 use Rattle.label_set.specs.Bytes.{is_label_name, is_metric_name}
@@ -107,14 +107,18 @@ made raw name labels None = None
 made raw name labels (Some (value, stamp, rest)) =
     if is_end rest then Some (record { raw = raw; name = name; labels = labels; value = value; stamp = stamp }) else None
 
+-- the same of a line that ends so; the raw text goes through the name or the closing brace
+abbrev pub cut : List ℕ → List ℕ → List Pair → List ℕ → Option Sample
+cut line name labels rest = made (take (length line - length rest) line) name labels (measure_at rest)
+
 -- behind the name: labels in braces, none of which is `__name__`, or nothing
 abbrev pub labelled : List ℕ → List ℕ → Option (List Pair × List ℕ) → Option Sample
 labelled line name None = None
-labelled line name (Some (labels, rest)) = if has_metric_label labels then None else made (take (length line - length rest) line) name labels (measure_at rest)
+labelled line name (Some (labels, rest)) = if has_metric_label labels then None else cut line name labels rest
 
 abbrev pub after_name : List ℕ → List ℕ → List ℕ → Option (List ℕ) → Option Sample
 after_name line name rest (Some inside) = labelled line name (braced inside)
-after_name line name rest None = made name name [] (measure_at rest)
+after_name line name rest None = cut line name [] rest
 
 abbrev pub named : List ℕ → Option (List ℕ × List ℕ) → Option Sample
 named line None = None

@@ -1,7 +1,7 @@
 -- OpenMetrics as a grammar: how lines and bodies are written (OpenMetrics 1.0, "Text format", "ABNF").
 -- It says which there are by what they are put together from, and knows nothing of how they are read. What is the same in the text exposition
 -- format is cited from there: metric names, texts in quotes and values. Left out are metadata, which isn't judged, and quoted names.
-use Rattle.std.specs.Prelude.{◌≡◌, ◌≢◌, ◌⊎◌, ℕ, ℤ, ◌+◌, true, false, List, [], ◌∷◌, ◌++◌, Option, Some, None, codes}
+use Rattle.std.specs.Prelude.{◌≡◌, ◌≢◌, ◌⊎◌, ℕ, ℤ, ◌+◌, true, false, List, [], ◌∷◌, ◌++◌, Option, Some, None}
 use Rattle.std.specs.Str.{is_utf8}
 use Rattle.label_set.specs.Bytes.{is_label_name, is_metric_name}
 use Rattle.label_set.specs.declared.texts.Pair.{Pair}

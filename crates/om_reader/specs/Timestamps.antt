@@ -1,5 +1,5 @@
 -- Timestamps of OpenMetrics, in seconds (OpenMetrics 1.0, "Timestamps": "Timestamps MUST be Unix Epoch in seconds"; "ABNF": `timestamp = realnumber`).
-use Rattle.std.specs.Prelude.{ℕ, ◌+◌, ◌-◌, ℤ, pos, neg_ℤ, Bool, List, [], ◌++◌, length, take, drop, slice_index, replicate, Option, Some, None, ◌&&◌, ◌==◌, nat_le, if◌then◌else◌}
+use Rattle.std.specs.Prelude.{ℕ, ◌+◌, ◌-◌, min, ℤ, pos, neg_ℤ, Bool, List, [], ◌++◌, length, take, drop, slice_index, replicate, Option, Some, None, ◌&&◌, ◌==◌, nat_le, if◌then◌else◌}
 use Rattle.std.specs.Str.Parse.{digits_value}
 use Rattle.value_text.specs.Numbers.{is_in_range}
 use Rattle.value_text.specs.Values.{digits, is_number, unsigned}
@@ -33,6 +33,10 @@ is_lowered x = slice_index x 1 == 45
 -- before how many digits the point stands once it is moved by the exponent and by three places to the right
 unfoldable pub point_place : ℕ → List ℕ → ℕ
 point_place n x = if is_lowered x then n + 3 - power x else n + 3 + power x
+
+-- the same place where no power counts for more than 1000; a number of 64 bits has far fewer digits, so that none sees a difference
+unfoldable pub near_place : ℕ → List ℕ → ℕ
+near_place n x = if is_lowered x then n + 3 - min (power x) 1000 else n + 3 + min (power x) 1000
 
 -- so many digits in front, with zeros behind those that are there
 unfoldable pub digits_before : ℕ → List ℕ → List ℕ

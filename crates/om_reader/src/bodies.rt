@@ -1,7 +1,11 @@
 //! Whole bodies.
-ghost use Rattle.std.specs.Prelude.{◌≡◌, ◌≤◌, ◌<◌, ◌++◌, drop, length, IfErr, IfOk, Ok};
-ghost use Rattle.expo_reader.specs.Bodies.{line_len};
+ghost use Rattle.std.specs.Prelude.{◌≡◌, ◌≤◌, ◌<◌, ◌++◌, ◌^◌, ◌==◌, [], List, Option, drop, length, IfErr, IfOk, MatchResult, Ok, OnOk, option_map, slice_index};
+ghost use Rattle.std.specs.Str.{bytes_eq};
+ghost use Rattle.expo_reader.specs.Bodies.{line_len, lines_of, row_list};
+ghost use Rattle.expo_reader.specs.declared.rows.BodyRow.{BodyRow};
+ghost use Rattle.om_reader.specs.Bodies as spec;
 ghost use Rattle.om_reader.specs.Bodies.{converted};
+ghost use Rattle.om_reader.specs.Timestamps.{millis_of};
 ghost use Rattle.om_reader.specs.Laws.{CauseIs, HasOneReading, IsCauseOf, IsConverted, KeepsRows, ReadsTheFormat};
 
 use crate::faults::Fault;
@@ -63,7 +67,9 @@ fn behind(bytes: &[u8], place: usize) -> &[u8]
 }
 
 /// Adds a sample as a line.
-fn push_line(text: &mut Vec<u8>, line: Line<'_>) -> Result<(), NoMemory> {
+fn push_line(text: &mut Vec<u8>, line: Line<'_>) -> Result<(), NoMemory>
+    ensures { OnOk result (text.new.items ≡ text.old.items ++ spec.line_text line.entry.raw.now line.entry.value.now (option_map millis_of line.entry.stamp)) }
+{
     text.extend_from_slice(line.raw)?;
     text.push(b' ')?;
     text.extend_from_slice(line.value)?;
@@ -75,6 +81,20 @@ fn push_line(text: &mut Vec<u8>, line: Line<'_>) -> Result<(), NoMemory> {
     Ok(())
 }
 
+/// Whether a line begins with `#`.
+fn is_comment(line: &[u8]) -> bool
+    ensures { result ≡ (slice_index line.now 0 == 35) }
+{
+    !line.is_empty() && line[0] == b'#'
+}
+
+/// Whether a line is the one that a body ends with.
+fn is_eof(line: &[u8]) -> bool
+    ensures { result ≡ bytes_eq line.now spec.eof }
+{
+    line == b"# EOF".as_slice()
+}
+
 /// Adds what a line becomes: nothing where it is skipped.
 fn convert_line<'b>(
     alloc: Global,
@@ -82,8 +102,10 @@ fn convert_line<'b>(
     line: &'b [u8],
     room: &mut Room<'b>,
     text: &mut Vec<u8>,
-) -> Result<(), OmError> {
-    if !line.is_empty() && line[0] == b'#' {
+) -> Result<(), OmError>
+    ensures { let said = spec.line_reading number line.now in MatchResult result (λ _. (row : Option BodyRow) × (said ≡ Ok row) × (text.new.items ≡ text.old.items ++ spec.plain_text (row_list row))) (λ e. CauseIs e said) }
+{
+    if is_comment(line) {
         return Ok(());
     }
     match sample_at(alloc, line, room) {
@@ -99,7 +121,9 @@ fn convert_lines<'b>(
     body: &'b [u8],
     room: &mut Room<'b>,
     text: &mut Vec<u8>,
-) -> Result<(), OmError> {
+) -> Result<(), OmError>
+    ensures { let said = spec.reading body.now in MatchResult result (λ _. (rows : List BodyRow) × (said ≡ Ok rows) × (text.new.items ≡ text.old.items ++ spec.plain_text rows)) (λ e. CauseIs e said) }
+{
     let mut place = 0;
     let mut number = 1;
     while place < body.len() {
@@ -107,17 +131,22 @@ fn convert_lines<'b>(
         let end = line_end(rest);
         let line = &rest[..end];
         place += end + 1;
-        if line == b"# EOF".as_slice() {
+        if is_eof(line) {
             return ended(number, body, place);
         }
-        convert_line(alloc, number, line, room, text)?;
-        number += 1;
+        match convert_line(alloc, number, line, room, text) {
+            Ok(()) => number += 1,
+            Err(error) => return Err(error),
+        }
     }
     Err(OmError::Line(number))
 }
 
 /// Whether a body ends at a place behind `# EOF`, the line of that number.
-fn ended(number: u64, body: &[u8], place: usize) -> Result<(), OmError> {
+fn ended(number: u64, body: &[u8], place: usize) -> Result<(), OmError>
+    requires { number < 2 ^ 63 }
+    ensures { let said = spec.ended number (lines_of (drop place body.now)) in MatchResult result (λ _. said ≡ Ok []) (λ e. CauseIs e said) }
+{
     if place < body.len() {
         Err(OmError::Line(number + 1))
     } else {
@@ -136,8 +165,10 @@ pub fn convert(alloc: Global, bytes: &[u8]) -> Result<Blob, OmError>
 {
     let mut text = Vec::with_capacity(alloc, bytes.len())?;
     let mut room = Room::new(alloc);
-    convert_lines(alloc, bytes, &mut room, &mut text)?;
-    Ok(Blob { bytes: text })
+    match convert_lines(alloc, bytes, &mut room, &mut text) {
+        Ok(()) => Ok(Blob { bytes: text }),
+        Err(error) => Err(error),
+    }
 }
 
 /// The law that ties the conversion to the format: a body is converted exactly where its lines through `# EOF` are skipped or sample lines and no line

@@ -3,13 +3,13 @@ ghost use Rattle.std.specs.Prelude.{◌≡◌, ◌<◌, ◌+◌, ◌++◌, ◌�
 ghost use Rattle.label_set.specs.Bytes.{is_label_name};
 ghost use Rattle.label_set.specs.declared.texts.Pair.{Pair};
 ghost use Rattle.expo_reader.specs.Bodies.{has_metric_label, names_of};
-ghost use Rattle.expo_reader.specs.Texts as text;
+ghost use Rattle.expo_reader.specs.Texts as plain;
 ghost use Rattle.om_reader.specs.Faults.{FaultIs};
 ghost use Rattle.om_reader.specs.Forms as spec;
 
 use crate::faults::Fault;
 use crate::parts::{Part, mark_at, text_at, word_at};
-use crate::repeats::{LentName, has_name, names_differ};
+use crate::repeats::{LentName, has_metric_name, names_differ};
 use crate::texts::is_written;
 use label_set::names::are_label_name;
 use std::alloc::Global;
@@ -43,13 +43,13 @@ impl<'b> Room<'b> {
     pub fn has_metric_label(&self) -> bool
         ensures { (labels : List Pair) → self.now ≡ names_of labels → result ≡ has_metric_label labels }
     {
-        has_name(self.names.as_slice(), b"__name__")
+        has_metric_name(self.names.as_slice())
     }
 }
 
 /// The name of a label in front, and what follows it.
 fn name_at(text: &[u8]) -> Option<Part<'_>>
-    ensures part { IfSome result (λ p. text.word_at text.now ≡ Some (p.bytes.now, p.rest.now)) }
+    ensures part { IfSome result (λ p. plain.word_at text.now ≡ Some (p.bytes.now, p.rest.now)) }
     ensures name { IfSome result (λ p. IsTrue (is_label_name p.bytes.now)) }
     ensures none { IfNone result (spec.label_at text.now ≡ None) }
     ensures shorter { IfSome result (λ p. length p.rest.now < length text.now) }
@@ -67,7 +67,7 @@ fn name_at(text: &[u8]) -> Option<Part<'_>>
 /// What follows the text in quotes of a label with that name.
 fn valued<'b>(name: &[u8], quoted: &'b [u8], room: &mut Vec<u8>) -> Result<&'b [u8], Fault>
     requires { IsTrue (is_label_name name.now) }
-    ensures label { let said = spec.valued_label name.now (text.text_at quoted.now) in MatchResult result (λ rest. (p : Pair) × (said ≡ Some (p, rest.now)) × (p.name ≡ name.now)) (λ f. FaultIs f said) }
+    ensures label { let said = spec.valued_label name.now (plain.text_at quoted.now) in MatchResult result (λ rest. (p : Pair) × (said ≡ Some (p, rest.now)) × (p.name ≡ name.now)) (λ f. FaultIs f said) }
     ensures shorter { IfOk result (λ rest. length rest.now < length quoted.now) }
 {
     let Some(value) = text_at(quoted) else {
@@ -104,7 +104,8 @@ fn push_label<'b>(text: &'b [u8], room: &mut Room<'b>) -> Result<&'b [u8], Fault
 
 /// Adds the names of the labels in front, one at least, and gives what follows the `}` behind them.
 fn push_labels<'b>(text: &'b [u8], room: &mut Room<'b>) -> Result<&'b [u8], Fault>
-    ensures { let said = spec.labels_at (length text.now + 1) text.now in MatchResult result (λ rest. (more : List Pair) × (said ≡ Some (more, rest.now)) × (room.new ≡ room.old ++ names_of more)) (λ f. FaultIs f said) }
+    ensures labels { let said = spec.labels_at (length text.now + 1) text.now in MatchResult result (λ rest. (more : List Pair) × (said ≡ Some (more, rest.now)) × (room.new ≡ room.old ++ names_of more)) (λ f. FaultIs f said) }
+    ensures shorter { IfOk result (λ rest. length rest.now < length text.now) }
 {
     let mut left = text;
     loop {
@@ -121,7 +122,8 @@ fn push_labels<'b>(text: &'b [u8], room: &mut Room<'b>) -> Result<&'b [u8], Faul
 
 /// What follows a `}`.
 fn closed(text: &[u8]) -> Result<&[u8], Fault>
-    ensures { MatchResult result (λ rest. text.mark_at 125 text.now ≡ Some rest.now) (λ f. (f ≡ Fault.Faulty) × (text.mark_at 125 text.now ≡ None)) }
+    ensures shorter { IfOk result (λ rest. length rest.now < length text.now) }
+    ensures rest { MatchResult result (λ rest. plain.mark_at 125 text.now ≡ Some rest.now) (λ f. (f ≡ Fault.Faulty) × (plain.mark_at 125 text.now ≡ None)) }
 {
     match mark_at(b'}', text) {
         Some(rest) => Ok(rest),
@@ -131,7 +133,8 @@ fn closed(text: &[u8]) -> Result<&[u8], Fault>
 
 /// What follows the labels behind a `{` and the `}` behind them; none of them is given twice. The room has their names then.
 pub fn braced<'b>(alloc: Global, text: &'b [u8], room: &mut Room<'b>) -> Result<&'b [u8], Fault>
-    ensures { let said = spec.braced text.now in MatchResult result (λ rest. (labels : List Pair) × (said ≡ Some (labels, rest.now)) × (room.new ≡ names_of labels)) (λ f. FaultIs f said) }
+    ensures labels { let said = spec.braced text.now in MatchResult result (λ rest. (labels : List Pair) × (said ≡ Some (labels, rest.now)) × (room.new ≡ names_of labels)) (λ f. FaultIs f said) }
+    ensures shorter { IfOk result (λ rest. length rest.now < length text.now) }
 {
     room.names.clear();
     if let Some(rest) = mark_at(b'}', text) {
@@ -142,5 +145,8 @@ pub fn braced<'b>(alloc: Global, text: &'b [u8], room: &mut Room<'b>) -> Result<
         Err(fault) => return Err(fault),
     };
     let differ = names_differ(alloc, room.names.as_slice())?;
-    if differ { Ok(rest) } else { Err(Fault::Faulty) }
+    if !differ {
+        return Err(Fault::Faulty);
+    }
+    Ok(rest)
 }

@@ -1,5 +1,8 @@
 //! The samples of lines.
-ghost use Rattle.std.specs.Prelude.{◌≡◌, ◌×◌, IfOk, MatchOption, MatchResult, None, Some, option_map};
+ghost use Rattle.std.specs.Prelude.{◌≡◌, ◌≤◌, ◌<◌, ◌==◌, ◌&&◌, ℕ, List, length, not, slice_index, IfNone, IfOk, IfSome, IsTrue, MatchOption, MatchResult, None, Some, option_map};
+ghost use Rattle.label_set.specs.Bytes.{is_metric_name};
+ghost use Rattle.label_set.specs.declared.texts.Pair.{Pair};
+ghost use Rattle.expo_reader.specs.Texts as plain;
 ghost use Rattle.om_reader.specs.Faults.{FaultIs};
 ghost use Rattle.om_reader.specs.Forms as spec;
 ghost use Rattle.om_reader.specs.Forms.{Sample};
@@ -9,6 +12,7 @@ use crate::faults::Fault;
 use crate::labels::{Room, braced};
 use crate::parts::{Part, field_at, mark_at, word_at};
 use crate::stamps::{Millis, read_stamp};
+use label_set::NoMemory;
 use label_set::names::are_metric_name;
 use std::alloc::Global;
 use value_text::ValueText;
@@ -22,12 +26,17 @@ struct Measure<'b> {
 }
 
 /// Whether a timestamp begins there: a space that no `#` follows.
-fn has_stamp(text: &[u8]) -> bool {
+fn has_stamp(text: &[u8]) -> bool
+    ensures { result ≡ ((slice_index text.now 0 == 32) && not (slice_index text.now 1 == 35)) }
+{
     !text.is_empty() && text[0] == b' ' && (text.len() == 1 || text[1] != b'#')
 }
 
 /// A space, a value, and a space and a timestamp or nothing.
-fn measure_at(text: &[u8]) -> Option<Measure<'_>> {
+#[tactic(auto, unfolding(crate::specs::Forms::measure_at, crate::specs::Forms::stamp_at))]
+fn measure_at(text: &[u8]) -> Option<Measure<'_>>
+    ensures { MatchOption result (spec.measure_at text.now ≡ None) (λ m. spec.measure_at text.now ≡ Some (m.value.now, option_map millis_of m.stamp, m.rest.now)) }
+{
     let Some(field) = field_at(text) else {
         return None;
     };
@@ -55,7 +64,10 @@ fn measure_at(text: &[u8]) -> Option<Measure<'_>> {
 }
 
 /// Whether a line ends there, or with an exemplar.
-fn ends<'b>(alloc: Global, text: &'b [u8], room: &mut Room<'b>) -> Result<bool, Fault> {
+#[tactic(auto, unfolding(crate::specs::Forms::is_end))]
+fn ends<'b>(alloc: Global, text: &'b [u8], room: &mut Room<'b>) -> Result<bool, NoMemory>
+    ensures { IfOk result (λ b. b ≡ spec.is_end text.now) }
+{
     if text.is_empty() {
         return Ok(true);
     }
@@ -64,7 +76,8 @@ fn ends<'b>(alloc: Global, text: &'b [u8], room: &mut Room<'b>) -> Result<bool, 
     }
     let rest = match braced(alloc, &text[4..], room) {
         Ok(rest) => rest,
-        Err(fault) => return Err(fault),
+        Err(Fault::Faulty) => return Ok(false),
+        Err(Fault::NoMemory) => return Err(NoMemory),
     };
     match measure_at(rest) {
         Some(measure) => Ok(measure.rest.is_empty()),
@@ -81,7 +94,13 @@ pub struct Line<'b> {
 }
 
 /// The metric name in front of a line, and what follows it.
-fn metric_at(line: &[u8]) -> Option<Part<'_>> {
+#[tactic(auto, unfolding(crate::specs::Forms::sample_at))]
+fn metric_at(line: &[u8]) -> Option<Part<'_>>
+    ensures part { IfSome result (λ p. plain.word_at line.now ≡ Some (p.bytes.now, p.rest.now)) }
+    ensures name { IfSome result (λ p. IsTrue (is_metric_name p.bytes.now)) }
+    ensures none { IfNone result (spec.sample_at line.now ≡ None) }
+    ensures shorter { IfSome result (λ p. length p.rest.now < length line.now) }
+{
     let Some(name) = word_at(line) else {
         return None;
     };
@@ -93,7 +112,10 @@ fn metric_at(line: &[u8]) -> Option<Part<'_>> {
 }
 
 /// What follows the name of a line, or the labels behind it in braces, none of which is `__name__`.
-fn after_labels<'b>(alloc: Global, rest: &'b [u8], room: &mut Room<'b>) -> Result<&'b [u8], Fault> {
+fn after_labels<'b>(alloc: Global, rest: &'b [u8], room: &mut Room<'b>) -> Result<&'b [u8], Fault>
+    ensures said { MatchResult result (λ r. (labels : List Pair) × ((line name : List ℕ) → spec.after_name line name rest.now (plain.mark_at 123 rest.now) ≡ spec.cut line name labels r.now)) (λ f. (line name : List ℕ) → FaultIs f (spec.after_name line name rest.now (plain.mark_at 123 rest.now))) }
+    ensures shorter { IfOk result (λ r. length r.now ≤ length rest.now) }
+{
     let Some(inside) = mark_at(b'{', rest) else {
         return Ok(rest);
     };
@@ -108,7 +130,9 @@ fn after_labels<'b>(alloc: Global, rest: &'b [u8], room: &mut Room<'b>) -> Resul
 }
 
 /// The sample of a line.
-pub fn sample_at<'b>(alloc: Global, line: &'b [u8], room: &mut Room<'b>) -> Result<Line<'b>, Fault> {
+pub fn sample_at<'b>(alloc: Global, line: &'b [u8], room: &mut Room<'b>) -> Result<Line<'b>, Fault>
+    ensures { let said = spec.sample_at line.now in MatchResult result (λ l. (s : Sample) × (said ≡ Some s) × (s.raw ≡ l.raw.now) × (s.value ≡ l.value.now) × (s.stamp ≡ option_map millis_of l.stamp)) (λ f. FaultIs f said) }
+{
     let Some(name) = metric_at(line) else {
         return Err(Fault::Faulty);
     };
@@ -126,6 +150,6 @@ pub fn sample_at<'b>(alloc: Global, line: &'b [u8], room: &mut Room<'b>) -> Resu
             stamp: measure.stamp,
         }),
         Ok(false) => Err(Fault::Faulty),
-        Err(fault) => Err(fault),
+        Err(NoMemory) => Err(Fault::NoMemory),
     }
 }

@@ -1,7 +1,7 @@
 //! What stands in front of some bytes.
 ghost use Rattle.std.specs.Prelude.{◌≡◌, ◌<◌, ◌≤◌, ◌==◌, drop, take, length, slice_index, MatchOption, IfSome, None, Some, not};
 ghost use Rattle.std.specs.List.{prefix_len};
-ghost use Rattle.expo_reader.specs.Texts as text;
+ghost use Rattle.expo_reader.specs.Texts as plain;
 ghost use Rattle.om_reader.specs.Forms as spec;
 
 use expo_lexer::scan;
@@ -30,7 +30,7 @@ pub fn cut(text: &[u8], len: usize) -> Part<'_>
 #[inline]
 pub fn mark_at(mark: u8, text: &[u8]) -> Option<&[u8]>
     requires { 0 < mark }
-    ensures rest { MatchOption result (text.mark_at mark text.now ≡ None) (λ rest. text.mark_at mark text.now ≡ Some rest.now) }
+    ensures rest { MatchOption result (plain.mark_at mark text.now ≡ None) (λ rest. plain.mark_at mark text.now ≡ Some rest.now) }
     ensures shorter { IfSome result (λ rest. length rest.now < length text.now) }
 {
     if !text.is_empty() && text[0] == mark {
@@ -43,7 +43,7 @@ pub fn mark_at(mark: u8, text: &[u8]) -> Option<&[u8]>
 /// The word in front.
 #[inline]
 pub fn word_at(text: &[u8]) -> Option<Part<'_>>
-    ensures part { MatchOption result (text.word_at text.now ≡ None) (λ p. text.word_at text.now ≡ Some (p.bytes.now, p.rest.now)) }
+    ensures part { MatchOption result (plain.word_at text.now ≡ None) (λ p. plain.word_at text.now ≡ Some (p.bytes.now, p.rest.now)) }
     ensures shorter { IfSome result (λ p. length p.rest.now < length text.now) }
 {
     let len = scan::word_len(text);
@@ -56,7 +56,7 @@ pub fn word_at(text: &[u8]) -> Option<Part<'_>>
 /// The text in quotes in front.
 #[inline]
 pub fn text_at(text: &[u8]) -> Option<Part<'_>>
-    ensures part { MatchOption result (text.text_at text.now ≡ None) (λ p. text.text_at text.now ≡ Some (p.bytes.now, p.rest.now)) }
+    ensures part { MatchOption result (plain.text_at text.now ≡ None) (λ p. plain.text_at text.now ≡ Some (p.bytes.now, p.rest.now)) }
     ensures shorter { IfSome result (λ p. length p.rest.now < length text.now) }
 {
     if text.is_empty() || text[0] != b'"' {

@@ -1,7 +1,8 @@
 //! Whether a name is given twice.
-ghost use Rattle.std.specs.Prelude.{◌≡◌, [], IfOk};
+ghost use Rattle.std.specs.Prelude.{◌≡◌, ℕ, List, [], IfOk};
 ghost use Rattle.std.specs.List.{list_any};
 ghost use Rattle.std.specs.Str.{bytes_eq};
+ghost use Rattle.label_set.specs.SetText.{metric_label};
 ghost use Rattle.expo_reader.specs.Forms as spec;
 
 use indexmap::IndexSet;
@@ -49,10 +50,19 @@ fn few_differ(names: &[LentName<'_>]) -> bool
 }
 
 /// Whether a name is among some.
-pub fn has_name(names: &[LentName<'_>], sought: &[u8]) -> bool
+fn has_name(names: &[LentName<'_>], sought: &[u8]) -> bool
     ensures { result ≡ list_any (bytes_eq sought.now) names.now }
 {
     names.iter().any(|name| sought == name.bytes)
+}
+
+/// Whether `__name__` is among some names.
+pub fn has_metric_name(names: &[LentName<'_>]) -> bool
+    ensures { result ≡ list_any (λ (n : List ℕ). bytes_eq n metric_label) names.now }
+{
+    names
+        .iter()
+        .any(|name| name.bytes == b"__name__".as_slice())
 }
 
 fn many_differ(alloc: Global, names: &[LentName<'_>]) -> Result<bool, NoMemory>

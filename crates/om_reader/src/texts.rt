@@ -1,6 +1,7 @@
 //! The texts in quotes.
 ghost use Rattle.std.specs.Prelude.{◌≡◌, ◌++◌, ◌&&◌, ◌==◌, IfOk, OnOk, not, is_some};
 ghost use Rattle.std.specs.List.{list_all};
+ghost use Rattle.std.specs.Str.{is_utf8};
 ghost use Rattle.expo_reader.specs.Texts as spec;
 
 use label_set::NoMemory;
@@ -14,10 +15,20 @@ pub fn is_written(text: &[u8], room: &mut Vec<u8>) -> Result<bool, NoMemory>
         return Ok(true);
     }
     if is_plain(text) {
-        return Ok(str::from_utf8(text).is_ok());
+        return Ok(is_utf8(text));
     }
     resolve(text, room)?;
-    Ok(str::from_utf8(room.as_slice()).is_ok())
+    Ok(is_utf8(room.as_slice()))
+}
+
+/// Whether bytes are UTF-8.
+fn is_utf8(bytes: &[u8]) -> bool
+    ensures { result ≡ is_utf8 bytes.now }
+{
+    match str::from_utf8(bytes) {
+        Ok(_) => true,
+        Err(_) => false,
+    }
 }
 
 /// Whether a text has bytes of ASCII alone, and no backslash.

@@ -1,0 +1,11 @@
+pub mod CompleteLemmas
+pub mod CountLemmas
+pub mod LabelLemmas
+pub mod LawLemmas
+pub mod LineLemmas
+pub mod NumberLemmas
+pub mod PlainLemmas
+pub mod SampleLemmas
+pub mod SoundLemmas
+pub mod TextLemmas
+pub mod WordLemmas
