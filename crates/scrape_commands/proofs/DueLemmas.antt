@@ -310,8 +310,8 @@ module _ (c : Call) where
     found_due fault e (Err _) w s five = absurd (omega (arith, five))
 
   module _ (bytes : List ℕ) (t : IsTold Check bytes c) where
-    not_converted : (b : List ℕ) → Reads Convert b (work_of c) → ⊥
-    not_converted b r = let e = told_command Check bytes t Convert b r in absurd cc
+    conf_not_converted : (b : List ℕ) → Reads Convert b (work_of c) → ⊥
+    conf_not_converted b r = let e = told_command Check bytes t Convert b r in absurd cc
 
     not_replayed : (u : Bool) (b : List ℕ) → Reads (Replay u) b (work_of c) → ⊥
     not_replayed u b r = let e = told_command Check bytes t (Replay u) b r in absurd cc
@@ -322,7 +322,7 @@ module _ (c : Call) where
     -- the output of `check` is that of a configuration without a fault
     told_conf : (n : Command) (b text : List ℕ) (r : Reads n b (work_of c)) → IsOutput n r.kept b text → (fault : ConfFault) → IsFault bytes fault → ⊥
     told_conf (Replay u) b text r o fault h = not_replayed u b r
-    told_conf Convert b text r o fault h = not_converted b r
+    told_conf Convert b text r o fault h = conf_not_converted b r
     told_conf Check b text r o fault h =
         no_fault (loaded [] bytes) o.0 fault (subst (λ (x : List ℕ). IsConf x o.0) (told_bytes Check bytes t Check b r) o.1) h
 
@@ -337,7 +337,7 @@ module _ (c : Call) where
     refused_due fault h n (Err Absent) w = absurd (told_found Check bytes t w.cause)
     refused_due fault h n (Err (Config f)) w = inl refl
     refused_due fault h n (Err (Script f)) w = absurd (not_replayed w.cause.0 _ w.cause.2)
-    refused_due fault h n (Err (OpenMetrics l)) w = absurd (not_converted _ w.cause.1)
+    refused_due fault h n (Err (OpenMetrics l)) w = absurd (conf_not_converted _ w.cause.1)
     refused_due fault h n (Err ReadFault) w = absurd (n w.shelf.counted)
     refused_due fault h n (Err WriteFault) w = absurd (asked_conf _ w.cause.asked_for fault h)
     refused_due fault h n (Err NoMemory) w = inr refl
@@ -349,7 +349,7 @@ module _ (c : Call) where
     checked_due jobs k n (Err Absent) w = absurd (told_found Check bytes t w.cause)
     checked_due jobs k n (Err (Config f)) w = absurd (no_fault (loaded [] bytes) jobs f k (told_fault _ f w.cause.1 w.cause.2))
     checked_due jobs k n (Err (Script f)) w = absurd (not_replayed w.cause.0 _ w.cause.2)
-    checked_due jobs k n (Err (OpenMetrics l)) w = absurd (not_converted _ w.cause.1)
+    checked_due jobs k n (Err (OpenMetrics l)) w = absurd (conf_not_converted _ w.cause.1)
     checked_due jobs k n (Err ReadFault) w = absurd (n.read w.shelf.counted)
     checked_due jobs k n (Err WriteFault) w = absurd (n.written w.cause.put.counted)
     checked_due jobs k n (Err NoMemory) w = inr refl
