@@ -1,6 +1,6 @@
 -- Which status is due of a call that ended.
 use Rattle.std.proofs.Common.{◌≡◌, ◌⊎◌, ℕ, ◌<◌, ◌≤◌, Bool, true, false, List, [], ◌++◌, length, append_assoc, sym, refl, ap, ◌∙◌, inl, inr, arith, subst, Option, None, Some}
-use Rattle.std.specs.Prelude.{Result, Ok, Err, IsSomeAnd, IfSome, IsOkAnd}
+use Rattle.std.specs.Prelude.{Result, Ok, Err, IsSomeAnd, IfSome}
 use Rattle.std.specs.Option.{option_map_or}
 use Rattle.outside.specs.declared.objects.StoredFile.{StoredFile}
 use Rattle.outside.specs.Objects.{file_of, HasFile, LacksFile, HasLongerFile}
@@ -18,7 +18,7 @@ use Rattle.command_words.specs.Askings.{Asking, asking}
 use Rattle.command_words.specs.Words.{OfFile, asked_in, file_in, file_asked, limit_of}
 use Rattle.command_words.specs.declared.words.Asked.{Asked}
 use Rattle.command_words.specs.declared.words.Asked.TheVariants.{File, Synth}
-use Rattle.scrape_commands.specs.Ends.{Call, work_of, Reads, IsOutput, IsOfFile, IsOfScript, IsAskedFor, WorkEnds, Speaks, IsSaid, Ended, line_message, status_at}
+use Rattle.scrape_commands.specs.Ends.{Call, work_of, Reads, IsOutput, IsOfFile, IsAskedFor, WorkEnds, Speaks, IsSaid, Ended, line_message, status_at}
 use Rattle.scrape_commands.specs.Laws.{Complete, IsTold, TellsNone, TellsLonger, IsRead, IsWritten, IsSound, IsUncounted, IsFreely, refused_at}
 use Rattle.command_words.specs.declared.words.Command.{Command}
 use Rattle.command_words.specs.declared.words.Command.TheVariants.{Replay, Check, Convert}

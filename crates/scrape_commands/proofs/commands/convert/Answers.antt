@@ -1,4 +1,3 @@
-use Rattle.scrape_commands.proofs.PrintLemmas.{plain_by, plain_cut_by}
 use Rattle.scrape_commands.proofs.commands.convert.Goals as goal
 
 pub returns-in-Err : goal.returns-in-Err
