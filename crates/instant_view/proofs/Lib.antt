@@ -1,0 +1,4 @@
+pub mod StepLemmas
+pub mod NameLemmas
+pub mod SoundLemmas
+pub mod CompleteLemmas

@@ -1,0 +1,4 @@
+pub mod Grammar
+pub mod Forms
+pub mod Faults
+pub mod Selectors
