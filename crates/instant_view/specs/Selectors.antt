@@ -41,8 +41,11 @@ unfoldable pub selects : SelectorParts → List Pair → Bool
 selects parts set = is_of_name parts.name set && list_all (holds_in set) parts.matchers
 
 -- there is no name, and each matcher holds of the empty text
+abbrev pub holds_of_nothing : Matcher → Bool
+holds_of_nothing m = holds m []
+
 abbrev pub is_bare : SelectorParts → Bool
-is_bare parts = is_none parts.name && list_all (λ (m : Matcher). holds m []) parts.matchers
+is_bare parts = is_none parts.name && list_all holds_of_nothing parts.matchers
 
 -- the matcher has no pattern, or a pattern that is one
 abbrev pub HasPattern : Operator → List ℕ → Type 0

@@ -6,6 +6,8 @@ mod names;
 mod parts;
 mod reading;
 pub mod selector;
+mod tests;
 mod texts;
 
 pub use matchers::{Matcher, MatcherList, Operator, SelectorError, SelectorParts};
+pub use selector::{Selecting, Selector, has_one_reading};
