@@ -2,3 +2,4 @@ pub mod StepLemmas
 pub mod NameLemmas
 pub mod SoundLemmas
 pub mod CompleteLemmas
+pub mod RefusalLemmas

@@ -67,9 +67,16 @@ MayFail Mismatch text = MayBeRefused text
 abbrev pub IsRefused : Matcher → Type 0
 IsRefused m = MayFail m.operator m.value
 
--- why a text gives no selector: it isn't written as one; or it is, and a pattern of it may be refused; or it is bare, with each pattern built
+-- why the parts of a selector give none: a pattern of it may be refused; or it is bare, with each pattern built
+abbrev pub PartsRefused : SelectorError → SelectorParts → Type 0
+PartsRefused Syntax parts = ⊥
+PartsRefused Pattern parts = Any IsRefused parts.matchers
+PartsRefused Bare parts = All IsBuilt parts.matchers × (is_bare parts ≡ true)
+PartsRefused NoMemory parts = Unit {0}
+
+-- why a text gives no selector: it isn't written as one; or it is, and the parts are refused
 abbrev pub Refuses : SelectorError → List ℕ → Type 0
 Refuses Syntax text = (parts : SelectorParts) → ¬ (IsSelector text parts)
-Refuses Pattern text = (parts : SelectorParts) × IsSelector text parts × Any IsRefused parts.matchers
-Refuses Bare text = (parts : SelectorParts) × IsSelector text parts × All IsBuilt parts.matchers × (is_bare parts ≡ true)
+Refuses Pattern text = (parts : SelectorParts) × IsSelector text parts × PartsRefused Pattern parts
+Refuses Bare text = (parts : SelectorParts) × IsSelector text parts × PartsRefused Bare parts
 Refuses NoMemory text = Unit {0}

@@ -1,4 +1,5 @@
 //! What a selector is made of.
+ghost use Rattle.std.specs.Prelude.{◌≡◌};
 
 use label_set::{Name, NoMemory};
 use std::alloc::{AllocError, AllocFailed};
@@ -39,6 +40,15 @@ impl Model for MatcherList {
     ghost Value = { List Matcher };
 
     ghost view = { λ l. l.items.items };
+}
+
+impl MatcherList {
+    /// The matchers.
+    pub fn as_slice(&self) -> &[Matcher]
+        ensures { result.now ≡ self.now }
+    {
+        self.items.as_slice()
+    }
 }
 
 /// A selector as it is written: a metric name, or none, and matchers.

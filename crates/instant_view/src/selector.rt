@@ -4,7 +4,7 @@ ghost use Rattle.std.specs.List.{list_all};
 ghost use Rattle.instant_view.specs.Grammar as grammar;
 ghost use Rattle.instant_view.specs.Selectors as spec;
 
-use crate::matchers::SelectorError;
+use crate::matchers::{SelectorError, SelectorParts};
 use crate::reading::selector_in;
 use crate::tests::{Test, Tester, built, testers};
 use label_set::{LabelSet, Name, NoMemory};
@@ -75,8 +75,23 @@ impl Selector {
         ensures some { IfOk result (λ s. spec.is_bare s ≡ false) }
         ensures refused { IfErr result (λ e. spec.Refuses e text.now) }
     {
-        let parts = selector_in(alloc, text.as_bytes())?;
-        let tests = built(alloc, &parts.matchers.items)?;
+        match selector_in(alloc, text.as_bytes()) {
+            Ok(parts) => Selector::ready(alloc, parts),
+            Err(fault) => Err(fault),
+        }
+    }
+
+    /// Builds the patterns of a selector that was read, and refuses a bare one.
+    fn ready(alloc: Global, parts: SelectorParts) -> Result<Selector, SelectorError>
+        ensures parts { IfOk result (λ s. s ≡ parts) }
+        ensures patterns { IfOk result (λ s. All spec.IsBuilt s.matchers) }
+        ensures some { IfOk result (λ s. spec.is_bare s ≡ false) }
+        ensures refused { IfErr result (λ e. spec.PartsRefused e parts) }
+    {
+        let tests = match built(alloc, parts.matchers.as_slice()) {
+            Ok(tests) => tests,
+            Err(fault) => return Err(fault),
+        };
         let selector = Selector {
             name: parts.name,
             tests,
