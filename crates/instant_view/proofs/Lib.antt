@@ -3,3 +3,4 @@ pub mod NameLemmas
 pub mod SoundLemmas
 pub mod CompleteLemmas
 pub mod RefusalLemmas
+pub mod LinkLemmas

@@ -47,7 +47,7 @@ pub record IsLastBy (entries : List Entry) (t : ℤ) (series : List Pair) (place
 
 -- an entry is seen at a moment t, and this is its row: it is no marker, and its moment is above t - 300000
 pub record IsSeen (t : ℤ) (e : Entry) (row : ViewRow) : Type 0 where
-  pub young : t -ℤ pos 300000 <ℤ e.moment
+  pub young : (t -ℤ pos 300000) <ℤ e.moment
   pub no_marker : marks_end e.kind ≡ false
   pub moment_is : row.moment ≡ e.moment
   pub value_is : e.value ≡ Some row.value

@@ -3,13 +3,12 @@
 use crate::shared::set_of;
 use appender_book::Book;
 use instant_view::{Selector, SelectorError, View, ViewRow};
-use label_set::NoMemory;
-use label_set::sets::LabelError;
+use label_set::{LabelSet, NoMemory};
 use report_samples::{Entry, Kind};
 use std::alloc::Global;
 use std::process::Abort;
 use std::test::Fail;
-use value_text::{ValueError, ValueText};
+use value_text::ValueText;
 
 /// Texts that give no selector, and why.
 const REFUSED: [(&str, SelectorError); 36] = [
@@ -172,6 +171,54 @@ const LATE: [(&str, i64, &str); 21] = [
     ("w", 9_223_372_036_854_775_807, "21 9223372036854775807 w{job=\"j\"} 2\n"),
 ];
 
+fn value_of(
+    rt: &impl Abort,
+    alloc: Global,
+    text: Option<&str>,
+) -> Result<Option<ValueText>, NoMemory> {
+    match text {
+        None => Ok(None),
+        Some(text) => match ValueText::keep(alloc, text.as_bytes()) {
+            Ok(value) => Ok(Some(value)),
+            Err(_) => panic!(rt; "no value"),
+        },
+    }
+}
+
+fn entry_of(kind: Kind, series: LabelSet, moment: i64, value: Option<ValueText>) -> Entry {
+    let life = 0;
+    match (kind, value) {
+        (Kind::Report, Some(value)) => Entry {
+            life,
+            kind: Kind::Report,
+            series,
+            moment,
+            value: Some(value),
+        },
+        (_, Some(value)) => Entry {
+            life,
+            kind: Kind::Scraped,
+            series,
+            moment,
+            value: Some(value),
+        },
+        (Kind::ReportStale, None) => Entry {
+            life,
+            kind: Kind::ReportStale,
+            series,
+            moment,
+            value: None,
+        },
+        (_, None) => Entry {
+            life,
+            kind: Kind::Stale,
+            series,
+            moment,
+            value: None,
+        },
+    }
+}
+
 fn entry(
     rt: &impl Abort,
     alloc: Global,
@@ -180,25 +227,8 @@ fn entry(
     let Ok(series) = set_of(alloc, &[("__name__", row.0), ("job", "j")]) else {
         panic!(rt; "no set");
     };
-    match row.3 {
-        Some(text) => match ValueText::keep(alloc, text.as_bytes()) {
-            Ok(value) => Ok(Entry {
-                life: 0,
-                kind: Kind::Scraped,
-                series,
-                moment: row.1,
-                value: Some(value),
-            }),
-            Err(_) => panic!(rt; "no value"),
-        },
-        None => Ok(Entry {
-            life: 0,
-            kind: Kind::Stale,
-            series,
-            moment: row.1,
-            value: None,
-        }),
-    }
+    let value = value_of(rt, alloc, row.3)?;
+    Ok(entry_of(row.2, series, row.1, value))
 }
 
 /// Adds the text of a row: its place and moment, its series and its value.
