@@ -4,3 +4,4 @@ pub mod SoundLemmas
 pub mod CompleteLemmas
 pub mod RefusalLemmas
 pub mod LinkLemmas
+pub mod TakeLemmas
