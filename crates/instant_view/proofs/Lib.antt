@@ -5,3 +5,5 @@ pub mod CompleteLemmas
 pub mod RefusalLemmas
 pub mod LinkLemmas
 pub mod TakeLemmas
+pub mod PlaceLemmas
+pub mod RowLemmas

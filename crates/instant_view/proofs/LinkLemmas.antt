@@ -6,7 +6,7 @@ use Rattle.std.proofs.lemmas.Option.{same_Some, none-some, slice_get_within}
 use Rattle.label_set.specs.declared.texts.Pair.{Pair}
 use Rattle.instant_view.specs.declared.rows.Placed.{Placed}
 use Rattle.instant_view.specs.declared.links.Link.{Link}
-use Rattle.instant_view.specs.Threads.{AreLinked, IsBackTo, IsEndBy, IsEndOf, IsLastOf, IsLink, Rise, is_later, is_later_one, link_at, no_link, step_back}
+use Rattle.instant_view.specs.Threads.{AreLinked, IsBackTo, IsEndOf, IsLastOf, IsLink, Rise, is_later, is_later_one, link_at, no_link, step_back}
 
 -- an element within a list
 pub some_of : {X : Type 0} (xs : List X) (i : ℕ) → i < length xs → (x : X) × (slice_get xs i ≡ Some x)

@@ -94,11 +94,6 @@ pub record IsBackTo (kept : List Placed) (series : List Pair) (t : ℤ) (end : �
   pub is_end : IsEndOf kept series end
   pub later : (j : ℕ) (q : Placed) → end ≤ j → slice_get kept j ≡ Some q → q.entry.series ≡ series → t <ℤ q.entry.moment
 
--- the end of the last entry of a series whose moment isn't later than t
-pub record IsEndBy (kept : List Placed) (series : List Pair) (t : ℤ) (end : ℕ) : Type 0 where
-  pub back : IsBackTo kept series t end
-  pub by : is_later kept end t ≡ false
-
 -- a row by the kept entries alone
 pub record IsKeptRow (kept : List Placed) (t : ℤ) (row : ViewRow) : Type 0 where
   pub at : ℕ

@@ -1,5 +1,5 @@
 //! Links from each kept entry to earlier ones of its series. An end is one more than a place in the list of kept entries, and 0 where there is none.
-ghost use Rattle.std.specs.Prelude.{◌≡◌, ◌⊎◌, ◌<◌, ◌≤◌, ℕ, List, true, length};
+ghost use Rattle.std.specs.Prelude.{◌≡◌, ◌⊎◌, List, false, length};
 ghost use Rattle.label_set.specs.declared.texts.Pair.{Pair};
 ghost use Rattle.instant_view.specs.Threads as spec;
 
@@ -82,7 +82,8 @@ fn step_back(kept: &[Placed], links: &[Link], end: usize, moment: i64) -> usize
 pub fn end_by(kept: &[Placed], links: &[Link], end: usize, moment: i64) -> usize
     requires rise { spec.Rise kept.now }
     requires linked { spec.AreLinked kept.now links.now }
-    ensures { (series : List Pair) → spec.IsLastOf kept.now series (length kept.now) end → spec.IsEndBy kept.now series moment result }
+    ensures early { spec.is_later kept.now result moment ≡ false }
+    ensures back { (series : List Pair) → spec.IsLastOf kept.now series (length kept.now) end → spec.IsBackTo kept.now series moment result }
 {
     let mut end = end;
     while is_later(kept, end, moment) {

@@ -1,6 +1,6 @@
-use Rattle.std.proofs.Common.{◌≡◌, true, sym, ◌∙◌, subst, ◌<◌, w64, to_z, of_z}
+use Rattle.std.proofs.Common.{◌≡◌, true, false, sym, ◌∙◌, subst, ◌<◌, w64, to_z, of_z}
 use Rattle.std.proofs.lemmas.Int.{to_z-of_z}
-use Rattle.instant_view.specs.Threads.{IsBackTo, IsEndBy, is_later}
+use Rattle.instant_view.specs.Threads.{IsBackTo, is_later}
 use Rattle.instant_view.proofs.LinkLemmas.{from_last, steps_back, steps_fewer}
 use Rattle.instant_view.proofs.links.end_by.Goals as goal
 
@@ -20,7 +20,10 @@ loop-end-smaller c =
     let late : is_later c.args.kept.now c.loop-end.end t ≡ true = sym c.is_later.ensures ∙ c.loop-end-test.true in
     subst (λ n. n < c.loop-end.end) (sym c.step_back-end.ensures) (steps_fewer c.args.kept.now c.args.links.now c.requires.linked c.requires.rise t c.loop-end.end late)
 
-pub returns : goal.returns
-returns c =
-    λ series last. subst (λ t. IsEndBy c.args.kept.now series t c.loop-end.end) (to_z-of_z w64 c.args.moment c.ranges.moment)
-    (record { back = c.loop-end.invariant series last; by = sym c.is_later.ensures ∙ c.loop-end-test.false })
+pub returns-clause-early : goal.returns-clause-early
+returns-clause-early c =
+    subst (λ t. is_later c.args.kept.now c.loop-end.end t ≡ false) (to_z-of_z w64 c.args.moment c.ranges.moment) (sym c.is_later.ensures ∙ c.loop-end-test.false)
+
+pub returns-clause-back : goal.returns-clause-back
+returns-clause-back c =
+    λ series last. subst (λ t. IsBackTo c.args.kept.now series t c.loop-end.end) (to_z-of_z w64 c.args.moment c.ranges.moment) (c.loop-end.invariant series last)
