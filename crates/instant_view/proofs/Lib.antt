@@ -7,3 +7,4 @@ pub mod LinkLemmas
 pub mod TakeLemmas
 pub mod PlaceLemmas
 pub mod RowLemmas
+pub mod ViewLemmas

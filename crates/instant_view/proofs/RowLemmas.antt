@@ -1,12 +1,12 @@
 -- Rows by the kept entries alone.
-use Rattle.std.proofs.Common.{◌≡◌, ◌⊎◌, inl, inr, ℕ, zero, suc, ℤ, pos, ◌+◌, ◌-ℤ◌, ◌<◌, ◌≤◌, ◌<ℤ◌, ◌≤ℤ◌, Bool, true, false, List, [], ◌∷◌, ◌++◌, length, slice_get, Some, None, Option, Result, Ok, Err, IfOk, refl, sym, ap, ◌∙◌, subst, true≢false, arith, unwrap_or, append-nil}
+use Rattle.std.proofs.Common.{◌≡◌, ◌⊎◌, inl, inr, ℕ, zero, suc, ℤ, pos, ◌+◌, ◌-ℤ◌, ◌<◌, ◌≤◌, ◌<ℤ◌, ◌≤ℤ◌, Bool, true, false, List, [], ◌∷◌, ◌++◌, length, slice_get, Some, None, Option, Result, Ok, Err, IfOk, refl, sym, ap, ◌∙◌, subst, true≢false, arith, unwrap_or, append-nil, get_or, option_map}
 use Rattle.std.specs.Prelude.{unsigned_abs, slice_index_or, IfSome}
 use Rattle.std.specs.Ordering.{is_eq}
 use Rattle.std.specs.declared.cmp.Ordering.TheVariants.{Less, Equal}
-use Rattle.std.specs.BTreeMap.{BTreeMap, get}
+use Rattle.std.specs.BTreeMap.{BTreeMap, get, keys}
 use Rattle.std.specs.List.{Contains}
 use Rattle.std.proofs.lemmas.Int.{ints}
-use Rattle.std.proofs.lemmas.Option.{same_Some, none-some, slice_get_within, slice_get_past}
+use Rattle.std.proofs.lemmas.Option.{same_Some, none-some, slice_get_within, slice_get_past, slice_get-map, get_or_from_slice_get}
 use Rattle.std.proofs.lemmas.Map.Views.{IfSome-get}
 use Rattle.label_set.specs.Same.{sets_decide}
 use Rattle.label_set.specs.Sets.{set_cmp, sets_total}
@@ -70,11 +70,11 @@ module _ (kept : List Placed) (t : ℤ) (series : List Pair) where
   -- where it is selected
   module _ (selector : SelectorParts) where
     pub selected_found : (o : Option ViewRow) → selects selector series ≡ true → IsRowOf kept t series o → IsSelectedRow kept selector t series o
-    selected_found None yes h = λ row is s r. h row is r
-    selected_found (Some row) yes h = (h.0, yes, h.1)
+    selected_found None sure h = λ row is s r. h row is r
+    selected_found (Some row) sure h = (h.0, sure, h.1)
 
     pub not_selected : selects selector series ≡ false → IsSelectedRow kept selector t series None
-    not_selected no = λ row is s r. true≢false (sym s ∙ no)
+    not_selected never = λ row is s r. true≢false (sym s ∙ never)
 
 -- a series has one row
 abbrev made : ℕ → List Pair → ℤ → List ℕ → ViewRow
@@ -206,3 +206,34 @@ module _ (kept : List Placed) (selector : SelectorParts) (t : ℤ) (ends : BTree
 
   pub gathered_all : IsGathered kept selector t rows
   gathered_all = record { rising = was.rising; each = λ row is. (let h = was.each row is in (h.0, h.1)); all = in_all }
+
+-- what a call gives, where it gives something
+pub zero_of : (n : ℕ) → ¬ (1 ≤ n) → n ≡ 0
+zero_of zero h = refl
+zero_of (suc n) h = absurd (h (omega arith))
+
+module _ {E : Type 0} (kept : List Placed) (t : ℤ) (series : List Pair) (r : Result (Option ViewRow) E) where
+  pub row_ok : (i : ℕ) (p : Placed) → slice_get kept i ≡ Some p → IsBackTo kept series t (suc i) → p.entry.moment ≤ℤ t → IfOk r (λ o. IsSeenAs t p o) →
+      IfOk r (λ o. IsRowOf kept t series o)
+  row_ok i p at back by = ok r
+    where
+      ok : (q : Result (Option ViewRow) E) → IfOk q (λ o. IsSeenAs t p o) → IfOk q (λ o. IsRowOf kept t series o)
+      ok (Ok o) h = row_found kept t series i p at back by o h
+      ok (Err e) h = tt
+
+  pub selected_ok : (selector : SelectorParts) → selects selector series ≡ true → IfOk r (λ o. IsRowOf kept t series o) → IfOk r (λ o. IsSelectedRow kept selector t series o)
+  selected_ok selector sure = ok r
+    where
+      ok : (q : Result (Option ViewRow) E) → IfOk q (λ o. IsRowOf kept t series o) → IfOk q (λ o. IsSelectedRow kept selector t series o)
+      ok (Ok o) h = selected_found kept t series selector o sure h
+      ok (Err e) h = tt
+
+-- the keys of a map by its entries
+pub keys_below : (m : BTreeMap (List Pair) ℕ) (n : ℕ) (series : List Pair) → ((i : ℕ) (d : List Pair) → i < n → set_cmp (get_or (keys m) i d) series ≡ Less) →
+    (i : ℕ) (s : List Pair) (e : ℕ) → i < n → slice_get m.entries i ≡ Some (s, e) → set_cmp s series ≡ Less
+keys_below m n series h i s e lt at =
+    let key : slice_get (keys m) i ≡ Some s = slice_get-map (λ (p : List Pair × ℕ). p.0) m.entries i ∙ ap (option_map (λ (p : List Pair × ℕ). p.0)) at in
+    subst (λ k. set_cmp k series ≡ Less) (get_or_from_slice_get (keys m) i s s key) (h i s lt)
+
+pub get_there : {X : Type 0} (xs : List X) (k : ℕ) (x : X) → k < length xs → x ≡ get_or xs k x → slice_get xs k ≡ Some x
+get_there xs k x lt e = contains_get xs k x lt (sym e)

@@ -1,6 +1,8 @@
 //! The view of a book, and what a selector sees in it at a moment.
-ghost use Rattle.std.specs.Prelude.{◌≡◌, ◌≤◌, ◌++◌, ◌∷◌, [], List, length, take, IfOk, OnOk, OnErr};
+ghost use Rattle.std.specs.Prelude.{◌≡◌, ◌≤◌, ◌++◌, [], List, length, take, IfOk, OnOk, OnErr};
 ghost use Rattle.report_samples.specs.declared.entries.Entry.{Entry};
+ghost use Rattle.appender_book.specs.Index.{is_kept_one};
+ghost use Rattle.appender_book.specs.Verdicts.{verdict_at};
 ghost use Rattle.instant_view.specs.Threads.{listed_placed};
 ghost use Rattle.instant_view.specs.Views as spec;
 
@@ -49,11 +51,26 @@ fn copied(alloc: Global, entry: &Entry) -> Result<Entry, NoMemory>
     })
 }
 
+/// Whether the entry at a place of a book is kept.
+fn is_kept(book: &Book, place: usize) -> bool
+    ensures { result ≡ is_kept_one (verdict_at book.now.entries place) }
+{
+    match book.verdict(place) {
+        None => false,
+        Some(verdict) => match verdict {
+            Verdict::Kept => true,
+            Verdict::OutOfOrder => false,
+            Verdict::Duplicate => false,
+            Verdict::Same => false,
+        },
+    }
+}
+
 /// The entry at a place of a book, where it is kept.
 fn kept_at(alloc: Global, book: &Book, place: usize) -> Result<Option<Placed>, NoMemory>
     ensures { IfOk result (λ o. listed_placed o ≡ spec.kept_at book.now.entries place) }
 {
-    if book.verdict(place) != Some(Verdict::Kept) {
+    if !is_kept(book, place) {
         return Ok(None);
     }
     let Some(entry) = book.entry(place) else {
