@@ -1,5 +1,5 @@
 -- Names, byte by byte.
-use Rattle.std.proofs.Common.{◌≡◌, ℕ, ◌<◌, true, false, not, ◌&&◌, List, [], ◌∷◌, ◌++◌, length, arith, IsTrue, ◌==◌, slice_index, refl}
+use Rattle.std.proofs.Common.{◌≡◌, ℕ, ◌<◌, true, false, not, ◌&&◌, List, [], ◌∷◌, length, arith, IsTrue, ◌==◌, slice_index, refl}
 use Rattle.std.specs.List.{list_all}
 use Rattle.std.specs.Str.{IsUtf8}
 use Rattle.std.proofs.lemmas.Str.{IsUtf8-from_ascii}
@@ -7,7 +7,7 @@ use Rattle.std.proofs.lemmas.Bool.Decides.{nat_tests}
 use Rattle.std.proofs.lemmas.Grind.{common_steps}
 use Rattle.label_set.specs.Bytes.{is_label_name, is_metric_name, is_name_byte, is_name_start, is_metric_byte, is_metric_start}
 use Rattle.expo_lexer.specs.Tokens.{is_blank}
-use Rattle.expo_reader.proofs.FrontLemmas.{both, Stops}
+use Rattle.expo_reader.proofs.FrontLemmas.{both}
 use Rattle.expo_reader.proofs.NameLemmas.{all-ascii}
 
 name_byte-ascii : (b : ℕ) → is_name_byte b ≡ true → b < 128

@@ -1,6 +1,5 @@
 -- Why a text gives no selector.
 use Rattle.std.proofs.Common.{◌≡◌, ℕ, List, Option, Some, None, Result, Ok, Err, IfOk, IfErr, sym, subst, ◌∙◌}
-use Rattle.instant_view.specs.declared.matchers.Matcher.{Matcher}
 use Rattle.instant_view.specs.declared.matchers.SelectorParts.{SelectorParts}
 use Rattle.instant_view.specs.declared.matchers.SelectorError.{SelectorError}
 use Rattle.instant_view.specs.declared.matchers.SelectorError.TheVariants.{Syntax, Pattern, Bare, NoMemory}

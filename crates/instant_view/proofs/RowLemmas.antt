@@ -1,5 +1,5 @@
 -- Rows by the kept entries alone.
-use Rattle.std.proofs.Common.{◌≡◌, ◌⊎◌, inl, inr, ℕ, zero, suc, ℤ, pos, ◌+◌, ◌-ℤ◌, ◌<◌, ◌≤◌, ◌<ℤ◌, ◌≤ℤ◌, Bool, true, false, List, [], ◌∷◌, ◌++◌, length, slice_get, Some, None, Option, Result, Ok, Err, IfOk, refl, sym, ap, ◌∙◌, subst, true≢false, arith, unwrap_or, append-nil, get_or, option_map}
+use Rattle.std.proofs.Common.{◌≡◌, ◌⊎◌, inl, inr, ℕ, zero, suc, ℤ, pos, ◌-ℤ◌, ◌<◌, ◌≤◌, ◌<ℤ◌, ◌≤ℤ◌, true, false, List, [], ◌∷◌, ◌++◌, length, slice_get, Some, None, Option, Result, Ok, Err, IfOk, refl, sym, ap, ◌∙◌, subst, true≢false, arith, unwrap_or, append-nil, get_or, option_map}
 use Rattle.std.specs.Prelude.{unsigned_abs, slice_index_or, IfSome}
 use Rattle.std.specs.Ordering.{is_eq}
 use Rattle.std.specs.declared.cmp.Ordering.TheVariants.{Less, Equal}
@@ -17,9 +17,9 @@ use Rattle.instant_view.specs.Selectors.{selects}
 use Rattle.instant_view.specs.declared.matchers.SelectorParts.{SelectorParts}
 use Rattle.instant_view.specs.declared.rows.Placed.{Placed}
 use Rattle.instant_view.specs.declared.rows.ViewRow.{ViewRow}
-use Rattle.instant_view.specs.Threads.{AreEnds, IsBackTo, IsEndOf, IsGathered, IsKeptRow, IsLastOf, IsRowOf, IsSeenAs, IsSelectedRow, Rise, end_of, is_later, listed}
+use Rattle.instant_view.specs.Threads.{AreEnds, IsBackTo, IsGathered, IsKeptRow, IsLastOf, IsRowOf, IsSeenAs, IsSelectedRow, Rise, listed}
 use Rattle.instant_view.specs.Views.{AreRising, IsAmong, IsSeen}
-use Rattle.instant_view.proofs.LinkLemmas.{not_later, series_at, three}
+use Rattle.instant_view.proofs.LinkLemmas.{series_at, three}
 
 pub not_both : (a t : ℤ) → t <ℤ a → a ≤ℤ t → ⊥
 not_both a t l m = absurd (omega (arith, ints))

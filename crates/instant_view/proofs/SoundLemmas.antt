@@ -1,5 +1,5 @@
 -- What is read is written as a selector: the parts that are found make up the text.
-use Rattle.std.proofs.Common.{◌≡◌, ℕ, suc, zero, ◌+◌, ◌<◌, Bool, true, false, not, ◌&&◌, List, [], ◌∷◌, ◌++◌, length, take, drop, refl, sym, ap, ap₂, ◌∙◌, arith, ◌==◌, Option, Some, None, subst, slice_index, ⊎_elim, inl, inr, append_assoc, append-nil, option_map, if◌then◌else◌, nat_lt, codes}
+use Rattle.std.proofs.Common.{◌≡◌, ℕ, suc, zero, ◌+◌, true, false, List, [], ◌∷◌, ◌++◌, length, take, drop, refl, sym, ap, ap₂, ◌∙◌, arith, ◌==◌, Option, Some, None, subst, ⊎_elim, inl, inr, append_assoc, append-nil, option_map, nat_lt}
 use Rattle.std.specs.List.{list_all, prefix_len}
 use Rattle.std.proofs.lemmas.List.{take-append-drop}
 use Rattle.std.proofs.lemmas.List.Folds.{list_all-append}
@@ -8,7 +8,7 @@ use Rattle.std.proofs.lemmas.Bool.Decides.{nat_tests}
 use Rattle.label_set.specs.Bytes.{is_label_name, is_metric_name, is_name_byte, is_metric_byte}
 use Rattle.expo_lexer.specs.Tokens.{is_blank}
 use Rattle.expo_reader.specs.Texts.{bare, mark_at, mark_in, text_in, text_value}
-use Rattle.expo_reader.specs.Grammar.{IsBlanks, IsText}
+use Rattle.expo_reader.specs.Grammar.{IsBlanks}
 use Rattle.expo_reader.proofs.QuoteLemmas.{text-sound as text-pieces}
 use Rattle.expo_reader.proofs.RowLemmas.{chosen, mapped, pair}
 use Rattle.expo_reader.proofs.SoundLemmas.{blanks, apart, blanks-are, mark-sound, text-sound}

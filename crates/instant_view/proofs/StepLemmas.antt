@@ -1,12 +1,12 @@
 -- Matchers, one at a time.
-use Rattle.std.proofs.Common.{◌≡◌, ℕ, suc, zero, ◌+◌, ◌<◌, ◌≤◌, List, [], ◌∷◌, ◌++◌, length, refl, sym, ap, ◌∙◌, arith, Option, Some, None, option_map, append_assoc, append-nil}
+use Rattle.std.proofs.Common.{◌≡◌, ℕ, suc, zero, ◌+◌, ◌<◌, List, [], ◌∷◌, ◌++◌, length, refl, sym, ap, ◌∙◌, arith, Option, Some, None, option_map, append_assoc, append-nil}
 use Rattle.expo_reader.specs.Texts.{mark_in, text_in}
 use Rattle.instant_view.specs.declared.matchers.Matcher.{Matcher}
 use Rattle.instant_view.specs.declared.matchers.Operator.{Operator}
 use Rattle.instant_view.specs.declared.matchers.SelectorError.{SelectorError}
 use Rattle.instant_view.specs.declared.matchers.SelectorError.TheVariants.{Syntax, Pattern, Bare, NoMemory}
 use Rattle.instant_view.specs.Faults.{FaultIs}
-use Rattle.instant_view.specs.Forms.{after_matcher, closed_or, compared, label_in, labelled, matcher_and_more, matcher_in, matcher_of, matchers_in, operator_in, valued, with_first}
+use Rattle.instant_view.specs.Forms.{after_matcher, closed_or, compared, label_in, labelled, matcher_and_more, matcher_in, matchers_in, operator_in, valued, with_first}
 
 -- a matcher by its parts
 pub no_label : (bs : List ℕ) → label_in bs ≡ None → matcher_in bs ≡ None

@@ -1,20 +1,18 @@
 -- The kept entries of a book, and what is seen of it by them.
-use Rattle.std.proofs.Common.{◌≡◌, ◌⊎◌, inl, inr, ℕ, zero, suc, ℤ, ◌+◌, ◌<◌, ◌≤◌, ◌<ℤ◌, ◌≤ℤ◌, Bool, true, false, List, [], ◌∷◌, ◌++◌, length, take, drop, slice_get, Some, None, Option, refl, sym, ap, ap₂, ◌∙◌, subst, true≢false, arith, if◌then◌else◌, min, length-take}
+use Rattle.std.proofs.Common.{◌≡◌, ◌⊎◌, inl, inr, ℕ, zero, suc, ℤ, ◌+◌, ◌<◌, ◌≤◌, ◌<ℤ◌, Bool, true, false, List, [], ◌∷◌, ◌++◌, length, take, drop, slice_get, Some, None, Option, refl, sym, ap, ap₂, ◌∙◌, subst, true≢false, arith, if◌then◌else◌, min, length-take}
 use Rattle.std.proofs.lemmas.List.{take-append-drop}
-use Rattle.std.proofs.lemmas.Option.{same_Some, none-some, slice_get_within, slice_get_past}
-use Rattle.label_set.specs.declared.texts.Pair.{Pair}
+use Rattle.std.proofs.lemmas.Option.{same_Some, none-some, slice_get_within}
 use Rattle.report_samples.specs.declared.entries.Entry.{Entry}
 use Rattle.appender_book.specs.Index.{is_kept_one}
 use Rattle.appender_book.specs.Laws.{KeptRise, VerdictsStand}
 use Rattle.appender_book.specs.Verdicts.{verdict_at}
 use Rattle.appender_book.specs.declared.verdicts.Verdict.{Verdict}
 use Rattle.appender_book.specs.declared.verdicts.Verdict.TheVariants.{Kept, OutOfOrder, Duplicate, Same}
-use Rattle.instant_view.specs.Selectors.{selects}
 use Rattle.instant_view.specs.declared.matchers.SelectorParts.{SelectorParts}
 use Rattle.instant_view.specs.declared.rows.Placed.{Placed}
 use Rattle.instant_view.specs.declared.rows.ViewRow.{ViewRow}
 use Rattle.instant_view.specs.Threads.{IsGathered, IsKeptRow, Rise}
-use Rattle.instant_view.specs.Views.{IsAmong, IsInstantView, IsLastBy, IsRow, kept_among, kept_at, placed_at}
+use Rattle.instant_view.specs.Views.{IsInstantView, IsRow, kept_among, kept_at, placed_at}
 use Rattle.instant_view.proofs.LinkLemmas.{three}
 use Rattle.instant_view.proofs.TakeLemmas.{get_front}
 
@@ -106,9 +104,10 @@ module _ (es : List Entry) where
           let h = earlier before in
           (h.0, get_front (kept_among es n) (kept_at es n) h.0 (slice_get_within (kept_among es n) h.0 (record { place = place; entry = e }) h.1) ∙ h.1)
       by earlier (inr (inl here)) =
-          let at : slice_get (kept_at es place) 0 ≡ Some (record { place = place; entry = e }) = at_has place e there kept in
-          (length (kept_among es n) + 0,
-          get_back (kept_among es n) (kept_at es n) 0 ∙ ap (λ m. slice_get (kept_at es m) 0) (sym here) ∙ at)
+          let at : slice_get (kept_at es place) 0 ≡ Some (record { place = place; entry = e }) = at_has place e there kept in (
+            length (kept_among es n) + 0,
+            get_back (kept_among es n) (kept_at es n) 0 ∙ ap (λ m. slice_get (kept_at es m) 0) (sym here) ∙ at,
+          )
       by earlier (inr (inr after)) = absurd (omega arith)
 
   -- they rise
@@ -247,3 +246,7 @@ module _ (es : List Entry) (n : ℕ) where
   pub among_more : kept_among es (n + 1) ≡ kept_among es n ++ kept_at es n
   unfolding kept_among
   among_more = let one : n + 1 ≡ suc n = omega arith in ap (kept_among es) one
+
+pub none_among : (es : List Entry) → [] ≡ kept_among es 0
+unfolding kept_among
+none_among es = refl

@@ -1,5 +1,5 @@
 -- How the parts of a selector are found, from the front.
-use Rattle.std.specs.Prelude.{ℕ, zero, suc, ◌+◌, Bool, List, [], ◌∷◌, length, take, drop, slice_index, Option, Some, None, option_map, option_and_then, if◌then◌else◌, ◌==◌, nat_lt}
+use Rattle.std.specs.Prelude.{ℕ, zero, suc, ◌+◌, List, [], ◌∷◌, length, take, drop, slice_index, Option, Some, None, option_map, if◌then◌else◌, ◌==◌, nat_lt}
 use Rattle.std.specs.List.{list_all, prefix_len}
 use Rattle.label_set.specs.Bytes.{is_label_name, is_metric_name, is_name_byte, is_metric_byte}
 use Rattle.expo_reader.specs.Texts.{bare, mark_at, mark_in, text_in, text_value}

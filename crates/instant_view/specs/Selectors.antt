@@ -1,5 +1,5 @@
 -- What a selector selects, and what is refused as one ("Querying basics" of the Prometheus documentation, instant vector selectors).
-use Rattle.std.specs.Prelude.{◌≡◌, ◌≢◌, ℕ, Bool, true, not, ◌&&◌, List, [], All, Option, Some, None, unwrap_or, is_none, codes}
+use Rattle.std.specs.Prelude.{◌≡◌, ℕ, Bool, true, not, ◌&&◌, List, [], All, Option, unwrap_or, is_none, codes}
 use Rattle.std.specs.List.{list_all, Any}
 use Rattle.std.specs.Option.{option_map_or}
 use Rattle.std.specs.Str.{bytes_eq}

@@ -1,5 +1,5 @@
 -- Matchers with their patterns.
-use Rattle.std.specs.Prelude.{◌≡◌, ℕ, List, Option, Some, None}
+use Rattle.std.specs.Prelude.{ℕ, List, Option, Some, None}
 use Rattle.std.specs.List.{Any}
 use Rattle.pattern_rule.specs.Patterns.{MayBeRefused}
 use Rattle.instant_view.specs.declared.matchers.Matcher.{Matcher}

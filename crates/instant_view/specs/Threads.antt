@@ -1,10 +1,9 @@
 -- How the last entry of a series by a moment is found among kept ones: from the last of all back, by links to earlier ones of the series.
 -- An end is one more than a place in the list of kept entries, and 0 where there is no entry.
-use Rattle.std.specs.Prelude.{◌≡◌, ◌⊎◌, ℕ, zero, suc, ℤ, ◌+◌, ◌<◌, ◌≤◌, ◌<ℤ◌, ◌≤ℤ◌, Bool, true, false, List, [], ◌∷◌, ◌++◌, length, slice_get, Option, Some, None, IsSome, unwrap_or, vec_len, vec_capacity, if◌then◌else◌, int_lt}
+use Rattle.std.specs.Prelude.{◌≡◌, ℕ, zero, suc, ℤ, ◌+◌, ◌<◌, ◌≤◌, ◌<ℤ◌, ◌≤ℤ◌, Bool, true, false, List, [], ◌∷◌, length, slice_get, Option, Some, None, IsSome, unwrap_or, vec_len, vec_capacity, if◌then◌else◌, int_lt}
 use Rattle.std.specs.BTreeMap.{BTreeMap, get}
 use Rattle.label_set.specs.Sets.{set_cmp}
 use Rattle.label_set.specs.declared.texts.Pair.{Pair}
-use Rattle.report_samples.specs.declared.entries.Entry.{Entry}
 use Rattle.instant_view.specs.Selectors.{selects}
 use Rattle.instant_view.specs.declared.matchers.SelectorParts.{SelectorParts}
 use Rattle.instant_view.specs.declared.rows.Placed.{Placed}

@@ -78,7 +78,13 @@ fn push_matcher<'b>(
     let Some(compares) = operator_in(label.rest) else {
         return Err(SelectorError::Syntax);
     };
-    push_valued(alloc, label.bytes, compares.operator, compares.rest, matchers)
+    push_valued(
+        alloc,
+        label.bytes,
+        compares.operator,
+        compares.rest,
+        matchers,
+    )
 }
 
 /// Adds the matchers behind a `{`, and gives what follows the `}` behind them.

@@ -40,11 +40,7 @@ fn all_hold_of_nothing(alloc: Global, tests: &[Test]) -> Result<bool, NoMemory>
 }
 
 /// Whether each of the matchers holds of a set.
-fn all_hold(
-    alloc: Global,
-    testers: &mut [Tester<'_>],
-    set: &LabelSet,
-) -> Result<bool, NoMemory>
+fn all_hold(alloc: Global, testers: &mut [Tester<'_>], set: &LabelSet) -> Result<bool, NoMemory>
     ensures holds { IfOk result (λ b. b ≡ list_all (spec.holds_in set.now) testers.old) }
     ensures same { testers.new ≡ testers.old }
 {

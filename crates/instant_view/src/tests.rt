@@ -138,11 +138,7 @@ impl<'s> Model for Tester<'s> {
 }
 
 /// Whether the pattern of a matcher matches a whole text.
-fn matches(
-    alloc: Global,
-    matching: &mut Option<Matching<'_>>,
-    text: &str,
-) -> Result<bool, NoMemory>
+fn matches(alloc: Global, matching: &mut Option<Matching<'_>>, text: &str) -> Result<bool, NoMemory>
     requires { IsSome matching.old }
     ensures found { IfOk result (λ b. IfSome matching.old (λ p. b ≡ patterns.matches p text.now)) }
     ensures same { matching.new ≡ matching.old }

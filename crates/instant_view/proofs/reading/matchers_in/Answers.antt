@@ -1,11 +1,11 @@
-use Rattle.std.proofs.Common.{◌≡◌, ◌∙◌, ◌<◌, ◌++◌, ◌∷◌, [], List, ℕ, Option, Some, None, Result, Ok, Err, MatchResult, arith, sym, ap, subst, length, ◌+◌, append_assoc}
+use Rattle.std.proofs.Common.{◌≡◌, ◌∙◌, ◌<◌, ◌++◌, ◌∷◌, [], List, ℕ, Option, Some, None, Result, Ok, Err, MatchResult, sym, ap, subst, length, ◌+◌, append_assoc}
 use Rattle.instant_view.specs.declared.matchers.Matcher.{Matcher}
 use Rattle.instant_view.specs.declared.matchers.SelectorError.{SelectorError}
 use Rattle.instant_view.specs.declared.matchers.SelectorError.TheVariants.{Syntax}
 use Rattle.expo_reader.specs.Texts.{mark_in}
 use Rattle.instant_view.specs.Faults.{FaultIs}
 use Rattle.instant_view.specs.Forms.{matchers_in}
-use Rattle.instant_view.proofs.StepLemmas.{matchers-closed, matchers-fault, matchers-last, matchers-open, matchers-more, reaches-start}
+use Rattle.instant_view.proofs.StepLemmas.{matchers-closed, matchers-fault, matchers-last, matchers-open, matchers-more}
 use Rattle.instant_view.proofs.reading.matchers_in.Goals as goal
 
 last : {L : Type 0} (r : Result L SelectorError) (rest_of : L → List ℕ) (old new ys : List Matcher) (rest : List ℕ) (total : Option (List Matcher × List ℕ)) → new ≡ old ++ ys →

@@ -1,4 +1,4 @@
-use Rattle.std.proofs.Common.{◌≤◌, ◌+◌, length}
+use Rattle.std.proofs.Common.{◌+◌, length}
 use Rattle.instant_view.specs.Forms.{matchers_in}
 use Rattle.instant_view.proofs.StepLemmas.{HasAdded}
 use Rattle.instant_view.proofs.reading.matchers_in.Given as goal

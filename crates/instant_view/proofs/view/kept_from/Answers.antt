@@ -1,4 +1,4 @@
-use Rattle.std.proofs.Common.{◌≡◌, ◌∙◌, ◌++◌, List, ap, sym, append_assoc}
+use Rattle.std.proofs.Common.{◌∙◌, ◌++◌, List, ap, sym, append_assoc}
 use Rattle.instant_view.specs.declared.rows.Placed.{Placed}
 use Rattle.instant_view.specs.Views.{kept_among, kept_at}
 use Rattle.instant_view.proofs.ViewLemmas.{among_more}

@@ -1,5 +1,4 @@
 use Rattle.std.proofs.Common.{◌∙◌, ap, sym, subst}
-use Rattle.instant_view.specs.declared.matchers.SelectorError.{SelectorError}
 use Rattle.instant_view.specs.Faults.{FaultIs}
 use Rattle.instant_view.specs.Forms.{selector_in}
 use Rattle.instant_view.proofs.RefusalLemmas.{not-written, refused-of, written-of}

@@ -1,11 +1,10 @@
-use Rattle.std.proofs.Common.{◌≡◌, ◌∙◌, ◌++◌, ◌∷◌, [], ℕ, List, Some, sym, ap, subst, refl, suc, length, slice_get, unwrap_or, Option, w64, to_z, of_z}
+use Rattle.std.proofs.Common.{◌∙◌, ℕ, sym, ap, subst, refl, suc, length, unwrap_or, Option, w64, to_z, of_z}
 use Rattle.std.specs.Map.Iter.{deref_pair}
 use Rattle.std.proofs.lemmas.Int.{to_z-of_z}
 use Rattle.std.proofs.lemmas.Map.Iter.{btree_map_turn, iter_end, iter_turn}
 use Rattle.label_set.specs.Sets.{sets_total}
-use Rattle.label_set.specs.declared.texts.Pair.{Pair}
 use Rattle.appender_book.proofs.SeriesLemmas.{length_more}
-use Rattle.instant_view.specs.Threads.{IsGathered, IsLastOf, IsSelectedRow, listed}
+use Rattle.instant_view.specs.Threads.{IsGathered, IsLastOf, IsSelectedRow}
 use Rattle.instant_view.proofs.RowLemmas.{IsGatheredTo, gathered_all, gathered_more, gathered_none, keys_below}
 use Rattle.instant_view.proofs.threads.Threads.rows.Goals as goal
 

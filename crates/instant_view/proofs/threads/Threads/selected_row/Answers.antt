@@ -1,4 +1,4 @@
-use Rattle.std.proofs.Common.{◌≡◌, ◌∙◌, true, sym, subst, w64, to_z, of_z, IfOk, rules}
+use Rattle.std.proofs.Common.{◌≡◌, true, subst, w64, IfOk, rules}
 use Rattle.std.proofs.lemmas.Int.{to_z-of_z}
 use Rattle.instant_view.specs.Selectors.{selects}
 use Rattle.instant_view.specs.Threads.{IsRowOf}

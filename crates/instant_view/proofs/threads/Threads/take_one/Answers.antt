@@ -1,7 +1,6 @@
-use Rattle.std.proofs.Common.{◌≡◌, ◌⊎◌, ◌∙◌, ◌+◌, List, ap, sym, subst, suc, length, arith, if◌then◌else◌}
+use Rattle.std.proofs.Common.{◌≡◌, ◌⊎◌, ◌∙◌, ◌+◌, ap, subst, suc, length, arith, if◌then◌else◌}
 use Rattle.std.specs.Ordering.{is_eq}
 use Rattle.label_set.specs.Sets.{set_cmp}
-use Rattle.label_set.specs.declared.texts.Pair.{Pair}
 use Rattle.instant_view.specs.Threads.{end_of, twice_back}
 use Rattle.instant_view.proofs.TakeLemmas.{threaded_more}
 use Rattle.instant_view.proofs.threads.Threads.take_one.Goals as goal

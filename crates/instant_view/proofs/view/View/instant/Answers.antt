@@ -1,6 +1,5 @@
-use Rattle.std.proofs.Common.{◌≡◌, ◌∙◌, ◌≤◌, List, ap, sym, subst, length, take, min, length-take, arith, w64, to_z, of_z}
+use Rattle.std.proofs.Common.{◌≡◌, ◌∙◌, ◌≤◌, ap, sym, subst, length, take, min, length-take, arith, w64}
 use Rattle.std.proofs.lemmas.Int.{to_z-of_z}
-use Rattle.instant_view.specs.declared.rows.Placed.{Placed}
 use Rattle.instant_view.specs.Threads.{IsGathered}
 use Rattle.instant_view.specs.Views.{ViewOf, kept_among}
 use Rattle.instant_view.proofs.ViewLemmas.{kept_front, kept_rise, seen_all}
