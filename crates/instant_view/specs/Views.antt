@@ -1,5 +1,5 @@
 -- What a view keeps of a book, and what a selector sees in a book at a moment ("Querying basics" of the Prometheus documentation, staleness).
-use Rattle.std.specs.Prelude.{◌≡◌, ℕ, zero, suc, ℤ, pos, ◌-ℤ◌, ◌<◌, ◌≤◌, ◌<ℤ◌, ◌≤ℤ◌, true, false, List, [], ◌∷◌, ◌++◌, length, slice_get, Option, Some, None, if◌then◌else◌}
+use Rattle.std.specs.Prelude.{◌≡◌, ℕ, zero, suc, ℤ, pos, ◌-ℤ◌, ◌<◌, ◌≤◌, ◌<ℤ◌, ◌≤ℤ◌, true, false, List, [], ◌∷◌, ◌++◌, length, take, slice_get, Option, Some, None, if◌then◌else◌}
 use Rattle.std.specs.declared.cmp.Ordering.TheVariants.{Less}
 use Rattle.label_set.specs.Sets.{set_cmp}
 use Rattle.label_set.specs.declared.texts.Pair.{Pair}
@@ -69,3 +69,7 @@ pub record IsInstantView (entries : List Entry) (selector : SelectorParts) (t : 
   pub rising : AreRising rows
   pub each : (row : ViewRow) → IsAmong rows row → (selects selector row.series ≡ true) × IsRow entries t row
   pub all : (row : ViewRow) → selects selector row.series ≡ true → IsRow entries t row → IsAmong rows row
+
+-- the rows are what a selector sees at a moment in each book that a view stands for, among the entries that the view has gone over
+abbrev pub IsViewOf : ViewOf → SelectorParts → ℤ → List ViewRow → Type 0
+IsViewOf view selector t rows = (entries : List Entry) → StandsFor view entries → IsInstantView (take view.count entries) selector t rows

@@ -166,7 +166,7 @@ impl Threads {
         moment: i64,
     ) -> Result<Option<ViewRow>, NoMemory>
         requires { spec.IsThreaded self.now }
-        ensures { (series : List Pair) → spec.IsLastOf self.now.kept.items series (length self.now.kept.items) end → IfOk result (λ o. spec.IsRowOf self.now.kept.items moment series o) }
+        ensures { let kept = self.now.kept.items in (s : List Pair) → spec.IsLastOf kept s (length kept) end → IfOk result (λ o. spec.IsRowOf kept moment s o) }
     {
         let end = end_by(&self.kept, &self.links, end, moment);
         let Some(place) = end.checked_sub(1) else {

@@ -141,7 +141,7 @@ impl View {
         selector: &Selector,
         moment: i64,
     ) -> Result<ViewRows, NoMemory>
-        ensures rows { IfOk result (λ rows. (entries : List Entry) → spec.StandsFor self.old entries → spec.IsInstantView (take self.old.count entries) selector.now moment rows) }
+        ensures rows { IfOk result (λ rows. spec.IsViewOf self.old selector.now moment rows) }
         ensures same { self.new ≡ self.old }
     {
         let mut selecting = selector.selecting(alloc)?;
