@@ -28,6 +28,9 @@
 //! | `Book::seeded` | `books::a_book_judges_its_entries` |
 //! | `Book::hasher`, `LifeState::hash_of` | `scrapes::texts_are_hashed_with_the_seed_of_the_book` |
 //! | `laws_of_verdicts` | contract alone |
+//! | `Selector::{read, selects}` | `instants::selectors_are_read_and_select` |
+//! | `View::{new, follow, instant}` | `instants::a_view_follows_a_book_and_is_asked` |
+//! | `has_one_reading` of selectors | contract alone |
 //! | `LifeState::{new, count, target, scraped}` | `scrapes`; `scripts`, `texts` |
 //! | `ReadReply::{of, with, into_reply}`, `LifeState::read` | `scrapes::a_reply_that_is_read_is_given_back`, `cores::readers` |
 //! | `LifeState::{force, force_entries, closing, release}` | `scrapes::a_life_is_counted_forced_and_let_go`; `limits` |
@@ -43,6 +46,8 @@ mod caches;
 mod conflicts;
 #[cfg(test)]
 mod endings;
+#[cfg(test)]
+mod instants;
 #[cfg(test)]
 mod replies;
 #[cfg(test)]
