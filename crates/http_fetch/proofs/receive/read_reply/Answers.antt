@@ -1,5 +1,5 @@
 use Rattle.std.proofs.Common.{ℕ, Ok, ap, arith, length, ◌≡◌, ◌++◌}
-use Rattle.http_fetch.proofs.LimitLemmas.{http-limits}
+use Rattle.http_fetch.proofs.ReplyLemmas.{http-limits}
 use Rattle.http_fetch.proofs.ReceiveLemmas.{of-room, none-of-room, len-of-room, read-none, read-more, reply-end, reply-done, reply-last}
 use Rattle.http_fetch.proofs.receive.read_reply.Goals as goal
 
