@@ -12,6 +12,8 @@
 //! | `BodyReader::{new, feed, finish}` | `bodies::where_a_body_is_cut_makes_no_difference` |
 //! | `Unread`, `BodyCause` | `bodies::bytes_that_are_not_read_are_handed_back` |
 //! | `reads_the_format`, `has_one_reading`, `raw_texts_tell` | contract alone |
+//! | `convert`, `OmError` | `openmetrics` |
+//! | `om_reader::{reads_the_format, has_one_reading, keeps_rows}` | contract alone |
 //! | `Pattern::{build, as_str, full_match, expand, filling, matching}` | `patterns` |
 //! | `Matching::{full_match, expand, fill, fill_both}` | `patterns` |
 //! | `read_or_refused` | contract alone |
