@@ -19,16 +19,24 @@ only-at : (d : Decoder) (r : Reply) → final d.stage d.om d.limit d.body.items 
 only-at d r e limit b st s h = one-reply limit b s r h (reply-at d r e limit b st)
 
 pub returns-in-Whole-clause-reply : goal.returns-in-Whole-clause-reply
-returns-in-Whole-clause-reply c = ?
+returns-in-Whole-clause-reply c =
+    IfOk-weaker c.rendered.result _ _
+    (λ r e. reply-at c.args.self r (ap (λ (s : Stage). final s c.args.self.om c.args.self.limit c.args.self.body.items) c.in-Whole.is ∙ sym e)) c.rendered.ensures
 
 pub returns-in-Whole-clause-only : goal.returns-in-Whole-clause-only
-returns-in-Whole-clause-only c = ?
+returns-in-Whole-clause-only c =
+    IfOk-weaker c.rendered.result _ _
+    (λ r e. only-at c.args.self r (ap (λ (s : Stage). final s c.args.self.om c.args.self.limit c.args.self.body.items) c.in-Whole.is ∙ sym e)) c.rendered.ensures
 
 pub returns-in-Open-clause-reply : goal.returns-in-Open-clause-reply
-returns-in-Open-clause-reply c = ?
+returns-in-Open-clause-reply c =
+    IfOk-weaker c.rendered-in-Open.result _ _
+    (λ r e. reply-at c.args.self r (ap (λ (s : Stage). final s c.args.self.om c.args.self.limit c.args.self.body.items) c.in-Open.is ∙ sym e)) c.rendered-in-Open.ensures
 
 pub returns-in-Open-clause-only : goal.returns-in-Open-clause-only
-returns-in-Open-clause-only c = ?
+returns-in-Open-clause-only c =
+    IfOk-weaker c.rendered-in-Open.result _ _
+    (λ r e. only-at c.args.self r (ap (λ (s : Stage). final s c.args.self.om c.args.self.limit c.args.self.body.items) c.in-Open.is ∙ sym e)) c.rendered-in-Open.ensures
 
 pub returns-in-Over-clause-reply : goal.returns-in-Over-clause-reply
 returns-in-Over-clause-reply c = reply-at c.args.self _ (ap (λ (s : Stage). final s c.args.self.om c.args.self.limit c.args.self.body.items) c.in-Over.is)

@@ -37,3 +37,25 @@ returns-clause-held c = λ e limit b st.
     let on = stands-for-on c.args.self.now limit c.in_ok-next.next.stage c.advance.new.body.items c.advance.new.pending.items b c.args.piece.now st c.in_ok-next.ensures.leads c.in_ok-next.ensures.waits in
     let fits : Fits c.args.self.now.stage c.args.self.now.limit c.args.self.now.body.items = subst (λ n. Fits c.args.self.now.stage n c.args.self.now.body.items) (sym st.limit_is) st.stands.leads in
     (got-fits c.in_ok-next.next.stage limit c.advance.new.body.items (sym c.if-is_done-2.ensures) on.leads, c.in_ok-next.ensures.short fits (sym c.if-is_done-2.ensures))
+
+pub returns-then-is_done-2-clause-stands : goal.returns-then-is_done-2-clause-stands
+returns-then-is_done-2-clause-stands c = λ limit b st.
+    let fits : Fits c.args.self.now.stage c.args.self.now.limit c.args.self.now.body.items = subst (λ n. Fits c.args.self.now.stage n c.args.self.now.body.items) (sym st.limit_is) st.stands.leads in
+    record {
+      limit_is = st.limit_is;
+      stands = stands-for-on c.args.self.now limit c.in_ok-next.next.stage c.advance.new.body.items c.advance.new.pending.items b c.args.piece.now st c.in_ok-next.ensures.leads c.in_ok-next.ensures.waits;
+      short = c.in_ok-next.ensures.short fits;
+      kind = c.in_ok-next.ensures.kind (b ++ c.args.piece.now)
+          (tells-more c.args.self.now.stage c.args.self.now.om 8 b c.args.self.now.pending.items c.args.piece.now st.kind);
+    }
+
+pub returns-clause-stands : goal.returns-clause-stands
+returns-clause-stands c = λ limit b st.
+    let fits : Fits c.args.self.now.stage c.args.self.now.limit c.args.self.now.body.items = subst (λ n. Fits c.args.self.now.stage n c.args.self.now.body.items) (sym st.limit_is) st.stands.leads in
+    record {
+      limit_is = st.limit_is;
+      stands = stands-for-on c.args.self.now limit c.in_ok-next.next.stage c.advance.new.body.items c.advance.new.pending.items b c.args.piece.now st c.in_ok-next.ensures.leads c.in_ok-next.ensures.waits;
+      short = c.in_ok-next.ensures.short fits;
+      kind = c.in_ok-next.ensures.kind (b ++ c.args.piece.now)
+          (tells-more c.args.self.now.stage c.args.self.now.om 8 b c.args.self.now.pending.items c.args.piece.now st.kind);
+    }
