@@ -113,9 +113,9 @@ becomes-less limit b more Unsent r w x = x
 
 pub http-settled : (limit : ℕ) (b : List ℕ) → CameSettled b limit → IsSettled b limit
 http-settled limit b h = λ more r. (
-      λ x. (x.0, (h more x.0).0 x.1, becomes-more limit b more x.0 r x.2),
-      λ x. (let came = (h more x.0).1 x.1 in (x.0, came, becomes-less limit b more x.0 r came x.2)),
-    )
+  λ x. (x.0, (h more x.0).0 x.1, becomes-more limit b more x.0 r x.2),
+  λ x. (let came = (h more x.0).1 x.1 in (x.0, came, becomes-less limit b more x.0 r came x.2)),
+)
 
 -- the reply where the link ends at a place
 abbrev pub final : Stage → Bool → ℕ → List ℕ → Reply

@@ -29,7 +29,7 @@ loop-rest-preserved c =
     let used = c.in-Some.step.used in
     record {
       leads = λ fits. (let l = c.loop-rest.invariant.leads fits in
-          rw c.behind-rest-else-is_body.ensures (leads-trans l (c.in-Some.ensures.leads c.loop-rest.body.items (sym c.count_of-got.ensures) l.fits)));
+          rw c.behind-rest-else-is_body.ensures (leads-trans l (c.in-Some.ensures.leads.leads c.loop-rest.body.items (sym c.count_of-got.ensures) l.fits)));
       kind = λ b t. rw (c.om_behind-om.ensures, c.behind-rest-else-is_body.ensures)
           (tells-frame c.loop-rest.stage c.loop-rest.om 8 b rest c.in-Some.step (sym c.if-is_done.ensures) c.in-Some.ensures.kind (c.loop-rest.invariant.kind b t));
       room =
