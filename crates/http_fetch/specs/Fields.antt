@@ -87,7 +87,7 @@ abbrev pub is_first_openmetrics : List (List ℕ) → Bool
 is_first_openmetrics [] = false
 is_first_openmetrics (v ∷ vs) = is_named_openmetrics v
 
--- the body is of OpenMetrics, by the first Content-Type
+-- the body is of OpenMetrics, by the first Content-Type (OpenMetrics 1.0, "Protocol Negotiation")
 unfoldable pub is_openmetrics : List (List ℕ × List ℕ) → Bool
 is_openmetrics fields = is_first_openmetrics (values content_type fields)
 

@@ -1,4 +1,4 @@
--- Whether a body is of OpenMetrics, as the decoder knows it from the head on.
+-- Whether a body is of OpenMetrics, as the decoder knows it from its head on (RFC 9110, section 8.3, "Content-Type").
 use Rattle.std.specs.Prelude.{◌≡◌, ℕ, Bool, true, false, List, ◌++◌, drop, Option, Some, None}
 use Rattle.httparse.specs.Grammar.{ResponseHead}
 use Rattle.http_fetch.specs.declared.stages.Stage.{Stage}
