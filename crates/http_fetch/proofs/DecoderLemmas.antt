@@ -9,37 +9,41 @@ use Rattle.outside.specs.declared.replies.Reply.TheVariants.{Body, Lost, Garbled
 use Rattle.http_fetch.specs.declared.decoder.Decoder.{Decoder}
 use Rattle.http_fetch.specs.declared.stages.Stage.{Stage}
 use Rattle.http_fetch.specs.declared.stages.Stage.TheVariants.{Heads, Length, Line, Data, Trailer, Open, Whole, Over, Never}
-use Rattle.http_fetch.specs.Replies.{Http, IsWhole, IsEnded, WholeAfter, Interims, Reaches, IsBody, framing_of}
+use Rattle.http_fetch.specs.Replies.{Came, IsWhole, IsEnded, WholeAfter, Interims, Reaches, IsBody, framing_of}
 use Rattle.http_fetch.specs.Chunks.{IsChunked, Parts, ChunkAt, Trailers, LineAt}
 use Rattle.http_fetch.specs.Stages.{Same, Leads, Stands, Waits, Fits}
 use Rattle.http_fetch.specs.Steps.{is_done}
 use Rattle.http_fetch.specs.Reading.{NoHead, NoLine}
-use Rattle.http_fetch.specs.Decoders.{StandsFor, IsSettled, MustEnd}
+use Rattle.http_fetch.specs.Decoders.{StandsFor, MustEnd}
 use Rattle.http_fetch.proofs.FrontLemmas.{head-append, line-append}
 use Rattle.http_fetch.proofs.PlaceLemmas.{same-refl, same-trans, done-same, Says, SaysOver, here, whole-said, over-said}
 
 -- ---- what may follow
 
-http-same : (limit : ℕ) (b d : List ℕ) → Same limit (Heads 8) [] b (Heads 8) [] d → (r : Reply) → Http b limit r ↔ Http d limit r
-http-same limit b d x (Body s c) = (x.whole s c, x.whole_back s c)
-http-same limit b d x Oversize = (x.over, x.over_back)
-http-same limit b d x Lost = (λ h. h, λ h. h)
-http-same limit b d x Unsent = (λ h. h, λ h. h)
-http-same limit b d x Garbled = (λ h. (λ s c w. h.0 s c (x.whole_back s c w), λ w. h.1 (x.over_back w)), λ h. (λ s c w. h.0 s c (x.whole s c w), λ w. h.1 (x.over w)))
+came-same : (limit : ℕ) (b d : List ℕ) → Same limit (Heads 8) [] b (Heads 8) [] d → (r : Reply) → Came b limit r ↔ Came d limit r
+came-same limit b d x (Body s c) = (x.whole s c, x.whole_back s c)
+came-same limit b d x Oversize = (x.over, x.over_back)
+came-same limit b d x Lost = (λ h. h, λ h. h)
+came-same limit b d x Unsent = (λ h. h, λ h. h)
+came-same limit b d x Garbled = (λ h. (λ s c w. h.0 s c (x.whole_back s c w), λ w. h.1 (x.over_back w)), λ h. (λ s c w. h.0 s c (x.whole s c w), λ w. h.1 (x.over w)))
 
 same-sym : {limit : ℕ} {a b : Stage} {ga ta gb tb : List ℕ} → Same limit a ga ta b gb tb → Same limit b gb tb a ga ta
 same-sym x = record { whole = x.whole_back; whole_back = x.whole; over = x.over_back; over_back = x.over }
 
-pub settled : (limit : ℕ) (stage : Stage) (got pending b : List ℕ) → Stands limit stage got pending b → is_done stage ≡ true → IsSettled b limit
+-- each continuation leaves what came as it is
+abbrev pub CameSettled : List ℕ → ℕ → Type 0
+CameSettled b limit = (more : List ℕ) (r : Reply) → Came b limit r ↔ Came (b ++ more) limit r
+
+pub settled : (limit : ℕ) (stage : Stage) (got pending b : List ℕ) → Stands limit stage got pending b → is_done stage ≡ true → CameSettled b limit
 settled limit stage got pending b st done more r =
-    http-same limit b (b ++ more) (same-trans (here limit stage got pending b st) (same-trans (done-same stage limit got pending (pending ++ more) done) (same-sym (st.same more)))) r
+    came-same limit b (b ++ more) (same-trans (here limit stage got pending b st) (same-trans (done-same stage limit got pending (pending ++ more) done) (same-sym (st.same more)))) r
 
 -- a whole reply stays one, whatever follows
 interims-append : (more : List ℕ) (hs : List ResponseHead) (text mid : List ℕ) → Interims hs text mid → Interims hs (text ++ more) (mid ++ more)
 interims-append more [] text mid w = ap (λ (t : List ℕ). t ++ more) w
 interims-append more (h ∷ hs) text mid w = (w.0 ++ more, head-append more w.1, w.2, interims-append more hs w.0 mid w.3)
 
-reaches-append : {n : ℕ} {text rest : List ℕ} {h : ResponseHead} (more : List ℕ) → Reaches n text h rest → Reaches n (text ++ more) h (rest ++ more)
+pub reaches-append : {n : ℕ} {text rest : List ℕ} {h : ResponseHead} (more : List ℕ) → Reaches n text h rest → Reaches n (text ++ more) h (rest ++ more)
 reaches-append {n} {text} {rest} {h} more w = record {
   interims = w.interims;
   few = w.few;

@@ -1,12 +1,12 @@
 -- What the fields say, value by value.
-use Rattle.std.proofs.Common.{◌≡◌, ℕ, ◌+◌, ◌-◌, ◌*◌, ◌^◌, ◌<◌, ◌≤◌, Bool, true, false, ◌&&◌, List, [], ◌∷◌, length, drop, get_or, drop-cons, add-one, refl, sym, ap, ◌∙◌, subst, arith, Option, Some, None, if◌then◌else◌, nat_lt, codes, le_trans}
+use Rattle.std.proofs.Common.{◌≡◌, ℕ, ◌+◌, ◌-◌, ◌*◌, ◌^◌, ◌<◌, ◌≤◌, Bool, true, false, ◌&&◌, List, [], ◌∷◌, length, drop, map, get_or, drop-cons, add-one, refl, sym, ap, ◌∙◌, subst, arith, Option, Some, None, if◌then◌else◌, nat_lt, codes, le_trans}
 use Rattle.std.specs.List.{list_all}
 use Rattle.std.specs.Char.{is_ascii_digit, digit_value}
 use Rattle.std.specs.Str.Parse.{digits_value, digits_value_after}
 use Rattle.std.proofs.lemmas.Bool.Decides.{nat_tests}
 use Rattle.http_fetch.specs.declared.fields.Framing.TheVariants.{Refused, Length, ToEnd}
 use Rattle.http_fetch.specs.declared.fields.Coding.TheVariants.{Absent, Chunked, Other}
-use Rattle.http_fetch.specs.Fields.{same_word, coding, coding_with, coding_after, number, is_numeral, is_same_number, agreed, by_length, length_after, first_length, number_with}
+use Rattle.http_fetch.specs.Fields.{is_first_openmetrics, is_named, is_named_openmetrics, values, same_word, coding, coding_with, coding_after, number, is_numeral, is_same_number, agreed, by_length, length_after, first_length, number_with}
 
 -- ---- codings
 
@@ -112,3 +112,15 @@ too-big text i n h value none all =
 
 pub digit-value : (d : ℕ) → is_ascii_digit d ≡ true → digit_value d ≡ d - 48
 digit-value d e = grind (arith, nat_tests, e)
+
+-- ---- the first of a name
+
+module _ {A : Type 0} (name : List ℕ) (f : A → List ℕ × List ℕ) (xs : List A) (i : ℕ) (d : A) (h : i < length xs) where
+  there : map f (drop i xs) ≡ f (get_or xs i d) ∷ map f (drop (i + 1) xs)
+  there = rw (add-one, drop-cons xs i d) refl
+
+  pub named-here : is_named name (f (get_or xs i d)) ≡ true → is_first_openmetrics (values name (map f (drop i xs))) ≡ is_named_openmetrics (f (get_or xs i d)).1
+  named-here e = ap (λ fs. is_first_openmetrics (values name fs)) there ∙ rw e refl
+
+  pub named-other : is_named name (f (get_or xs i d)) ≡ false → values name (map f (drop i xs)) ≡ values name (map f (drop (i + 1) xs))
+  named-other e = ap (values name) there ∙ rw e refl

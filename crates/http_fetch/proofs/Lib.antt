@@ -14,3 +14,5 @@ pub mod SendLemmas
 pub mod RequestLemmas
 pub mod LimitLemmas
 pub mod ReceiveLemmas
+pub mod KindLemmas
+pub mod ReplyLemmas

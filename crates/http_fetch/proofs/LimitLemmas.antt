@@ -8,7 +8,7 @@ use Rattle.outside.specs.declared.replies.Reply.{Reply}
 use Rattle.outside.specs.declared.replies.Reply.TheVariants.{Body, Lost, Garbled, Unsent, Oversize}
 use Rattle.outside.specs.Fetches.{IsReplyInLimits}
 use Rattle.outside.specs.Sizes.{most_body_bytes}
-use Rattle.http_fetch.specs.Replies.{HeadAt, IsWhole, Http}
+use Rattle.http_fetch.specs.Replies.{HeadAt, IsWhole, Came}
 
 digits-test : IsDigitsTest (AllPass is_ascii_digit)
 digits-test = record {
@@ -32,9 +32,9 @@ body-limits b limit s c small w =
     (omega (arith, code, final), omega (arith, code, below), short)
 
 -- what is said of the bytes of a link keeps its limits
-pub http-limits : (b : List ℕ) (limit : ℕ) (r : Reply) → limit ≤ most_body_bytes → Http b limit r → IsReplyInLimits r
-http-limits b limit (Body s c) small h = body-limits b limit s c small h
-http-limits b limit Lost small h = tt
-http-limits b limit Garbled small h = tt
-http-limits b limit Unsent small h = tt
-http-limits b limit Oversize small h = tt
+pub came-limits : (b : List ℕ) (limit : ℕ) (r : Reply) → limit ≤ most_body_bytes → Came b limit r → IsReplyInLimits r
+came-limits b limit (Body s c) small h = body-limits b limit s c small h
+came-limits b limit Lost small h = tt
+came-limits b limit Garbled small h = tt
+came-limits b limit Unsent small h = tt
+came-limits b limit Oversize small h = tt

@@ -4,7 +4,7 @@ use Rattle.outside.specs.declared.replies.Reply.{Reply}
 use Rattle.outside.specs.declared.replies.Reply.TheVariants.{Body, Lost, Garbled, Unsent, Oversize}
 use Rattle.http_fetch.specs.declared.stages.Stage.{Stage}
 use Rattle.http_fetch.specs.declared.stages.Stage.TheVariants.{Heads, Length, Line, Data, Trailer, Open, Whole, Over, Never}
-use Rattle.http_fetch.specs.Replies.{Http, IsWhole, IsOver, HasFront}
+use Rattle.http_fetch.specs.Replies.{Came, IsWhole, IsOver, HasFront}
 use Rattle.http_fetch.specs.Stages.{Same, Leads, Stands, Waits, WholeFrom, OverFrom, Fits}
 use Rattle.http_fetch.specs.Expected.{MoreData, ExceedsData}
 use Rattle.http_fetch.specs.Steps.{is_done}
@@ -125,7 +125,7 @@ answer (Whole code) got = Body code got
 answer Over got = Oversize
 answer Never got = Garbled
 
-pub http-answer : (limit : ℕ) (stage : Stage) (got pending b : List ℕ) → Stands limit stage got pending b → Http b limit (answer stage got)
+pub http-answer : (limit : ℕ) (stage : Stage) (got pending b : List ℕ) → Stands limit stage got pending b → Came b limit (answer stage got)
 http-answer limit (Heads left) got pending b st = (λ s c w. (whole-said limit (Heads left) got pending b st s c w).0, λ w. over-said limit (Heads left) got pending b st w)
 http-answer limit (Length left) got pending b st = (λ s c w. (whole-said limit (Length left) got pending b st s c w).0, λ w. over-said limit (Length left) got pending b st w)
 http-answer limit Line got pending b st = (λ s c w. (whole-said limit Line got pending b st s c w).0, λ w. over-said limit Line got pending b st w)
@@ -159,7 +159,7 @@ long-said (Whole code) got x = absurd x
 long-said Over got x = refl
 long-said Never got x = absurd x
 
-none-said : (limit : ℕ) (b : List ℕ) (stage : Stage) (got : List ℕ) → Http b limit (answer stage got) → Http b limit Garbled → Garbled ≡ answer stage got
+none-said : (limit : ℕ) (b : List ℕ) (stage : Stage) (got : List ℕ) → Came b limit (answer stage got) → Came b limit Garbled → Garbled ≡ answer stage got
 none-said limit b (Heads left) got a h = refl
 none-said limit b (Length left) got a h = refl
 none-said limit b Line got a h = refl
@@ -170,7 +170,7 @@ none-said limit b (Whole code) got a h = absurd (h.0 code got a)
 none-said limit b Over got a h = absurd (h.1 a)
 none-said limit b Never got a h = refl
 
-pub only-answer : (limit : ℕ) (stage : Stage) (got pending b : List ℕ) → Stands limit stage got pending b → (r : Reply) → Http b limit r → r ≡ answer stage got
+pub only-answer : (limit : ℕ) (stage : Stage) (got pending b : List ℕ) → Stands limit stage got pending b → (r : Reply) → Came b limit r → r ≡ answer stage got
 only-answer limit stage got pending b st (Body s c) h = (let w = whole-said limit stage got pending b st s c h in body-said stage got s c w.0 w.1)
 only-answer limit stage got pending b st Garbled h = none-said limit b stage got (http-answer limit stage got pending b st) h
 only-answer limit stage got pending b st Oversize h = long-said stage got (over-said limit stage got pending b st h)

@@ -13,6 +13,7 @@ use Rattle.http_fetch.specs.Replies.{Http}
 use Rattle.http_fetch.specs.Decoders.{StandsFor, MustEnd, IsSettled}
 use Rattle.http_fetch.specs.Links.{HasRead, IsReplyOf, RepliesTo}
 use Rattle.http_fetch.proofs.DecoderLemmas.{must-not-end, stands-new}
+use Rattle.http_fetch.proofs.ReplyLemmas.{no-lost, no-unsent}
 use Rattle.http_fetch.proofs.SizeLemmas.{no-later}
 
 gives-none : (o : Option (List ℕ)) → Gives [] o o
@@ -73,9 +74,9 @@ gave-faults m e bytes gave = ap (λ (t : LinkSeen). t.faults) gave.rest
 -- a reply that the bytes have is no other than theirs
 of-bytes : (limit : ℕ) (b : List ℕ) (r : Reply) (a e : LinkSeen) → Http b limit r → RepliesTo limit r (used a e) → IsReplyOf limit r (used a e)
 of-bytes limit b (Body s c) a e h x = x
-of-bytes limit b Lost a e h x = absurd h
+of-bytes limit b Lost a e h x = absurd (no-lost limit b h)
 of-bytes limit b Garbled a e h x = x
-of-bytes limit b Unsent a e h x = absurd h
+of-bytes limit b Unsent a e h x = absurd (no-unsent limit b h)
 of-bytes limit b Oversize a e h x = x
 
 -- the link's end, where nothing is left

@@ -258,4 +258,4 @@ module _ (limit : ℕ) (b more : List ℕ) (small : limit ≤ 2 ^ 26) (long : 2 
       record { head = w.head; rest = a.0; reaches = a.2; over = (w.over.0, long-left (framing_of w.head) a.0 more limit (subst (λ t. Exceeds (framing_of w.head) t limit) a.1 w.over.1) far) }
 
   pub no-later : (MustEnd b limit → ⊥) → Http (b ++ more) limit Garbled
-  no-later going = (λ s c w. going (inl (s, c, whole-left s c w)), λ w. going (inr (over-left w)))
+  no-later going = (Garbled, (λ s c w. going (inl (s, c, whole-left s c w)), λ w. going (inr (over-left w))), refl)

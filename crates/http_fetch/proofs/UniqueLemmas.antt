@@ -6,7 +6,7 @@ use Rattle.http_fetch.specs.declared.fields.Framing.{Framing}
 use Rattle.http_fetch.specs.declared.fields.Framing.TheVariants as framings
 use Rattle.outside.specs.declared.replies.Reply.{Reply}
 use Rattle.outside.specs.declared.replies.Reply.TheVariants.{Body, Lost, Garbled, Unsent, Oversize}
-use Rattle.http_fetch.specs.Replies.{HeadAt, Interims, Reaches, IsBody, Exceeds, framing_of, WholeAfter, OverAfter, IsWhole, IsOver, Http}
+use Rattle.http_fetch.specs.Replies.{HeadAt, Interims, Reaches, IsBody, Exceeds, framing_of, WholeAfter, OverAfter, IsWhole, IsOver, Came}
 use Rattle.http_fetch.specs.Chunks.{LineAt, ChunkAt, Parts, joined}
 use Rattle.http_fetch.proofs.FrontLemmas.{fronts, head-unique, line-unique}
 
@@ -36,7 +36,7 @@ interims-unique {h} {k} {r} {q} {mid} {end} (i ∷ hs) (j ∷ ks) text a at f b 
     let same = head-unique a.1 b.1 in
     interims-unique hs ks b.0 (subst (λ t. Interims hs t mid) same.1 a.3) at f b.3 there g
 
-reaches-unique : {n : ℕ} {text r q : List ℕ} {h k : ResponseHead} → Reaches n text h r → Reaches n text k q → (h ≡ k) × (r ≡ q)
+pub reaches-unique : {n : ℕ} {text r q : List ℕ} {h k : ResponseHead} → Reaches n text h r → Reaches n text k q → (h ≡ k) × (r ≡ q)
 reaches-unique {n} {text} x y = interims-unique x.interims y.interims text x.passed x.head x.final y.passed y.head y.final
 
 -- ---- chunks
@@ -132,21 +132,21 @@ whole-within {n} {limit} {s} {b} {c} x w =
     after-within (status_code w.head) (framing_of w.head) w.rest limit s c
     (subst (λ (h : ResponseHead). WholeAfter (status_code h) (framing_of h) w.rest limit s c) same.0 (subst (λ r. WholeAfter (status_code x.head) (framing_of x.head) r limit s c) same.1 x.whole)) w.over
 
-pub one-reply : (limit : ℕ) (b : List ℕ) (r s : Reply) → Http b limit r → Http b limit s → r ≡ s
-one-reply limit b (Body s c) (Body t d) x y = (let w = whole-unique x y in ap₂ Body w.0 w.1)
-one-reply limit b (Body s c) Garbled x y = absurd (y.0 s c x)
-one-reply limit b (Body s c) Oversize x y = absurd (whole-within x y)
-one-reply limit b Garbled (Body t d) x y = absurd (x.0 t d y)
-one-reply limit b Garbled Garbled x y = refl
-one-reply limit b Garbled Oversize x y = absurd (x.1 y)
-one-reply limit b Oversize (Body t d) x y = absurd (whole-within y x)
-one-reply limit b Oversize Garbled x y = absurd (y.1 x)
-one-reply limit b Oversize Oversize x y = refl
-one-reply limit b (Body s c) Lost x y = absurd y
-one-reply limit b (Body s c) Unsent x y = absurd y
-one-reply limit b Garbled Lost x y = absurd y
-one-reply limit b Garbled Unsent x y = absurd y
-one-reply limit b Oversize Lost x y = absurd y
-one-reply limit b Oversize Unsent x y = absurd y
-one-reply limit b Lost s x y = absurd x
-one-reply limit b Unsent s x y = absurd x
+pub came-one : (limit : ℕ) (b : List ℕ) (r s : Reply) → Came b limit r → Came b limit s → r ≡ s
+came-one limit b (Body s c) (Body t d) x y = (let w = whole-unique x y in ap₂ Body w.0 w.1)
+came-one limit b (Body s c) Garbled x y = absurd (y.0 s c x)
+came-one limit b (Body s c) Oversize x y = absurd (whole-within x y)
+came-one limit b Garbled (Body t d) x y = absurd (x.0 t d y)
+came-one limit b Garbled Garbled x y = refl
+came-one limit b Garbled Oversize x y = absurd (x.1 y)
+came-one limit b Oversize (Body t d) x y = absurd (whole-within y x)
+came-one limit b Oversize Garbled x y = absurd (y.1 x)
+came-one limit b Oversize Oversize x y = refl
+came-one limit b (Body s c) Lost x y = absurd y
+came-one limit b (Body s c) Unsent x y = absurd y
+came-one limit b Garbled Lost x y = absurd y
+came-one limit b Garbled Unsent x y = absurd y
+came-one limit b Oversize Lost x y = absurd y
+came-one limit b Oversize Unsent x y = absurd y
+came-one limit b Lost s x y = absurd x
+came-one limit b Unsent s x y = absurd x

@@ -3,16 +3,19 @@ use Rattle.std.specs.Prelude.{◌≡◌, ℕ, false, ◌⊎◌, ◌≤◌, lengt
 use Rattle.http_fetch.specs.declared.decoder.Decoder.{Decoder}
 use Rattle.outside.specs.declared.replies.Reply.{Reply}
 use Rattle.http_fetch.specs.Replies.{Http, IsOver, IsEnded}
+use Rattle.http_fetch.specs.Kinds.{Tells}
 use Rattle.http_fetch.specs.Stages.{Stands}
 use Rattle.http_fetch.specs.Steps.{is_done}
 use Rattle.http_fetch.specs.Reading.{IsShort}
 
 -- the decoder has taken b under the limit: whatever follows, b with it gives what the decoder's place gives;
--- of the bytes that it took it holds the body so far and, until it is done, a short text that waits for its end
+-- of the bytes that it took it holds the body so far and, until it is done, a short text that waits for its end; behind the last head it knows
+-- whether the body is of OpenMetrics
 pub record StandsFor (d : Decoder) (limit : ℕ) (b : List ℕ) : Type 0 where
   pub limit_is : d.limit ≡ limit
   pub stands : Stands limit d.stage d.body.items d.pending.items b
   pub short : is_done d.stage ≡ false → IsShort d.pending.items
+  pub kind : Tells d.stage d.om 8 b d.pending.items
 
 -- of all that it took the decoder holds a body within the limit, and a text that waits for its end and is short
 abbrev pub HoldsLittle : Decoder → ℕ → Type 0
@@ -22,6 +25,7 @@ HoldsLittle d limit = (length d.body.items ≤ limit) × IsShort d.pending.items
 pub record SameParts (old new : Decoder) : Type 0 where
   pub limit : new.limit ≡ old.limit
   pub stage : new.stage ≡ old.stage
+  pub om : new.om ≡ old.om
   pub body : new.body.items ≡ old.body.items
   pub pending : new.pending.items ≡ old.pending.items
 

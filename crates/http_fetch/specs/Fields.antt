@@ -1,6 +1,6 @@
 -- What the fields of a head say of the body that follows it. A field is its name and its value.
-use Rattle.std.specs.Prelude.{ℕ, ◌+◌, ◌-◌, ◌*◌, ◌^◌, Bool, false, ◌&&◌, not, ◌==◌, nat_lt, if◌then◌else◌, List, [], ◌∷◌, length, Option, Some, None, codes}
-use Rattle.std.specs.List.{list_all, list_any}
+use Rattle.std.specs.Prelude.{ℕ, ◌+◌, ◌-◌, ◌*◌, ◌^◌, Bool, false, ◌&&◌, ◌||◌, not, ◌==◌, nat_lt, if◌then◌else◌, List, [], ◌∷◌, length, take, drop, Option, Some, None, codes}
+use Rattle.std.specs.List.{list_all, list_any, prefix_len}
 use Rattle.std.specs.Char.{is_ascii_digit}
 use Rattle.std.specs.Str.{str_eq_ignore_ascii_case}
 use Rattle.std.specs.Str.Parse.{digits_value}
@@ -18,6 +18,9 @@ transfer_encoding = codes "transfer-encoding"
 
 abbrev pub content_length : List ℕ
 content_length = codes "content-length"
+
+abbrev pub content_type : List ℕ
+content_type = codes "content-type"
 
 -- the texts are the same but for the case of their ASCII letters
 unfoldable pub same_word : List ℕ → List ℕ → Bool
@@ -63,6 +66,30 @@ agreed (Some n) vs = if list_all (λ (v : List ℕ). is_same_number n (number v)
 abbrev pub by_length : List (List ℕ) → Framing
 by_length [] = ToEnd
 by_length (v ∷ vs) = agreed (number v) vs
+
+-- a space or a tab
+unfoldable pub is_space : ℕ → Bool
+is_space b = (b == 32) || (b == 9)
+
+-- what stands before the first `;`, without blanks in front
+abbrev pub media_front : List ℕ → List ℕ
+media_front v = take (prefix_len (λ b. not (b == 59)) v) v
+
+abbrev pub media : List ℕ → List ℕ
+media v = drop (prefix_len is_space (media_front v)) (media_front v)
+
+-- that is the name of OpenMetrics in any case of letters, and blanks behind it
+unfoldable pub is_named_openmetrics : List ℕ → Bool
+is_named_openmetrics v = same_word (take 28 (media v)) (codes "application/openmetrics-text") && list_all is_space (drop 28 (media v))
+
+-- the first of these values is it
+abbrev pub is_first_openmetrics : List (List ℕ) → Bool
+is_first_openmetrics [] = false
+is_first_openmetrics (v ∷ vs) = is_named_openmetrics v
+
+-- the body is of OpenMetrics, by the first Content-Type (OpenMetrics 1.0, "Protocol Negotiation")
+unfoldable pub is_openmetrics : List (List ℕ × List ℕ) → Bool
+is_openmetrics fields = is_first_openmetrics (values content_type fields)
 
 -- a coding goes before a length
 abbrev pub by_coding : Coding → List (List ℕ) → Framing

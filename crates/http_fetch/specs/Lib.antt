@@ -3,6 +3,7 @@ pub mod Chunks
 pub mod Replies
 pub mod Reading
 pub mod Expected
+pub mod Kinds
 pub mod Stages
 pub mod Steps
 pub mod Decoders

@@ -1,12 +1,13 @@
 -- The reply that the bytes of a link give, which ends after them.
-use Rattle.std.specs.Prelude.{◌≡◌, ◌≢◌, ℕ, ◌<◌, ◌≤◌, ◌⊎◌, List, [], ◌∷◌, ◌++◌, length, map}
+use Rattle.std.specs.Prelude.{◌≡◌, ◌≢◌, ℕ, ◌<◌, ◌≤◌, ◌⊎◌, Bool, ◌&&◌, ◌==◌, nat_le, if◌then◌else◌, List, [], ◌∷◌, ◌++◌, length, map, Result, Ok, Err}
 use Rattle.httparse.specs.Grammar.{ResponseHead, print_response, ReadsResponse, status_code}
 use Rattle.httparse.specs.Spans.{name_and_value}
 use Rattle.http_fetch.specs.declared.fields.Framing.{Framing}
 use Rattle.http_fetch.specs.declared.fields.Framing.TheVariants.{Refused, Length, Chunks, ToEnd}
 use Rattle.outside.specs.declared.replies.Reply.{Reply}
 use Rattle.outside.specs.declared.replies.Reply.TheVariants.{Body, Lost, Garbled, Unsent, Oversize}
-use Rattle.http_fetch.specs.Fields.{framing}
+use Rattle.http_fetch.specs.Fields.{framing, is_openmetrics}
+use Rattle.om_reader.specs.Bodies.{converted}
 use Rattle.http_fetch.specs.Chunks.{IsChunked, ExceedsInChunks}
 
 -- the text is the head h, and then rest
@@ -78,13 +79,38 @@ pub record IsOver (n : ℕ) (text : List ℕ) (limit : ℕ) : Type 0 where
   pub reaches : Reaches n text head rest
   pub over : OverAfter (status_code head) (framing_of head) rest limit
 
+-- the reply that the bytes give, its body as it came
+abbrev pub Came : List ℕ → ℕ → Reply → Type 0
+Came b limit (Body status bytes) = IsWhole 8 b limit status bytes
+Came b limit Oversize = IsOver 8 b limit
+Came b limit Garbled = ((status : ℕ) (bytes : List ℕ) → ¬ (IsWhole 8 b limit status bytes)) × ¬ (IsOver 8 b limit)
+Came b limit Lost = ⊥
+Came b limit Unsent = ⊥
+
+-- the reply of a body of OpenMetrics that was converted: the text, where it is within the limit; none where a line is faulty
+abbrev pub converted_reply : ℕ → Result (List ℕ) ℕ → Reply
+converted_reply limit (Ok text) = if nat_le (length text) limit then Body 200 text else Oversize
+converted_reply limit (Err line) = Garbled
+
+-- the reply of a whole reply, whose head says whether it is of OpenMetrics: a body of status 200 is converted then, and any other stays
+abbrev pub rendered : Bool → ℕ → ℕ → List ℕ → Reply
+rendered om limit status bytes = if om && (status == 200) then converted_reply limit (converted bytes) else Body status bytes
+
+-- whether a head says so
+abbrev pub om_of : ResponseHead → Bool
+om_of h = is_openmetrics (map name_and_value h.fields)
+
+-- what the reply that came becomes
+abbrev pub Becomes : List ℕ → ℕ → Reply → Reply → Type 0
+Becomes b limit (Body status bytes) r = (h : ResponseHead) × (rest : List ℕ) × Reaches 8 b h rest × (r ≡ rendered (om_of h) limit status bytes)
+Becomes b limit Oversize r = r ≡ Oversize
+Becomes b limit Garbled r = r ≡ Garbled
+Becomes b limit Lost r = ⊥
+Becomes b limit Unsent r = ⊥
+
 -- the reply that the bytes give
 abbrev pub Http : List ℕ → ℕ → Reply → Type 0
-Http b limit (Body status bytes) = IsWhole 8 b limit status bytes
-Http b limit Oversize = IsOver 8 b limit
-Http b limit Garbled = ((status : ℕ) (bytes : List ℕ) → ¬ (IsWhole 8 b limit status bytes)) × ¬ (IsOver 8 b limit)
-Http b limit Lost = ⊥
-Http b limit Unsent = ⊥
+Http b limit r = (came : Reply) × Came b limit came × Becomes b limit came r
 
 -- a head of the code, then text, is a whole reply that ends before the link may
 abbrev pub EndsAfter : ℕ → Framing → List ℕ → ℕ → ℕ → List ℕ → Type 0

@@ -1,14 +1,19 @@
 //! The decoder.
-ghost use Rattle.std.specs.Prelude.{◌≡◌, ◌++◌, ℕ, [], List, ◌<◌, ◌≤◌, ◌+◌, ◌-◌, length, take, drop, IfOk, OnOk, OnErr, Ok, false, vec_len, vec_capacity, max};
-ghost use Rattle.http_fetch.specs.Replies.{Http};
+ghost use Rattle.std.specs.Prelude.{◌≡◌, ◌++◌, ℕ, [], List, ◌<◌, ◌≤◌, ◌+◌, ◌-◌, length, take, drop, IfOk, OnOk, OnErr, Ok, false, vec_len, vec_capacity, max, if◌then◌else◌};
+ghost use Rattle.http_fetch.specs.Kinds as kinds;
+ghost use Rattle.http_fetch.specs.Kinds.{Tells};
+ghost use Rattle.http_fetch.specs.Replies as replies;
+ghost use Rattle.http_fetch.specs.Replies.{Http, converted_reply};
+ghost use Rattle.om_reader.specs.Bodies as spec;
 ghost use Rattle.http_fetch.specs.Stages.{Fits, Leads, Waits};
 ghost use Rattle.http_fetch.specs.Steps.{is_done};
 ghost use Rattle.http_fetch.specs.Reading.{IsShort};
 ghost use Rattle.http_fetch.specs.Decoders.{StandsFor, HoldsLittle, SameParts, IsSettled, MustEnd, LeavesOff};
 
 use crate::pieces::{behind, front};
-use crate::stages::{Stage, body_step, frame_step, is_body, is_done};
+use crate::stages::{Stage, Step, body_step, frame_step, is_body, is_done, is_heads};
 use label_set::{Blob, NoMemory};
+use om_reader::{OmError, convert};
 use outside::Reply;
 use std::alloc::Global;
 
@@ -26,15 +31,31 @@ pub enum Fed {
 pub struct Decoder {
     limit: u64,
     stage: Stage,
+    om: bool,
     body: Vec<u8>,
     pending: Vec<u8>,
+}
+
+/// A place in a reply, and whether the body is of OpenMetrics, which is known behind the last head.
+#[derive(Clone, Copy)]
+struct Place {
+    stage: Stage,
+    om: bool,
 }
 
 /// Where a run over some bytes ends, and what it leaves of them.
 #[derive(Clone, Copy)]
 struct Left<'a> {
     stage: Stage,
+    om: bool,
     rest: &'a [u8],
+}
+
+/// What is known of the body behind a step.
+fn om_behind(stage: Stage, om: bool, step: Step) -> bool
+    ensures { result ≡ (if kinds.is_heads stage then step.om else om) }
+{
+    if is_heads(stage) { step.om } else { om }
 }
 
 /// Adds bytes that there is room for.
@@ -55,17 +76,20 @@ fn count_of(body: &Vec<u8>) -> u64
 }
 
 /// Goes over the bytes as far as they reach.
-fn run<'a>(mut stage: Stage, limit: u64, body: &mut Vec<u8>, text: &'a [u8]) -> Left<'a>
+fn run<'a>(place: Place, limit: u64, body: &mut Vec<u8>, text: &'a [u8]) -> Left<'a>
     requires { vec_len body.old + length text.now ≤ vec_capacity body.old }
-    ensures leads { Fits stage limit body.old.items → Leads limit stage body.old.items text.now result.stage body.new.items result.rest.now }
-    ensures waits { Fits stage limit body.old.items → Waits result.stage result.rest.now }
-    ensures short { Fits stage limit body.old.items → is_done result.stage ≡ false → IsShort result.rest.now }
+    ensures leads { Fits place.stage limit body.old.items → Leads limit place.stage body.old.items text.now result.stage body.new.items result.rest.now }
+    ensures waits { Fits place.stage limit body.old.items → Waits result.stage result.rest.now }
+    ensures short { Fits place.stage limit body.old.items → is_done result.stage ≡ false → IsShort result.rest.now }
     ensures rest { LeavesOff text.now result.rest.now }
+    ensures kind { (b : List ℕ) → Tells place.stage place.om 8 b text.now → Tells result.stage result.om 8 b result.rest.now }
 {
+    let mut stage = place.stage;
+    let mut om = place.om;
     let mut rest = text;
     while !rest.is_empty() {
         if is_done(stage) {
-            return Left { stage, rest };
+            return Left { stage, om, rest };
         }
         let got = count_of(body);
         if is_body(stage) {
@@ -75,13 +99,14 @@ fn run<'a>(mut stage: Stage, limit: u64, body: &mut Vec<u8>, text: &'a [u8]) -> 
             rest = behind(rest, step.used);
         } else {
             let Some(step) = frame_step(stage, limit, got, rest) else {
-                return Left { stage, rest };
+                return Left { stage, om, rest };
             };
+            om = om_behind(stage, om, step);
             stage = step.next;
             rest = behind(rest, step.used);
         }
     }
-    Left { stage, rest }
+    Left { stage, om, rest }
 }
 
 /// Keeps so many bytes at the end.
@@ -111,31 +136,73 @@ fn make_room(body: &mut Vec<u8>, more: usize, limit: u64) -> Result<(), NoMemory
 
 /// Goes on over what was pending and a piece. An error leaves the bytes as they were.
 fn advance(
-    stage: Stage,
+    place: Place,
     limit: u64,
     body: &mut Vec<u8>,
     pending: &mut Vec<u8>,
     piece: &[u8],
-) -> Result<Stage, NoMemory>
-    ensures leads { IfOk result (λ next. Fits stage limit body.old.items → Leads limit stage body.old.items (pending.old.items ++ piece.now) next body.new.items pending.new.items) }
-    ensures waits { IfOk result (λ next. Fits stage limit body.old.items → Waits next pending.new.items) }
-    ensures short { IfOk result (λ next. Fits stage limit body.old.items → is_done next ≡ false → IsShort pending.new.items) }
+) -> Result<Place, NoMemory>
+    ensures leads { IfOk result (λ next. Fits place.stage limit body.old.items → Leads limit place.stage body.old.items (pending.old.items ++ piece.now) next.stage body.new.items pending.new.items) }
+    ensures waits { IfOk result (λ next. Fits place.stage limit body.old.items → Waits next.stage pending.new.items) }
+    ensures short { IfOk result (λ next. Fits place.stage limit body.old.items → is_done next.stage ≡ false → IsShort pending.new.items) }
+    ensures kind { IfOk result (λ next. (b : List ℕ) → Tells place.stage place.om 8 b (pending.old.items ++ piece.now) → Tells next.stage next.om 8 b pending.new.items) }
     ensures body { OnErr result (body.new.items ≡ body.old.items) }
     ensures pending { OnErr result (pending.new.items ≡ pending.old.items) }
 {
     make_room(body, pending.len() + piece.len(), limit)?;
     pending.reserve(piece.len())?;
     if pending.is_empty() {
-        let left = run(stage, limit, body, piece);
+        let left = run(place, limit, body, piece);
         add(pending, left.rest);
-        return Ok(left.stage);
+        return Ok(Place {
+            stage: left.stage,
+            om: left.om,
+        });
     }
     add(pending, piece);
-    let left = run(stage, limit, body, pending);
+    let left = run(place, limit, body, pending);
     let count = left.rest.len();
-    let next = left.stage;
+    let next = Place {
+        stage: left.stage,
+        om: left.om,
+    };
     keep_end(pending, count);
     Ok(next)
+}
+
+/// The reply of a body of OpenMetrics.
+fn converted(alloc: Global, limit: u64, body: Vec<u8>) -> Result<Reply, NoMemory>
+    ensures { IfOk result (λ r. r ≡ converted_reply limit (spec.converted body.items)) }
+{
+    match convert(alloc, body.as_slice()) {
+        Ok(bytes) => {
+            if bytes.as_slice().len() as u64 > limit {
+                return Ok(Reply::Oversize);
+            }
+            Ok(Reply::Body { status: 200, bytes })
+        }
+        Err(OmError::Line(_)) => Ok(Reply::Garbled),
+        Err(OmError::NoMemory) => Err(NoMemory),
+    }
+}
+
+/// The reply of a whole reply, whose head says whether it is of OpenMetrics.
+fn rendered(
+    alloc: Global,
+    om: bool,
+    limit: u64,
+    status: u16,
+    body: Vec<u8>,
+) -> Result<Reply, NoMemory>
+    ensures { IfOk result (λ r. r ≡ replies.rendered om limit status body.items) }
+{
+    if om && status == 200 {
+        return converted(alloc, limit, body);
+    }
+    Ok(Reply::Body {
+        status,
+        bytes: Blob { bytes: body },
+    })
 }
 
 impl Decoder {
@@ -146,6 +213,7 @@ impl Decoder {
         Ok(Decoder {
             limit,
             stage: Stage::Heads { left: 8 },
+            om: false,
             body: Vec::new(alloc),
             pending: Vec::new(alloc),
         })
@@ -162,35 +230,34 @@ impl Decoder {
         if is_done(self.stage) {
             return Ok(Fed::Done);
         }
-        self.stage = advance(
-            self.stage,
+        let next = advance(
+            Place {
+                stage: self.stage,
+                om: self.om,
+            },
             self.limit,
             &mut self.body,
             &mut self.pending,
             piece,
         )?;
+        self.stage = next.stage;
+        self.om = next.om;
         if is_done(self.stage) {
             return Ok(Fed::Done);
         }
         Ok(Fed::More)
     }
 
-    /// The reply, where the link ends here.
-    pub fn end(self) -> Reply
-        ensures reply { (limit : ℕ) (b : List ℕ) → StandsFor self limit b → Http b limit result }
-        ensures only { (limit : ℕ) (b : List ℕ) → StandsFor self limit b → (r : Reply) → Http b limit r → r ≡ result }
+    /// The reply, where the link ends here. A body of OpenMetrics is converted.
+    pub fn end(self, alloc: Global) -> Result<Reply, NoMemory>
+        ensures reply { IfOk result (λ r. (limit : ℕ) (b : List ℕ) → StandsFor self limit b → Http b limit r) }
+        ensures only { IfOk result (λ r. (limit : ℕ) (b : List ℕ) → StandsFor self limit b → (s : Reply) → Http b limit s → s ≡ r) }
     {
         match self.stage {
-            Stage::Whole { status } => Reply::Body {
-                status,
-                bytes: Blob { bytes: self.body },
-            },
-            Stage::Open => Reply::Body {
-                status: 200,
-                bytes: Blob { bytes: self.body },
-            },
-            Stage::Over => Reply::Oversize,
-            _ => Reply::Garbled,
+            Stage::Whole { status } => rendered(alloc, self.om, self.limit, status, self.body),
+            Stage::Open => rendered(alloc, self.om, self.limit, 200, self.body),
+            Stage::Over => Ok(Reply::Oversize),
+            _ => Ok(Reply::Garbled),
         }
     }
 }
@@ -202,5 +269,5 @@ pub fn decode(alloc: Global, bytes: &[u8], limit: u64) -> Result<Reply, NoMemory
 {
     let mut decoder = Decoder::new(alloc, limit)?;
     decoder.feed(bytes)?;
-    Ok(decoder.end())
+    decoder.end(alloc)
 }

@@ -1,5 +1,6 @@
 //! What the fields of a head say of the body.
-ghost use Rattle.std.specs.Prelude.{◌≡◌, ℕ, ◌<◌, ◌≤◌, ◌^◌, length, map, All};
+ghost use Rattle.std.specs.Prelude.{◌≡◌, ℕ, ◌<◌, ◌≤◌, ◌^◌, ◌==◌, not, length, take, drop, map, All};
+ghost use Rattle.std.specs.List.{list_all, prefix_len};
 ghost use Rattle.httparse.specs.Spans.{IsHeaderWithin, header_bytes};
 ghost use Rattle.http_fetch.specs.Fields as spec;
 
@@ -165,4 +166,80 @@ pub fn framing_of(text: &[u8], fields: &[HeaderSpan]) -> Framing
         Coding::Other => Framing::Refused,
         Coding::Absent => length_of(text, fields),
     }
+}
+
+/// Whether a byte is a space or a tab.
+#[tactic(auto, unfolding(crate::specs::Fields::is_space))]
+fn is_space(byte: u8) -> bool
+    ensures { result ≡ spec.is_space byte }
+{
+    byte == b' ' || byte == b'\t'
+}
+
+/// Whether all bytes are spaces and tabs.
+fn are_spaces(bytes: &[u8]) -> bool
+    ensures { result ≡ list_all spec.is_space bytes.now }
+{
+    bytes.iter().all(|b| is_space(*b))
+}
+
+/// How many bytes stand before the first `;`.
+fn front_len(value: &[u8]) -> usize
+    ensures value { result ≡ prefix_len (λ b. not (b == 59)) value.now }
+    ensures within { result ≤ length value.now }
+{
+    value.iter().take_while(|b| **b != b';').count()
+}
+
+/// How many spaces and tabs stand in front.
+fn space_len(bytes: &[u8]) -> usize
+    ensures value { result ≡ prefix_len spec.is_space bytes.now }
+    ensures within { result ≤ length bytes.now }
+{
+    bytes.iter().take_while(|b| is_space(**b)).count()
+}
+
+/// What stands before the first `;` of a value, without blanks in front.
+fn media(value: &[u8]) -> &[u8]
+    ensures { result.now ≡ spec.media value.now }
+{
+    let front = &value[..front_len(value)];
+    &front[space_len(front)..]
+}
+
+/// So many bytes in front, or all.
+fn front_of(bytes: &[u8], count: usize) -> &[u8]
+    ensures { result.now ≡ take count bytes.now }
+{
+    &bytes[..count.min(bytes.len())]
+}
+
+/// What follows so many bytes.
+fn behind(bytes: &[u8], count: usize) -> &[u8]
+    ensures { result.now ≡ drop count bytes.now }
+{
+    &bytes[count.min(bytes.len())..]
+}
+
+/// Whether a value of `Content-Type` names OpenMetrics.
+#[tactic(auto, unfolding(crate::specs::Fields::is_named_openmetrics))]
+fn is_named_openmetrics(value: &[u8]) -> bool
+    ensures { result ≡ spec.is_named_openmetrics value.now }
+{
+    let media = media(value);
+    same_word(front_of(media, 28), b"application/openmetrics-text") && are_spaces(behind(media, 28))
+}
+
+/// Whether the body is of OpenMetrics, by the fields of its head.
+#[tactic(auto, unfolding(crate::specs::Fields::is_openmetrics))]
+pub fn is_openmetrics(text: &[u8], fields: &[HeaderSpan]) -> bool
+    requires { All (IsHeaderWithin (length text.now)) fields.now }
+    ensures { result ≡ spec.is_openmetrics (map (header_bytes text.now) fields.now) }
+{
+    for field in fields {
+        if is_named(text, *field, b"content-type") {
+            return is_named_openmetrics(field.value.of(text));
+        }
+    }
+    false
 }

@@ -2,7 +2,7 @@
 ghost use Rattle.std.specs.Prelude.{◌≡◌, ℕ, List, ◌<◌, ◌≤◌, length};
 ghost use Rattle.http_fetch.specs.Reading.{IsHead};
 
-use crate::fields::{Framing, framing_of};
+use crate::fields::{Framing, framing_of, is_openmetrics};
 use httparse::Status;
 use httparse::spans::{EMPTY_HEADER_SPAN, parse_response};
 
@@ -12,11 +12,12 @@ const MOST_HEAD: usize = 65536;
 /// What is at the front of some bytes, where a head is wanted.
 #[derive(Clone, Copy, PartialEq, Eq, Debug)]
 pub enum Head {
-    /// A head of this status and length, behind which the body goes so.
+    /// A head of this status and length, behind which the body goes so, and whether it is of OpenMetrics.
     Found {
         status: u16,
         len: usize,
         framing: Framing,
+        om: bool,
     },
     /// None yet.
     Waiting,
@@ -38,6 +39,7 @@ pub fn head_at(bytes: &[u8]) -> Head
                 status: head.code,
                 len: head.len,
                 framing: framing_of(bytes, &headers[..head.headers]),
+                om: is_openmetrics(bytes, &headers[..head.headers]),
             }
         }
         Ok(Status::Partial) => {

@@ -1,6 +1,7 @@
 //! Fetches the pages of targets over HTTP/1.1 (RFC 9112), by any link and any clock.
 //! What a reply is stands in `specs/Replies.antt`, over the grammars of `httparse`; the text of a request stands in `specs/Requests.antt`.
 //! The decoder takes the bytes in any pieces, and decodes each byte of a body once. It holds at most the body's limit and what waits for its end.
+//! A body whose head says that it is of OpenMetrics is converted at its end (`om_reader`), and is the text that comes of it.
 //! Tests: `tests_running::{replies, hostile, fetches}`.
 #![tactic(auto)]
 

@@ -29,6 +29,7 @@ fn room_for(alloc: Global, count: usize) -> Result<Vec<u8>, NoMemory>
 
 /// Reads into the room until the reply is known, which the decoder has yet to take.
 fn read_reply<L: Link>(
+    alloc: Global,
     link: &mut L,
     mut decoder: Decoder,
     room: &mut [u8],
@@ -46,10 +47,10 @@ fn read_reply<L: Link>(
             return Ok(Reply::Lost);
         };
         if count == 0 {
-            return Ok(decoder.end());
+            return decoder.end(alloc);
         }
         match decoder.feed(front(room, count))? {
-            Fed::Done => return Ok(decoder.end()),
+            Fed::Done => return decoder.end(alloc),
             Fed::More => {}
         }
     }
@@ -66,5 +67,5 @@ pub fn receive<L: Link>(alloc: Global, link: &mut L, limit: u64) -> Result<Reply
 {
     let decoder = Decoder::new(alloc, limit)?;
     let mut room = room_for(alloc, ROOM)?;
-    read_reply(link, decoder, room.as_mut_slice())
+    read_reply(alloc, link, decoder, room.as_mut_slice())
 }

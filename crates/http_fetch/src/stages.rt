@@ -1,5 +1,7 @@
 //! The places in a reply.
 ghost use Rattle.std.specs.Prelude.{◌≡◌, ℕ, ◌+◌, ◌-◌, ◌<◌, ◌≤◌, ◌++◌, List, length, drop, take, min, true, false};
+ghost use Rattle.http_fetch.specs.Kinds as kinds;
+ghost use Rattle.http_fetch.specs.Kinds.{KeepsKind, is_heads};
 ghost use Rattle.http_fetch.specs.Steps as spec;
 ghost use Rattle.http_fetch.specs.Steps.{LeadsBehind, LeadsInside};
 
@@ -33,11 +35,12 @@ pub enum Stage {
     Never,
 }
 
-/// One step: where it leads, and how many bytes it takes.
+/// One step: where it leads, how many bytes it takes, and, where it is one over a head, whether that says that the body is of OpenMetrics.
 #[derive(Clone, Copy, PartialEq, Eq, Debug)]
 pub struct Step {
     pub next: Stage,
     pub used: usize,
+    pub om: bool,
 }
 
 /// Whether what follows changes nothing.
@@ -45,6 +48,13 @@ pub fn is_done(stage: Stage) -> bool
     ensures { result ≡ spec.is_done stage }
 {
     matches!(stage, Stage::Whole { .. } | Stage::Over | Stage::Never)
+}
+
+/// Whether the place is before a head.
+pub fn is_heads(stage: Stage) -> bool
+    ensures { result ≡ kinds.is_heads stage }
+{
+    matches!(stage, Stage::Heads { .. })
 }
 
 /// Whether the next byte is the body's.
@@ -119,22 +129,26 @@ fn lost(text: &[u8]) -> Step
     Step {
         next: Stage::Never,
         used: text.len(),
+        om: false,
     }
 }
 
 /// A step over a head.
 fn head_step(left: u8, limit: u64, got: u64, text: &[u8]) -> Option<Step>
     requires { 0 < length text.now }
-    ensures { LeadsBehind (Stage.Heads left) limit got text.now result }
+    ensures leads { LeadsBehind (Stage.Heads left) limit got text.now result }
+    ensures kind { KeepsKind (Stage.Heads left) text.now result }
 {
     match head_at(text) {
         Head::Found {
             status,
             len,
             framing,
+            om,
         } => Some(Step {
             next: after_head(status, framing, left, limit),
             used: len,
+            om,
         }),
         Head::Waiting => None,
         Head::Never => Some(lost(text)),
@@ -144,12 +158,14 @@ fn head_step(left: u8, limit: u64, got: u64, text: &[u8]) -> Option<Step>
 /// A step over a chunk line.
 fn line_step(limit: u64, got: u64, text: &[u8]) -> Option<Step>
     requires { 0 < length text.now }
-    ensures { LeadsBehind Stage.Line limit got text.now result }
+    ensures leads { LeadsBehind Stage.Line limit got text.now result }
+    ensures kind { KeepsKind Stage.Line text.now result }
 {
     match line_at(text) {
         Line::Found { len, size } => Some(Step {
             next: after_line(size, limit.saturating_sub(got)),
             used: len,
+            om: false,
         }),
         Line::Waiting => None,
         Line::Never => Some(lost(text)),
@@ -159,12 +175,14 @@ fn line_step(limit: u64, got: u64, text: &[u8]) -> Option<Step>
 /// A step over the end of a chunk.
 fn end_step(limit: u64, got: u64, text: &[u8]) -> Option<Step>
     requires { 0 < length text.now }
-    ensures { LeadsBehind (Stage.Data 0) limit got text.now result }
+    ensures leads { LeadsBehind (Stage.Data 0) limit got text.now result }
+    ensures kind { KeepsKind (Stage.Data 0) text.now result }
 {
     match end_at(text) {
         End::Found => Some(Step {
             next: Stage::Line,
             used: 2,
+            om: false,
         }),
         End::Waiting => None,
         End::Never => Some(lost(text)),
@@ -174,7 +192,8 @@ fn end_step(limit: u64, got: u64, text: &[u8]) -> Option<Step>
 /// A step over a trailer line.
 fn trailer_step(limit: u64, got: u64, room: usize, text: &[u8]) -> Option<Step>
     requires { 0 < length text.now }
-    ensures { LeadsBehind (Stage.Trailer room) limit got text.now result }
+    ensures leads { LeadsBehind (Stage.Trailer room) limit got text.now result }
+    ensures kind { KeepsKind (Stage.Trailer room) text.now result }
 {
     match trailer_at(text, room) {
         Trailer::Found { len } => Some(Step {
@@ -182,10 +201,12 @@ fn trailer_step(limit: u64, got: u64, room: usize, text: &[u8]) -> Option<Step>
                 room: room - len - 1,
             },
             used: len + 1,
+            om: false,
         }),
         Trailer::Last { len } => Some(Step {
             next: Stage::Whole { status: 200 },
             used: len + 1,
+            om: false,
         }),
         Trailer::Waiting => None,
         Trailer::Never => Some(lost(text)),
@@ -197,7 +218,8 @@ pub fn frame_step(stage: Stage, limit: u64, got: u64, text: &[u8]) -> Option<Ste
     requires some { 0 < length text.now }
     requires going { spec.is_done stage ≡ false }
     requires frame { spec.is_body stage ≡ false }
-    ensures { LeadsBehind stage limit got text.now result }
+    ensures leads { LeadsBehind stage limit got text.now result }
+    ensures kind { KeepsKind stage text.now result }
 {
     match stage {
         Stage::Heads { left } => head_step(left, limit, got, text),
@@ -225,6 +247,7 @@ pub fn body_step(stage: Stage, limit: u64, got: u64, count: usize) -> Step
     requires body { spec.is_body stage ≡ true }
     ensures used { (0 < result.used) × (result.used ≤ count) }
     ensures leads { LeadsInside stage limit got count result }
+    ensures kind { is_heads result.next ≡ false }
 {
     match stage {
         Stage::Length { left } => {
@@ -236,7 +259,11 @@ pub fn body_step(stage: Stage, limit: u64, got: u64, count: usize) -> Step
                     left: left - used as u64,
                 }
             };
-            Step { next, used }
+            Step {
+                next,
+                used,
+                om: false,
+            }
         }
         Stage::Data { left } => {
             let used = at_most(count, left);
@@ -245,6 +272,7 @@ pub fn body_step(stage: Stage, limit: u64, got: u64, count: usize) -> Step
                     left: left - used as u64,
                 },
                 used,
+                om: false,
             }
         }
         _ => {
@@ -253,7 +281,11 @@ pub fn body_step(stage: Stage, limit: u64, got: u64, count: usize) -> Step
             } else {
                 Stage::Open
             };
-            Step { next, used: count }
+            Step {
+                next,
+                used: count,
+                om: false,
+            }
         }
     }
 }

@@ -19,14 +19,14 @@ IsLabel bs label =
     (text : List ℕ) × (is_label_name label.name ≡ true) × IsText text label.value × (is_utf8 label.value ≡ true)
     × (bs ≡ label.name ++ 61 ∷ 34 ∷ (text ++ 34 ∷ []))
 
--- labels with commas between them ("ABNF", `label *(COMMA label)`), or none
+-- labels with commas between them, or none ("ABNF", `[label *(COMMA label)]`)
 abbrev pub IsLabels : List ℕ → List Pair → Type 0
 IsLabels bs [] = bs ≡ []
 IsLabels bs (label ∷ labels) =
     (one : List ℕ) × IsLabel one label
     × (((labels ≡ []) × (bs ≡ one)) ⊎ ((rest : List ℕ) × (labels ≢ []) × (bs ≡ one ++ 44 ∷ rest) × IsLabels rest labels))
 
--- labels in braces, each of another name ("ABNF", `labels`; "Labels": "Label names MUST be unique within a LabelSet")
+-- labels in braces, each of another name ("ABNF", `labels`; "LabelSet": names are unique within it)
 abbrev pub IsBraces : List ℕ → List Pair → Type 0
 IsBraces bs labels = (inside : List ℕ) × IsLabels inside labels × (names_differ labels ≡ true) × (bs ≡ 123 ∷ (inside ++ 125 ∷ []))
 
@@ -35,7 +35,7 @@ abbrev pub IsMeasure : List ℕ → List ℕ → Option ℤ → Type 0
 IsMeasure bs value None = IsValue value × (bs ≡ 32 ∷ value)
 IsMeasure bs value (Some ms) = IsValue value × (word : List ℕ) × (stamp_millis word ≡ Some ms) × (bs ≡ 32 ∷ (value ++ 32 ∷ word))
 
--- an exemplar ("ABNF", `exemplar = SP HASH SP labels-in-braces SP number [SP timestamp]`)
+-- an exemplar ("ABNF", `exemplar = SP HASH SP labels SP number [SP timestamp]`)
 abbrev pub IsExemplar : List ℕ → Type 0
 IsExemplar bs =
     (braces : List ℕ) × (labels : List Pair) × (measure : List ℕ) × (value : List ℕ) × (stamp : Option ℤ)
@@ -45,7 +45,7 @@ IsExemplar bs =
 abbrev pub IsLabelled : List ℕ → List Pair → Type 0
 IsLabelled bs labels = ((bs ≡ []) × (labels ≡ [])) ⊎ (IsBraces bs labels × (has_metric_label labels ≡ false))
 
--- a sample line with its row ("ABNF", `sample`): a metric name, labels or none, a value and a timestamp or none, an exemplar or none
+-- a sample line with its row ("ABNF", `sample = metricname [labels] SP number [SP timestamp] [exemplar] LF`): a metric name, labels or none, a value and a timestamp or none, an exemplar or none
 abbrev pub IsSample : ℕ → List ℕ → BodyRow → Type 0
 IsSample number line row =
     (braces : List ℕ) × (measure : List ℕ) × (exemplar : List ℕ)
@@ -57,7 +57,7 @@ IsSample number line row =
 abbrev pub IsSkipped : List ℕ → Type 0
 IsSkipped line = (line ≢ eof) × ((rest : List ℕ) × (line ≡ 35 ∷ rest))
 
--- lines of which the last is `# EOF` ("Overall Structure": "the exposition MUST end with EOF"), each other one is skipped or a sample line, and
+-- lines of which the last is `# EOF` ("Overall Structure": an exposition ends with it), each other one is skipped or a sample line, and
 -- these are the rows, where the first line has that number
 abbrev pub AreLines : ℕ → List (List ℕ) → List BodyRow → Type 0
 AreLines number [] rows = ⊥

@@ -3,4 +3,5 @@ pub mod Faults
 pub mod Forms
 pub mod Grammar
 pub mod Laws
+pub mod Reads
 pub mod Timestamps

@@ -1,4 +1,4 @@
--- Timestamps of OpenMetrics, in seconds (OpenMetrics 1.0, "Timestamps": "Timestamps MUST be Unix Epoch in seconds"; "ABNF": `timestamp = realnumber`).
+-- Timestamps of OpenMetrics: real numbers, seconds of the Unix epoch (OpenMetrics 1.0, "Timestamps", and "ABNF", `timestamp = realnumber`).
 use Rattle.std.specs.Prelude.{ℕ, ◌+◌, ◌-◌, min, ℤ, pos, neg_ℤ, Bool, List, [], ◌++◌, length, take, drop, slice_index, replicate, Option, Some, None, ◌&&◌, ◌==◌, nat_le, if◌then◌else◌}
 use Rattle.std.specs.Str.Parse.{digits_value}
 use Rattle.value_text.specs.Numbers.{is_in_range}

@@ -1,10 +1,10 @@
 //! Whole bodies.
-ghost use Rattle.std.specs.Prelude.{◌≡◌, ◌≤◌, ◌<◌, ◌++◌, ◌^◌, ◌==◌, [], List, Option, drop, length, IfErr, IfOk, MatchResult, Ok, OnOk, option_map, slice_index};
+ghost use Rattle.std.specs.Prelude.{◌≡◌, ◌≤◌, ◌<◌, ◌++◌, ◌^◌, ◌==◌, [], drop, length, IfErr, IfOk, MatchResult, Ok, OnOk, option_map, slice_index};
 ghost use Rattle.std.specs.Str.{bytes_eq};
-ghost use Rattle.expo_reader.specs.Bodies.{line_len, lines_of, row_list};
-ghost use Rattle.expo_reader.specs.declared.rows.BodyRow.{BodyRow};
+ghost use Rattle.expo_reader.specs.Bodies.{line_len, lines_of};
 ghost use Rattle.om_reader.specs.Bodies as spec;
 ghost use Rattle.om_reader.specs.Bodies.{converted};
+ghost use Rattle.om_reader.specs.Reads.{AddsRow, AddsRows};
 ghost use Rattle.om_reader.specs.Timestamps.{millis_of};
 ghost use Rattle.om_reader.specs.Laws.{CauseIs, HasOneReading, IsCauseOf, IsConverted, KeepsRows, ReadsTheFormat};
 
@@ -103,7 +103,7 @@ fn convert_line<'b>(
     room: &mut Room<'b>,
     text: &mut Vec<u8>,
 ) -> Result<(), OmError>
-    ensures { let said = spec.line_reading number line.now in MatchResult result (λ _. (row : Option BodyRow) × (said ≡ Ok row) × (text.new.items ≡ text.old.items ++ spec.plain_text (row_list row))) (λ e. CauseIs e said) }
+    ensures { let said = spec.line_reading number line.now in MatchResult result (λ _. AddsRow said text.old.items text.new.items) (λ e. CauseIs e said) }
 {
     if is_comment(line) {
         return Ok(());
@@ -122,7 +122,7 @@ fn convert_lines<'b>(
     room: &mut Room<'b>,
     text: &mut Vec<u8>,
 ) -> Result<(), OmError>
-    ensures { let said = spec.reading body.now in MatchResult result (λ _. (rows : List BodyRow) × (said ≡ Ok rows) × (text.new.items ≡ text.old.items ++ spec.plain_text rows)) (λ e. CauseIs e said) }
+    ensures { let said = spec.reading body.now in MatchResult result (λ _. AddsRows said text.old.items text.new.items) (λ e. CauseIs e said) }
 {
     let mut place = 0;
     let mut number = 1;

@@ -1,11 +1,12 @@
 //! The labels of a line or of an exemplar.
-ghost use Rattle.std.specs.Prelude.{◌≡◌, ◌<◌, ◌+◌, ◌++◌, ◌∷◌, [], length, IfNone, IfOk, IfSome, IsTrue, List, MatchResult, None, Some};
+ghost use Rattle.std.specs.Prelude.{◌≡◌, ◌<◌, ◌+◌, length, IfNone, IfOk, IfSome, IsTrue, List, MatchResult, None, Some};
 ghost use Rattle.label_set.specs.Bytes.{is_label_name};
 ghost use Rattle.label_set.specs.declared.texts.Pair.{Pair};
 ghost use Rattle.expo_reader.specs.Bodies.{has_metric_label, names_of};
 ghost use Rattle.expo_reader.specs.Texts as plain;
 ghost use Rattle.om_reader.specs.Faults.{FaultIs};
 ghost use Rattle.om_reader.specs.Forms as spec;
+ghost use Rattle.om_reader.specs.Reads.{AddsLabel, AddsLabels, HasLabels, IsLabelOf};
 
 use crate::faults::Fault;
 use crate::parts::{Part, mark_at, text_at, word_at};
@@ -67,7 +68,7 @@ fn name_at(text: &[u8]) -> Option<Part<'_>>
 /// What follows the text in quotes of a label with that name.
 fn valued<'b>(name: &[u8], quoted: &'b [u8], room: &mut Vec<u8>) -> Result<&'b [u8], Fault>
     requires { IsTrue (is_label_name name.now) }
-    ensures label { let said = spec.valued_label name.now (plain.text_at quoted.now) in MatchResult result (λ rest. (p : Pair) × (said ≡ Some (p, rest.now)) × (p.name ≡ name.now)) (λ f. FaultIs f said) }
+    ensures label { let said = spec.valued_label name.now (plain.text_at quoted.now) in MatchResult result (λ r. IsLabelOf name.now said r.now) (λ f. FaultIs f said) }
     ensures shorter { IfOk result (λ rest. length rest.now < length quoted.now) }
 {
     let Some(value) = text_at(quoted) else {
@@ -83,7 +84,7 @@ fn valued<'b>(name: &[u8], quoted: &'b [u8], room: &mut Vec<u8>) -> Result<&'b [
 
 /// Adds the name of the label in front, and gives what follows it.
 fn push_label<'b>(text: &'b [u8], room: &mut Room<'b>) -> Result<&'b [u8], Fault>
-    ensures label { MatchResult result (λ rest. (p : Pair) × (spec.label_at text.now ≡ Some (p, rest.now)) × (room.new ≡ room.old ++ p.name ∷ [])) (λ f. FaultIs f (spec.label_at text.now)) }
+    ensures label { let said = spec.label_at text.now in MatchResult result (λ r. AddsLabel said r.now room.old room.new) (λ f. FaultIs f said) }
     ensures shorter { IfOk result (λ rest. length rest.now < length text.now) }
 {
     let Some(name) = name_at(text) else {
@@ -104,7 +105,7 @@ fn push_label<'b>(text: &'b [u8], room: &mut Room<'b>) -> Result<&'b [u8], Fault
 
 /// Adds the names of the labels in front, one at least, and gives what follows the `}` behind them.
 fn push_labels<'b>(text: &'b [u8], room: &mut Room<'b>) -> Result<&'b [u8], Fault>
-    ensures labels { let said = spec.labels_at (length text.now + 1) text.now in MatchResult result (λ rest. (more : List Pair) × (said ≡ Some (more, rest.now)) × (room.new ≡ room.old ++ names_of more)) (λ f. FaultIs f said) }
+    ensures labels { let said = spec.labels_at (length text.now + 1) text.now in MatchResult result (λ r. AddsLabels said r.now room.old room.new) (λ f. FaultIs f said) }
     ensures shorter { IfOk result (λ rest. length rest.now < length text.now) }
 {
     let mut left = text;
@@ -123,7 +124,7 @@ fn push_labels<'b>(text: &'b [u8], room: &mut Room<'b>) -> Result<&'b [u8], Faul
 /// What follows a `}`.
 fn closed(text: &[u8]) -> Result<&[u8], Fault>
     ensures shorter { IfOk result (λ rest. length rest.now < length text.now) }
-    ensures rest { MatchResult result (λ rest. plain.mark_at 125 text.now ≡ Some rest.now) (λ f. (f ≡ Fault.Faulty) × (plain.mark_at 125 text.now ≡ None)) }
+    ensures rest { let said = plain.mark_at 125 text.now in MatchResult result (λ r. said ≡ Some r.now) (λ f. (f ≡ Fault.Faulty) × (said ≡ None)) }
 {
     match mark_at(b'}', text) {
         Some(rest) => Ok(rest),
@@ -133,7 +134,7 @@ fn closed(text: &[u8]) -> Result<&[u8], Fault>
 
 /// What follows the labels behind a `{` and the `}` behind them; none of them is given twice. The room has their names then.
 pub fn braced<'b>(alloc: Global, text: &'b [u8], room: &mut Room<'b>) -> Result<&'b [u8], Fault>
-    ensures labels { let said = spec.braced text.now in MatchResult result (λ rest. (labels : List Pair) × (said ≡ Some (labels, rest.now)) × (room.new ≡ names_of labels)) (λ f. FaultIs f said) }
+    ensures labels { let said = spec.braced text.now in MatchResult result (λ r. HasLabels said r.now room.new) (λ f. FaultIs f said) }
     ensures shorter { IfOk result (λ rest. length rest.now < length text.now) }
 {
     room.names.clear();

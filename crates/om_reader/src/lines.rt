@@ -1,11 +1,10 @@
 //! The samples of lines.
-ghost use Rattle.std.specs.Prelude.{◌≡◌, ◌≤◌, ◌<◌, ◌==◌, ◌&&◌, ℕ, List, length, not, slice_index, IfNone, IfOk, IfSome, IsTrue, MatchOption, MatchResult, None, Some, option_map};
+ghost use Rattle.std.specs.Prelude.{◌≡◌, ◌≤◌, ◌<◌, ◌==◌, ◌&&◌, length, not, slice_index, IfNone, IfOk, IfSome, IsTrue, MatchOption, MatchResult, None, Some, option_map};
 ghost use Rattle.label_set.specs.Bytes.{is_metric_name};
-ghost use Rattle.label_set.specs.declared.texts.Pair.{Pair};
 ghost use Rattle.expo_reader.specs.Texts as plain;
 ghost use Rattle.om_reader.specs.Faults.{FaultIs};
 ghost use Rattle.om_reader.specs.Forms as spec;
-ghost use Rattle.om_reader.specs.Forms.{Sample};
+ghost use Rattle.om_reader.specs.Reads.{IsBehindLabels, IsFaultBehind, IsSampleOf};
 ghost use Rattle.om_reader.specs.Timestamps.{millis_of};
 
 use crate::faults::Fault;
@@ -35,7 +34,7 @@ fn has_stamp(text: &[u8]) -> bool
 /// A space, a value, and a space and a timestamp or nothing.
 #[tactic(auto, unfolding(crate::specs::Forms::measure_at, crate::specs::Forms::stamp_at))]
 fn measure_at(text: &[u8]) -> Option<Measure<'_>>
-    ensures { MatchOption result (spec.measure_at text.now ≡ None) (λ m. spec.measure_at text.now ≡ Some (m.value.now, option_map millis_of m.stamp, m.rest.now)) }
+    ensures { let said = spec.measure_at text.now in MatchOption result (said ≡ None) (λ m. said ≡ Some (m.value.now, option_map millis_of m.stamp, m.rest.now)) }
 {
     let Some(field) = field_at(text) else {
         return None;
@@ -113,7 +112,7 @@ fn metric_at(line: &[u8]) -> Option<Part<'_>>
 
 /// What follows the name of a line, or the labels behind it in braces, none of which is `__name__`.
 fn after_labels<'b>(alloc: Global, rest: &'b [u8], room: &mut Room<'b>) -> Result<&'b [u8], Fault>
-    ensures said { MatchResult result (λ r. (labels : List Pair) × ((line name : List ℕ) → spec.after_name line name rest.now (plain.mark_at 123 rest.now) ≡ spec.cut line name labels r.now)) (λ f. (line name : List ℕ) → FaultIs f (spec.after_name line name rest.now (plain.mark_at 123 rest.now))) }
+    ensures said { MatchResult result (λ r. IsBehindLabels rest.now r.now) (IsFaultBehind rest.now) }
     ensures shorter { IfOk result (λ r. length r.now ≤ length rest.now) }
 {
     let Some(inside) = mark_at(b'{', rest) else {
@@ -131,7 +130,7 @@ fn after_labels<'b>(alloc: Global, rest: &'b [u8], room: &mut Room<'b>) -> Resul
 
 /// The sample of a line.
 pub fn sample_at<'b>(alloc: Global, line: &'b [u8], room: &mut Room<'b>) -> Result<Line<'b>, Fault>
-    ensures { let said = spec.sample_at line.now in MatchResult result (λ l. (s : Sample) × (said ≡ Some s) × (s.raw ≡ l.raw.now) × (s.value ≡ l.value.now) × (s.stamp ≡ option_map millis_of l.stamp)) (λ f. FaultIs f said) }
+    ensures { let said = spec.sample_at line.now in MatchResult result (λ l. IsSampleOf l.raw.now l.value.now (option_map millis_of l.stamp) said) (λ f. FaultIs f said) }
 {
     let Some(name) = metric_at(line) else {
         return Err(Fault::Faulty);

@@ -111,7 +111,12 @@ const FIRST: [(&str, i64, Kind, Option<&str>); 7] = [
     ("up", 0, Kind::Report, Some("1")),
     ("scrape_duration_seconds", 0, Kind::Report, Some("0.015")),
     ("scrape_samples_scraped", 0, Kind::Report, Some("2")),
-    ("scrape_samples_post_metric_relabeling", 0, Kind::Report, Some("2")),
+    (
+        "scrape_samples_post_metric_relabeling",
+        0,
+        Kind::Report,
+        Some("2"),
+    ),
     ("scrape_series_added", 0, Kind::Report, Some("2")),
 ];
 
@@ -166,10 +171,22 @@ const LATE: [(&str, i64, &str); 22] = [
     ("up", 359_999, "9 60000 up{job=\"j\"} 1\n"),
     ("up", 360_000, ""),
     ("up", 420_000, ""),
-    ("w", -9_223_372_036_854_775_808, "20 -9223372036854775808 w{job=\"j\"} 1\n"),
-    ("w", -9_223_372_036_854_475_809, "20 -9223372036854775808 w{job=\"j\"} 1\n"),
+    (
+        "w",
+        -9_223_372_036_854_775_808,
+        "20 -9223372036854775808 w{job=\"j\"} 1\n",
+    ),
+    (
+        "w",
+        -9_223_372_036_854_475_809,
+        "20 -9223372036854775808 w{job=\"j\"} 1\n",
+    ),
     ("w", -9_223_372_036_854_475_808, ""),
-    ("w", 9_223_372_036_854_775_807, "21 9223372036854775807 w{job=\"j\"} 2\n"),
+    (
+        "w",
+        9_223_372_036_854_775_807,
+        "21 9223372036854775807 w{job=\"j\"} 2\n",
+    ),
 ];
 
 fn value_of(
@@ -257,7 +274,12 @@ fn expect_rows(
     for row in &rows.items {
         push_row(alloc, &mut text, row)?;
     }
-    assert!(rt; text.as_slice() == query.2.as_bytes(), "{} at {}", query.0, query.1);
+    assert!(rt;
+        text.as_slice() == query.2.as_bytes(),
+        "{} at {}",
+        query.0,
+        query.1
+    );
     Ok(())
 }
 

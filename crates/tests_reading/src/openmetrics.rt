@@ -187,14 +187,22 @@ fn timestamps_become_milliseconds(rt: HostRuntime) -> Result<(), Fail> {
         let Ok(converted) = shown(rt.alloc(), body.as_slice()) else {
             panic!(rt; "there is memory");
         };
-        assert_eq!(rt; converted.as_slice(), wanted(rt.alloc(), millis)?.as_slice(), "{stamp}");
+        assert_eq!(rt;
+            converted.as_slice(),
+            wanted(rt.alloc(), millis)?.as_slice(),
+            "{stamp}"
+        );
     }
     for (stamp, zeros, millis) in long {
         let body = stamped(rt.alloc(), stamp, zeros)?;
         let Ok(converted) = shown(rt.alloc(), body.as_slice()) else {
             panic!(rt; "there is memory");
         };
-        assert_eq!(rt; converted.as_slice(), wanted(rt.alloc(), millis)?.as_slice(), "{stamp}");
+        assert_eq!(rt;
+            converted.as_slice(),
+            wanted(rt.alloc(), millis)?.as_slice(),
+            "{stamp}"
+        );
     }
     Ok(())
 }

@@ -19,8 +19,8 @@ use std::test::Fail;
 use std::time::{self, Duration};
 use std::{io, thread};
 
-const TEXT: &str =
-    "GET /metrics?a=b HTTP/1.1\r\nHost: a:1\r\nAccept: text/plain;version=0.0.4;q=1,*/*;q=0.1\r\n\
+const TEXT: &str = "GET /metrics?a=b HTTP/1.1\r\nHost: a:1\r\n\
+Accept: application/openmetrics-text;version=1.0.0;q=1,text/plain;version=0.0.4;q=0.8,*/*;q=0.1\r\n\
 Accept-Encoding: identity\r\nUser-Agent: scrape/1\r\nX-Prometheus-Scrape-Timeout-Seconds: 1.500\r\n\
 Connection: close\r\n\r\n";
 

@@ -27,7 +27,7 @@ fn cut(alloc: Global, text: &str, at: usize, limit: u64) -> Result<String, NoMem
     let (front, rest) = bytes.split_at(at.min(bytes.len()));
     decoder.feed(front)?;
     decoder.feed(rest)?;
-    show(alloc, &decoder.end())
+    show(alloc, &decoder.end(alloc)?)
 }
 
 /// What is told of a whole reply.
@@ -53,7 +53,7 @@ fn told_otherwise(
 /// What is told of a reply that is read from a link.
 fn received(alloc: Global, text: &str, limit: u64) -> Result<String, NoMemory> {
     let mut link = SureLink::new(Blob::from_slice(alloc, text.as_bytes())?)?;
-    show(alloc, &receive(alloc, &mut link, limit.min(9))?)
+    show(alloc, &receive(alloc, &mut link, limit.min(19))?)
 }
 
 const CHUNKED: &str =
@@ -158,6 +158,53 @@ const REPLIES: &[(&str, u64, &str)] = &[
         "HTTP/1.1 099 OK\r\n\r\nHTTP/1.1 200 OK\r\n\r\n",
         2,
         "garbled",
+    ),
+    // Bodies of OpenMetrics.
+    (
+        "HTTP/1.1 200 OK\r\nContent-Type: application/openmetrics-text; version=1.0.0\r\n\r\na 1 2 # {} 1\n# EOF\n",
+        19,
+        "200 [a 1 2000\n]",
+    ),
+    (
+        "HTTP/1.1 200 OK\r\ncontent-type: \t Application/OpenMetrics-Text \t ;\r\nContent-Length: 5\r\n\r\n# EOF",
+        9,
+        "200 []",
+    ),
+    (
+        "HTTP/1.1 100 Go on\r\nContent-Type: text/plain\r\n\r\nHTTP/1.1 200 OK\r\n\
+Content-Type: application/openmetrics-text\r\nTransfer-Encoding: chunked\r\n\r\n4\r\na 1\n\r\n6\r\n# EOF\n\r\n0\r\n\r\n",
+        19,
+        "200 [a 1\n]",
+    ),
+    (
+        "HTTP/1.1 200 OK\r\nContent-Type: application/openmetrics-text\r\n\r\na 1\n",
+        9,
+        "garbled",
+    ),
+    (
+        "HTTP/1.1 200 OK\r\nContent-Type: application/openmetrics-text\r\n\r\na 1 9e9\n# EOF",
+        13,
+        "oversize",
+    ),
+    (
+        "HTTP/1.1 200 OK\r\nContent-Type: application/openmetrics-text\r\n\r\na 1\n# EOF\n",
+        9,
+        "oversize",
+    ),
+    (
+        "HTTP/1.1 200 OK\r\nContent-Type: text/plain\r\nContent-Type: application/openmetrics-text\r\n\r\na 1\n",
+        9,
+        "200 [a 1\n]",
+    ),
+    (
+        "HTTP/1.1 200 OK\r\nContent-Type: application/openmetrics-texts\r\n\r\na 1\n",
+        9,
+        "200 [a 1\n]",
+    ),
+    (
+        "HTTP/1.1 404 Not Found\r\nContent-Type: application/openmetrics-text\r\n\r\na 1\n",
+        9,
+        "404 []",
     ),
     ("", 2, "garbled"),
 ];

@@ -1,4 +1,4 @@
-use Rattle.http_fetch.proofs.UniqueLemmas.{one-reply}
+use Rattle.http_fetch.proofs.ReplyLemmas.{one-reply}
 use Rattle.http_fetch.proofs.laws.one_reply.Goals as goal
 
 pub returns : goal.returns

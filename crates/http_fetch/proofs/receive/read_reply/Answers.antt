@@ -1,5 +1,6 @@
 use Rattle.std.proofs.Common.{ℕ, Ok, ap, arith, length, ◌≡◌, ◌++◌}
-use Rattle.http_fetch.proofs.LimitLemmas.{http-limits}
+use Rattle.std.proofs.lemmas.Result.{IfOk-weaker}
+use Rattle.http_fetch.proofs.ReplyLemmas.{http-limits}
 use Rattle.http_fetch.proofs.ReceiveLemmas.{of-room, none-of-room, len-of-room, read-none, read-more, reply-end, reply-done, reply-last}
 use Rattle.http_fetch.proofs.receive.read_reply.Goals as goal
 
@@ -13,13 +14,15 @@ returns-then-count-eq0-clause-reply g c =
     let m = g.L.Link.seen c.loop-read.link in
     let e = g.L.Link.seen c.read.new.self in
     let gave = none-of-room m e c.in-Ok.count c.read.new.room c.if-count-eq0.true c.in-Ok.ensures.gave in
-    reply-end a m e c.loop-read.decoder c.args.decoder.limit c.loop-read.read c.end.result r gave
-    (c.in-Ok.ensures.end (ap (λ (n : ℕ). Ok n) c.if-count-eq0.true)) (c.end.ensures.reply c.args.decoder.limit r.bytes r.stands)
+    IfOk-weaker c.end.result _ _
+    (λ reply h. reply-end a m e c.loop-read.decoder c.args.decoder.limit c.loop-read.read reply r gave
+    (c.in-Ok.ensures.end (ap (λ (n : ℕ). Ok n) c.if-count-eq0.true)) (h c.args.decoder.limit r.bytes r.stands))
+    c.end.ensures.reply
 
 pub returns-then-count-eq0-clause-limits : goal.returns-then-count-eq0-clause-limits
 returns-then-count-eq0-clause-limits g c =
     let r = c.loop-read.invariant in
-    http-limits r.bytes c.args.decoder.limit c.end.result c.requires.limit (c.end.ensures.reply c.args.decoder.limit r.bytes r.stands)
+    IfOk-weaker c.end.result _ _ (λ reply h. http-limits r.bytes c.args.decoder.limit reply c.requires.limit (h c.args.decoder.limit r.bytes r.stands)) c.end.ensures.reply
 
 pub returns-in-Done-clause-reply : goal.returns-in-Done-clause-reply
 returns-in-Done-clause-reply g c =
@@ -28,15 +31,19 @@ returns-in-Done-clause-reply g c =
     let m = g.L.Link.seen c.loop-read.link in
     let e = g.L.Link.seen c.read.new.self in
     let gave = of-room m e c.in-Ok.count c.read.new.room c.front.result.now c.front.ensures c.in-Ok.ensures.gave in
-    reply-done a m e c.loop-read.decoder c.args.decoder.limit c.loop-read.read c.front.result.now c.end-in-Done.result r gave
-    (c.end-in-Done.ensures.reply c.args.decoder.limit _ (c.in_ok-feed.ensures.stands c.args.decoder.limit r.bytes r.stands))
-    (c.in_ok-feed.ensures.done (ap (λ x. Ok x) c.in-Done.is) c.args.decoder.limit r.bytes r.stands)
+    IfOk-weaker c.end-in-Done.result _ _
+    (λ reply h. reply-done a m e c.loop-read.decoder c.args.decoder.limit c.loop-read.read c.front.result.now reply r gave
+    (h c.args.decoder.limit (r.bytes ++ c.front.result.now) (c.in_ok-feed.ensures.stands c.args.decoder.limit r.bytes r.stands))
+    (c.in_ok-feed.ensures.done (ap (λ x. Ok x) c.in-Done.is) c.args.decoder.limit r.bytes r.stands))
+    c.end-in-Done.ensures.reply
 
 pub returns-in-Done-clause-limits : goal.returns-in-Done-clause-limits
 returns-in-Done-clause-limits g c =
     let r = c.loop-read.invariant in
-    http-limits (r.bytes ++ c.front.result.now) c.args.decoder.limit c.end-in-Done.result c.requires.limit
-    (c.end-in-Done.ensures.reply c.args.decoder.limit _ (c.in_ok-feed.ensures.stands c.args.decoder.limit r.bytes r.stands))
+    IfOk-weaker c.end-in-Done.result _ _
+    (λ reply h. http-limits (r.bytes ++ c.front.result.now) c.args.decoder.limit reply c.requires.limit
+    (h c.args.decoder.limit (r.bytes ++ c.front.result.now) (c.in_ok-feed.ensures.stands c.args.decoder.limit r.bytes r.stands)))
+    c.end-in-Done.ensures.reply
 
 pub loop-read-preserved : goal.loop-read-preserved
 loop-read-preserved g c =
