@@ -2,7 +2,7 @@
 //! docs/TESTED.md tells how many calls these are.
 ghost use Rattle.std.specs.Prelude.{◌≡◌, vec_len, IfOk};
 
-use super::live::{LINES, LISTING, Put, replayed, replays, stored};
+use super::live::{LIMITED, LINES, LISTING, Put, TWO, replayed, replays, stored};
 use super::{ROOM, Ran, fails, files, means_of, still, words_of};
 use crate::tool::{Finished, tool};
 use label_set::{Blob, NoMemory};
@@ -66,11 +66,36 @@ impl Failing {
     }
 }
 
-fn files_of_run(alloc: Global) -> Result<FileList, NoMemory> {
+/// What a run is given: how many sweeps it makes, its files, and its control lines.
+struct Row {
+    turns: &'static str,
+    files: &'static [(&'static str, &'static str)],
+    lines: &'static str,
+}
+
+/// Control lines of each kind, and a reload of two targets with a limit of one.
+const ROWS: [Row; 2] = [
+    Row {
+        turns: "3",
+        files: &[
+            ("c.json", LISTING),
+            ("f.json", r#"[{"targets":["c:1"]}]"#),
+            ("bad.json", "{"),
+        ],
+        lines: LINES,
+    },
+    Row {
+        turns: "2",
+        files: &[("c.json", TWO), ("d.json", LIMITED)],
+        lines: "load d.json\n",
+    },
+];
+
+fn files_of_run(alloc: Global, row: &Row) -> Result<FileList, NoMemory> {
     let mut items = Vec::new(alloc);
-    items.push(stored(alloc, "c.json", LISTING)?)?;
-    items.push(stored(alloc, "f.json", r#"[{"targets":["c:1"]}]"#)?)?;
-    items.push(stored(alloc, "bad.json", "{")?)?;
+    for (name, text) in row.files {
+        items.push(stored(alloc, name, text)?)?;
+    }
     Ok(FileList { items })
 }
 
@@ -82,9 +107,9 @@ struct Inputs {
     clock: MemClock,
 }
 
-fn inputs_of(alloc: Global, failing: Failing) -> Result<Inputs, NoMemory> {
-    let shelf = MemShelf::new(files_of_run(alloc)?, failing.of(alloc, Object::Shelf)?)?;
-    let lines = Blob::from_slice(alloc, LINES.as_bytes())?;
+fn inputs_of(alloc: Global, row: &Row, failing: Failing) -> Result<Inputs, NoMemory> {
+    let shelf = MemShelf::new(files_of_run(alloc, row)?, failing.of(alloc, Object::Shelf)?)?;
+    let lines = Blob::from_slice(alloc, row.lines.as_bytes())?;
     let control = MemSource::new(lines, failing.of(alloc, Object::Control)?)?;
     let items = vec![in alloc; 0, 0, 60_000, 120_000]?;
     let clock = MemClock::new(MomentList { items })?;
@@ -107,19 +132,20 @@ fn outputs_of(alloc: Global, failing: Failing) -> Result<Put, NoMemory> {
     })
 }
 
-/// Runs `run --turns 3 c.json` with control lines of each kind.
+/// Runs `run --turns TURNS c.json`.
 fn run_failing<W: Threads + Wait + Sync>(
     rt: &W,
     means: Means,
+    row: &Row,
     failing: Failing,
 ) -> Result<Put, Fail> {
     let alloc = means.alloc;
-    let words = words_of(alloc, &["run", "--turns", "3", "c.json"])?;
+    let words = words_of(alloc, &["run", "--turns", row.turns, "c.json"])?;
     let Inputs {
         mut shelf,
         control,
         clock,
-    } = inputs_of(alloc, failing)?;
+    } = inputs_of(alloc, row, failing)?;
     let mut put = outputs_of(alloc, failing)?;
     let fetchers = failing.fetchers(alloc)?;
     let Finished { status, .. } = tool(
@@ -176,11 +202,12 @@ fn assert_run(rt: &impl Abort, means: Means, failing: Failing, put: &Put) -> Res
 fn failing_runs<W: Threads + Wait + Sync + Abort>(
     rt: &W,
     means: Means,
+    row: &Row,
     object: Object,
 ) -> Result<u64, Fail> {
     for call in 0..MOST_CALLS {
         let failing = Failing { object, call };
-        let put = run_failing(rt, means, failing)?;
+        let put = run_failing(rt, means, row, failing)?;
         if put.status == 0 {
             replays(rt, means, &put)?;
             return Ok(call);
@@ -277,22 +304,27 @@ fn each_call_of_a_replay_fails_in_turn(rt: HostRuntime) -> Result<(), Fail> {
     Ok(())
 }
 
+/// How many calls of each object fail in turn, in each row.
+const CALLS: [(Object, [u64; 2]); 5] = [
+    (Object::Shelf, [9, 2]),
+    (Object::Out, [1, 1]),
+    (Object::Err, [5, 0]),
+    (Object::Trail, [1, 1]),
+    (Object::Control, [2, 2]),
+];
+
 #[test]
 fn each_call_of_a_run_fails_in_turn(rt: HostRuntime) -> Result<(), Fail> {
     let means = means_of(&rt)?;
-    for (object, calls) in [
-        (Object::Shelf, 9),
-        (Object::Out, 1),
-        (Object::Err, 5),
-        (Object::Trail, 1),
-        (Object::Control, 2),
-    ] {
-        assert_eq!(rt; failing_runs(&rt, means, object)?, calls);
+    let [lines, reload] = &ROWS;
+    for (object, [of_lines, of_reload]) in CALLS {
+        assert_eq!(rt; failing_runs(&rt, means, lines, object)?, of_lines);
+        assert_eq!(rt; failing_runs(&rt, means, reload, object)?, of_reload);
     }
     // a fetch that fails is a lost scrape, and the run goes on
     for call in 0..4 {
         let object = Object::Fetch;
-        let put = run_failing(&rt, means, Failing { object, call })?;
+        let put = run_failing(&rt, means, reload, Failing { object, call })?;
         assert_eq!(rt; put.status, 0);
         replays(&rt, means, &put)?;
     }

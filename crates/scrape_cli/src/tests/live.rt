@@ -21,10 +21,10 @@ use std::thread::{Threads, yield_now};
 const MOST_LOOKS: u32 = 50_000_000;
 
 /// Two targets, and the same with a limit of one.
-const TWO: &str =
+pub const TWO: &str =
     r#"{"scrape_configs":[{"job_name":"j","static_configs":[{"targets":["a:1","b:1"]}]}]}"#;
 
-const LIMITED: &str =
+pub const LIMITED: &str =
     r#"{"scrape_configs":[{"job_name":"j","target_limit":1,"static_configs":[{"targets":["a:1","b:1"]}]}]}"#;
 
 /// How far a run is: how many fetches have begun, and how often control was read.
