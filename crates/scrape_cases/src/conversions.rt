@@ -59,6 +59,59 @@ foo_bucket{le="+Inf"} 17 1520879608000
 foo_count{} 17
 -- status 0
 
+== openmetrics_page_of_the_python_client
+$ convert s
+-- file s
+# HELP jobs Jobs done, by \"queue\".
+# TYPE jobs counter
+jobs_total{queue="a\\b \"c\"\nd"} 3.0 # {trace_id="abc123"} 3.0 1796056052.851473
+jobs_created{queue="a\\b \"c\"\nd"} 1.7960560528514545e+09
+jobs_total{queue="e"} 1.0
+jobs_created{queue="e"} 1.796056052851495e+09
+# HELP room_temperature_celsius Warmth
+# TYPE room_temperature_celsius gauge
+room_temperature_celsius{room="hall"} -1.5
+# HELP wait_seconds Waits
+# TYPE wait_seconds histogram
+wait_seconds_bucket{le="0.1"} 1.0 # {span="x"} 0.05 1796056052.851675
+wait_seconds_bucket{le="1.0"} 1.0
+wait_seconds_bucket{le="+Inf"} 2.0
+wait_seconds_count 2.0
+wait_seconds_sum 3.05
+wait_seconds_created 1.796056052851612e+09
+# HELP size_bytes Sizes
+# TYPE size_bytes summary
+size_bytes_count 1.0
+size_bytes_sum 17.0
+size_bytes_created 1.7960560528516984e+09
+# HELP build Build
+# TYPE build info
+build_info{goversion="x",version="1.2"} 1.0
+# HELP state State
+# TYPE state stateset
+state{state="on"} 0.0
+state{state="off"} 1.0
+# EOF
+-- out
+jobs_total{queue="a\\b \"c\"\nd"} 3.0
+jobs_created{queue="a\\b \"c\"\nd"} 1.7960560528514545e+09
+jobs_total{queue="e"} 1.0
+jobs_created{queue="e"} 1.796056052851495e+09
+room_temperature_celsius{room="hall"} -1.5
+wait_seconds_bucket{le="0.1"} 1.0
+wait_seconds_bucket{le="1.0"} 1.0
+wait_seconds_bucket{le="+Inf"} 2.0
+wait_seconds_count 2.0
+wait_seconds_sum 3.05
+wait_seconds_created 1.796056052851612e+09
+size_bytes_count 1.0
+size_bytes_sum 17.0
+size_bytes_created 1.7960560528516984e+09
+build_info{goversion="x",version="1.2"} 1.0
+state{state="on"} 0.0
+state{state="off"} 1.0
+-- status 0
+
 == openmetrics_without_samples
 $ convert s
 -- file s
