@@ -133,7 +133,7 @@ fn a_reply_is_taken_or_lost(rt: HostRuntime) -> Result<(), Fail> {
     Ok(())
 }
 
-/// Takes one connection and its request, answers in two pieces, and tells whether the request was the text.
+/// Takes one connection and its request, answers in pieces with a page of OpenMetrics, and tells whether the request was the text.
 fn serve(alloc: Global, listener: TcpListener) -> io::Result<bool> {
     let (mut stream, _) = listener.accept()?;
     let mut asked = Vec::new(alloc);
@@ -145,9 +145,12 @@ fn serve(alloc: Global, listener: TcpListener) -> io::Result<bool> {
             break;
         }
     }
-    stream.write_all(b"HTTP/1.1 200 OK\r\nTransfer-Encoding: chunked\r\n\r\n4\r\nx ")?;
+    stream.write_all(
+        b"HTTP/1.1 200 OK\r\nContent-Type: application/openmetrics-text; version=1.0.0; charset=utf-8\r\n",
+    )?;
+    stream.write_all(b"Transfer-Encoding: chunked\r\n\r\n4\r\nx ")?;
     stream.flush()?;
-    stream.write_all(b"1\n\r\n0\r\n\r\n")?;
+    stream.write_all(b"1\n\r\n6\r\n# EOF\n\r\n0\r\n\r\n")?;
     Ok(asked.as_slice() == TEXT.as_bytes())
 }
 
