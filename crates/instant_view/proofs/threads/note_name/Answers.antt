@@ -1,4 +1,4 @@
-use Rattle.std.proofs.Common.{◌≡◌, ℕ, List, Some, cond, rules}
+use Rattle.std.proofs.Common.{◌≡◌, ◌∙◌, ℕ, List, Some, ap, cond, rules}
 use Rattle.std.specs.BTreeMap.{get, is_at}
 use Rattle.label_set.specs.Bytes.{bytes_cmp}
 use Rattle.instant_view.proofs.NoteLemmas.{name_more, name_new, same_keys, with_key}
@@ -22,4 +22,7 @@ returns-in-Some-clause-others c =
 
 pub returns-clause-others : goal.returns-clause-others
 returns-clause-others c =
-    name_new c.args.named.now c.insert-3.new.self c.in_ok-name.name c.insert-2.new.self c.in_ok-insert-3.ensures.updates.0 c.in_default.ensures.value
+    let old = c.args.named.now in
+    let same : (q : List ℕ) → get bytes_cmp c.get_mut.follows.lender-at-none q ≡ get bytes_cmp old q = search rules in
+    name_new old c.insert-3.new.self c.in_ok-name.name c.insert-2.new.self
+    (λ q. c.in_ok-insert-3.ensures.updates.0 q ∙ ap (cond (is_at (bytes_cmp c.in_ok-name.name) q) (Some c.insert-2.new.self)) (same q)) c.in_default.ensures.value
