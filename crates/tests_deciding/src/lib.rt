@@ -44,6 +44,8 @@ mod conflicts;
 #[cfg(test)]
 mod endings;
 #[cfg(test)]
+mod instants;
+#[cfg(test)]
 mod replies;
 #[cfg(test)]
 mod reports;

@@ -1,0 +1,10 @@
+pub mod StepLemmas
+pub mod NameLemmas
+pub mod SoundLemmas
+pub mod CompleteLemmas
+pub mod RefusalLemmas
+pub mod LinkLemmas
+pub mod TakeLemmas
+pub mod PlaceLemmas
+pub mod RowLemmas
+pub mod ViewLemmas

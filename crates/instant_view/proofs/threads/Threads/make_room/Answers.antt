@@ -1,0 +1,17 @@
+use Rattle.std.proofs.Common.{refl}
+use Rattle.instant_view.proofs.PlaceLemmas.{threaded_same}
+use Rattle.instant_view.proofs.threads.Threads.make_room.Goals as goal
+
+pub returns-in_err-reserve-clause-threaded : goal.returns-in_err-reserve-clause-threaded
+returns-in_err-reserve-clause-threaded c =
+    threaded_same c.args.self.now (record { kept = c.reserve.new.self; links = c.args.self.now.links; ends = c.args.self.now.ends }) c.requires c.reserve.ensures.items refl (λ s. refl)
+
+pub returns-in_err-reserve-2-clause-threaded : goal.returns-in_err-reserve-2-clause-threaded
+returns-in_err-reserve-2-clause-threaded c =
+    threaded_same c.args.self.now (record { kept = c.reserve.new.self; links = c.reserve-2.new.self; ends = c.args.self.now.ends }) c.requires c.reserve.ensures.items
+    c.reserve-2.ensures.items (λ s. refl)
+
+pub returns-clause-threaded : goal.returns-clause-threaded
+returns-clause-threaded c =
+    threaded_same c.args.self.now (record { kept = c.reserve.new.self; links = c.reserve-2.new.self; ends = c.make_places.new.ends }) c.requires c.reserve.ensures.items
+    c.reserve-2.ensures.items c.make_places.ensures.same

@@ -1,0 +1,218 @@
+//! The kept entries of a view, with an index of their series.
+ghost use Rattle.std.specs.Prelude.{◌≡◌, ◌+◌, ◌≤ℤ◌, ◌++◌, ◌∷◌, [], All, List, ℕ, length, if◌then◌else◌, IfOk, OnOk, IsSome};
+ghost use Rattle.std.specs.BTreeMap.{get};
+ghost use Rattle.std.specs.Ordering.{is_eq};
+ghost use Rattle.label_set.specs.Sets.{set_cmp};
+ghost use Rattle.label_set.specs.declared.texts.Pair.{Pair};
+ghost use Rattle.instant_view.specs.Threads as spec;
+
+use crate::links::{Link, end_by, link_behind};
+use crate::rows::{Placed, ViewRow};
+use crate::selector::Selecting;
+use label_set::{LabelSet, NoMemory};
+use std::alloc::Global;
+use std::collections::BTreeMap;
+
+/// An entry is seen for less than so many milliseconds.
+const LOOKBACK: u64 = 300_000;
+
+/// Kept entries, each with links to earlier ones of its series, and the end of the last one of each series.
+#[derive(Drop)]
+pub struct Threads {
+    pub kept: Vec<Placed>,
+    links: Vec<Link>,
+    ends: BTreeMap<LabelSet, usize>,
+}
+
+/// Makes a place for the end of a series.
+fn make_place(ends: &mut BTreeMap<LabelSet, usize>, series: &LabelSet) -> Result<(), NoMemory>
+    ensures ok { OnOk result (IsSome (get set_cmp ends.new series.now)) }
+    ensures places { (s : List Pair) → IsSome (get set_cmp ends.old s) → IsSome (get set_cmp ends.new s) }
+    ensures same { (s : List Pair) → spec.end_of ends.new s ≡ spec.end_of ends.old s }
+{
+    if ends.contains_key(series) {
+        return Ok(());
+    }
+    let series = series.copy()?;
+    ends.insert(series, 0)?;
+    Ok(())
+}
+
+/// Makes places for the ends of the series of entries.
+fn make_places(ends: &mut BTreeMap<LabelSet, usize>, fresh: &[Placed]) -> Result<(), NoMemory>
+    ensures ok { OnOk result (All (spec.HasPlace ends.new) fresh.now) }
+    ensures same { (s : List Pair) → spec.end_of ends.new s ≡ spec.end_of ends.old s }
+{
+    for placed in fresh {
+        make_place(ends, &placed.entry.series)?;
+    }
+    Ok(())
+}
+
+/// Notes the end of the last entry of a series, and gives the one before.
+fn renew(ends: &mut BTreeMap<LabelSet, usize>, series: &LabelSet, end: usize) -> usize
+    requires { IsSome (get set_cmp ends.old series.now) }
+    ensures before { result ≡ spec.end_of ends.old series.now }
+    ensures ends { (s : List Pair) → spec.end_of ends.new s ≡ (if is_eq (set_cmp series.now s) then end else spec.end_of ends.old s) }
+    ensures places { (s : List Pair) → IsSome (get set_cmp ends.old s) → IsSome (get set_cmp ends.new s) }
+{
+    match ends.get_mut(series) {
+        Some(last) => {
+            let before = *last;
+            *last = end;
+            before
+        }
+        None => 0,
+    }
+}
+
+/// The row of an entry that isn't later than a moment, where it is seen then.
+fn row_of(alloc: Global, placed: &Placed, moment: i64) -> Result<Option<ViewRow>, NoMemory>
+    requires { placed.now.entry.moment ≤ℤ moment }
+    ensures { IfOk result (λ o. spec.IsSeenAs moment placed.now o) }
+{
+    let entry = &placed.entry;
+    let Some(value) = &entry.value else {
+        return Ok(None);
+    };
+    if moment.abs_diff(entry.moment) >= LOOKBACK {
+        return Ok(None);
+    }
+    let series = entry.series.copy()?;
+    let value = value.copy(alloc)?;
+    Ok(Some(ViewRow {
+        place: placed.place,
+        series,
+        moment: entry.moment,
+        value,
+    }))
+}
+
+/// Adds a row, if there is one.
+fn push_row(rows: &mut Vec<ViewRow>, row: Option<ViewRow>) -> Result<(), NoMemory>
+    ensures { OnOk result (rows.new.items ≡ rows.old.items ++ spec.listed row) }
+{
+    if let Some(row) = row {
+        rows.push(row)?;
+    }
+    Ok(())
+}
+
+impl Threads {
+    /// The index of no entries. It takes no memory.
+    pub fn new(alloc: Global) -> Threads
+        ensures kept { result.kept.items ≡ [] }
+        ensures threaded { spec.IsThreaded result }
+    {
+        Threads {
+            kept: Vec::new(alloc),
+            links: Vec::new(alloc),
+            ends: BTreeMap::new(alloc),
+        }
+    }
+
+    /// Makes room for entries.
+    pub fn make_room(&mut self, fresh: &[Placed]) -> Result<(), NoMemory>
+        requires { spec.IsThreaded self.old }
+        ensures kept { self.new.kept.items ≡ self.old.kept.items }
+        ensures threaded { spec.IsThreaded self.new }
+        ensures room { OnOk result (spec.HasRoom (length fresh.now) self.new) }
+        ensures places { OnOk result (All (spec.HasPlace self.new.ends) fresh.now) }
+    {
+        self.kept.reserve(fresh.len())?;
+        self.links.reserve(fresh.len())?;
+        make_places(&mut self.ends, fresh)
+    }
+
+    /// Takes an entry in, into room that was made before.
+    fn take_one(&mut self, placed: Placed)
+        requires threaded { spec.IsThreaded self.old }
+        requires rise { spec.Rise (self.old.kept.items ++ placed ∷ []) }
+        requires room { spec.HasRoom 1 self.old }
+        requires place { spec.HasPlace self.old.ends placed }
+        ensures kept { self.new.kept.items ≡ self.old.kept.items ++ placed ∷ [] }
+        ensures threaded { spec.IsThreaded self.new }
+        ensures room { (n : ℕ) → spec.HasRoom (n + 1) self.old → spec.HasRoom n self.new }
+        ensures places { (p : Placed) → spec.HasPlace self.old.ends p → spec.HasPlace self.new.ends p }
+    {
+        let end = self.kept.len() + 1;
+        let last = renew(&mut self.ends, &placed.entry.series, end);
+        let link = link_behind(&self.links, last);
+        self.links.push_reserved(link);
+        self.kept.push_reserved(placed);
+    }
+
+    /// Takes entries in, into room that was made before.
+    pub fn take_in(&mut self, fresh: Vec<Placed>)
+        requires threaded { spec.IsThreaded self.old }
+        requires rise { spec.Rise (self.old.kept.items ++ fresh.items) }
+        requires room { spec.HasRoom (length fresh.items) self.old }
+        requires places { All (spec.HasPlace self.old.ends) fresh.items }
+        ensures kept { self.new.kept.items ≡ self.old.kept.items ++ fresh.items }
+        ensures threaded { spec.IsThreaded self.new }
+    {
+        let mut fresh = fresh;
+        fresh.reverse();
+        while let Some(placed) = fresh.pop() {
+            self.take_one(placed);
+        }
+    }
+
+    /// The row of a series, where this is the end of its last entry.
+    fn row_of_series(
+        &self,
+        alloc: Global,
+        end: usize,
+        moment: i64,
+    ) -> Result<Option<ViewRow>, NoMemory>
+        requires { spec.IsThreaded self.now }
+        ensures { (series : List Pair) → spec.IsLastOf self.now.kept.items series (length self.now.kept.items) end → IfOk result (λ o. spec.IsRowOf self.now.kept.items moment series o) }
+    {
+        let end = end_by(&self.kept, &self.links, end, moment);
+        let Some(place) = end.checked_sub(1) else {
+            return Ok(None);
+        };
+        match self.kept.get(place) {
+            None => Ok(None),
+            Some(placed) => row_of(alloc, placed, moment),
+        }
+    }
+
+    /// The row of a series that a selector selects, where this is the end of its last entry.
+    fn selected_row(
+        &self,
+        alloc: Global,
+        selecting: &mut Selecting<'_>,
+        series: &LabelSet,
+        end: usize,
+        moment: i64,
+    ) -> Result<Option<ViewRow>, NoMemory>
+        requires threaded { spec.IsThreaded self.now }
+        requires last { spec.IsLastOf self.now.kept.items series.now (length self.now.kept.items) end }
+        ensures row { IfOk result (λ o. spec.IsSelectedRow self.now.kept.items selecting.old moment series.now o) }
+        ensures same { selecting.new ≡ selecting.old }
+    {
+        if !selecting.selects(alloc, series)? {
+            return Ok(None);
+        }
+        self.row_of_series(alloc, end, moment)
+    }
+
+    /// The rows of the series that a selector selects, by rising label set.
+    pub fn rows(
+        &self,
+        alloc: Global,
+        selecting: &mut Selecting<'_>,
+        moment: i64,
+    ) -> Result<Vec<ViewRow>, NoMemory>
+        requires { spec.IsThreaded self.now }
+        ensures { IfOk result (λ v. spec.IsGathered self.now.kept.items selecting.old moment v.items) }
+    {
+        let mut rows = Vec::new(alloc);
+        for (series, end) in &self.ends {
+            let row = self.selected_row(alloc, selecting, series, *end, moment)?;
+            push_row(&mut rows, row)?;
+        }
+        Ok(rows)
+    }
+}
