@@ -2,6 +2,14 @@
 use Rattle.std.specs.Prelude.{ℕ, List, Bool}
 use Rattle.command_words.specs.declared.words.Command.{Command}
 
+-- a moment in milliseconds, and the text of a selector
+pub record Instant : Type 0 where
+  pub moment : ℕ
+  pub selector : List ℕ
+
+abbrev pub instant : ℕ → List ℕ → Instant
+instant moment selector = record { moment = moment; selector = selector }
+
 -- a command over a file, whether with `--kept`, and the name of its file
 pub record Asking : Type 0 where
   pub command : Command

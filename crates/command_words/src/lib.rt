@@ -7,4 +7,4 @@ pub mod arguments;
 pub mod words;
 
 pub use arguments::{WordsError, asked_in, order_in};
-pub use words::{Asked, Command, Live, OfFile, Order, Verb, Workload, limit_of};
+pub use words::{Asked, Command, Live, OfFile, Order, Verb, Viewing, Workload, limit_of};

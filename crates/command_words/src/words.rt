@@ -1,7 +1,7 @@
 //! What the program can be asked for.
 ghost use Rattle.std.specs.Prelude.{◌≡◌, ◌≤◌, ◌<◌, ◌*◌, ◌^◌};
 ghost use Rattle.synth.specs.Scripts.{plan, most_targets, most_scrapes, most_scrapes_of_all};
-ghost use Rattle.command_words.specs.Askings.{running};
+ghost use Rattle.command_words.specs.Askings.{instant, running};
 ghost use Rattle.command_words.specs.Words as spec;
 ghost use Rattle.command_words.specs.declared.words.Order.TheVariants as order;
 
@@ -15,25 +15,64 @@ pub enum Verb {
     Replay,
     Check,
     Convert,
+    At,
     Synth,
     Run,
 }
 
+/// What `at` looks for: a selector, and a moment in milliseconds, below 2^52.
+#[derive(Drop, Debug)]
+pub struct Viewing<'a> {
+    moment: u64,
+    selector: &'a str,
+}
+
+impl<'a> Model for Viewing<'a> {
+    ghost use Rattle.command_words.specs.Askings.{Instant};
+
+    ghost Value = { Instant };
+
+    ghost use Rattle.std.specs.Prelude.{◌<◌, ◌^◌};
+
+    ghost view = { λ v. record { moment = v.moment; selector = v.selector.now } };
+
+    ghost invariant = { λ v. v.moment < 2 ^ 52 };
+}
+
+impl<'a> Viewing<'a> {
+    /// The moment in milliseconds.
+    pub fn moment(&self) -> u64
+        ensures moment { result ≡ self.now.moment }
+        ensures range { result < 2 ^ 52 }
+    {
+        self.moment
+    }
+
+    /// The text of the selector.
+    pub fn selector(&self) -> &'a str
+        ensures { result.now ≡ self.now.selector }
+    {
+        self.selector
+    }
+}
+
 /// The commands over a file.
-#[derive(Clone, Copy, PartialEq, Eq, Debug)]
-pub enum Command {
+#[derive(Drop, Debug)]
+pub enum Command<'a> {
     /// Replay the script in a file; of one that may have been cut, what it begins with.
     Replay { cut: bool },
     /// Check the configuration in a file.
     Check,
     /// Convert the OpenMetrics body in a file.
     Convert,
+    /// Tell what a selector sees at a moment in the book of the script in a file.
+    At(Viewing<'a>),
 }
 
 /// A command with its flag, and the name of its file.
 #[derive(Drop, Debug)]
 pub struct OfFile<'a> {
-    pub command: Command,
+    pub command: Command<'a>,
     /// Whether each line of a book has the verdict in front.
     pub kept: bool,
     pub file: &'a str,
@@ -164,6 +203,8 @@ pub fn verb_named(word: &str) -> Option<Verb>
         Some(Verb::Check)
     } else if word == "convert" {
         Some(Verb::Convert)
+    } else if word == "at" {
+        Some(Verb::At)
     } else if word == "synth" {
         Some(Verb::Synth)
     } else if word == "run" {
@@ -204,12 +245,20 @@ pub fn live_of<'a>(turns: u64, kept: bool, file: &'a str) -> Order<'a>
     })
 }
 
+/// What `at` looks for.
+pub fn viewing_of<'a>(moment: u64, selector: &'a str) -> Viewing<'a>
+    requires moment { moment < 2 ^ 52 }
+    ensures { result ≡ instant moment selector.now }
+{
+    Viewing { moment, selector }
+}
+
 /// How many bytes the file of a command may have: 256 MiB for a script, 4 MiB for a configuration, and 64 MiB for a body.
-pub fn limit_of(command: Command) -> usize
-    ensures { result ≡ spec.limit_of command }
+pub fn limit_of(command: &Command<'_>) -> usize
+    ensures { result ≡ spec.limit_of command.now }
 {
     match command {
-        Command::Replay { .. } => 268_435_456,
+        Command::Replay { .. } | Command::At(_) => 268_435_456,
         Command::Check => MOST_TEXT_BYTES as usize,
         Command::Convert => MOST_BODY_BYTES as usize,
     }
