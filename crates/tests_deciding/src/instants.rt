@@ -284,7 +284,7 @@ fn expect_rows(
 }
 
 #[test]
-fn a_view_follows_a_book_and_is_asked(rt: HostRuntime) -> Result<(), Fail> {
+fn views_follow_a_book_and_are_asked(rt: HostRuntime) -> Result<(), Fail> {
     let alloc = rt.alloc();
     let mut book = Book::new(alloc)?;
     let mut view = View::new(alloc);
@@ -300,6 +300,7 @@ fn a_view_follows_a_book_and_is_asked(rt: HostRuntime) -> Result<(), Fail> {
         book.reserve(1)?;
         book.append(entry(&rt, alloc, row)?);
     }
+    let mut view = View::new(alloc);
     view.follow(alloc, &book)?;
     for query in &LATE {
         expect_rows(&rt, alloc, &mut view, query)?;
