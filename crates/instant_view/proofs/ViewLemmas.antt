@@ -1,5 +1,5 @@
 -- The kept entries of a book, and what is seen of it by them.
-use Rattle.std.proofs.Common.{◌≡◌, ◌⊎◌, inl, inr, ℕ, zero, suc, ℤ, ◌+◌, ◌<◌, ◌≤◌, ◌<ℤ◌, Bool, true, false, List, [], ◌∷◌, ◌++◌, length, take, drop, slice_get, Some, None, Option, refl, sym, ap, ap₂, ◌∙◌, subst, true≢false, arith, if◌then◌else◌, min, length-take}
+use Rattle.std.proofs.Common.{◌≡◌, ◌⊎◌, inl, inr, ℕ, zero, suc, ℤ, ◌+◌, ◌<◌, ◌≤◌, ◌<ℤ◌, Bool, true, false, List, [], ◌∷◌, ◌++◌, length, take, drop, slice_get, Some, None, Option, refl, sym, ap, ap₂, ◌∙◌, subst, true≢false, arith, if◌then◌else◌, min, length-take, length-append}
 use Rattle.std.proofs.lemmas.List.{take-append-drop}
 use Rattle.std.proofs.lemmas.Option.{same_Some, none-some, slice_get_within}
 use Rattle.report_samples.specs.declared.entries.Entry.{Entry}
@@ -12,7 +12,7 @@ use Rattle.instant_view.specs.declared.matchers.SelectorParts.{SelectorParts}
 use Rattle.instant_view.specs.declared.rows.Placed.{Placed}
 use Rattle.instant_view.specs.declared.rows.ViewRow.{ViewRow}
 use Rattle.instant_view.specs.Threads.{IsGathered, IsKeptRow, Rise}
-use Rattle.instant_view.specs.Views.{IsInstantView, IsRow, kept_among, kept_at, placed_at}
+use Rattle.instant_view.specs.Views.{IsInstantView, IsRow, ViewsStand, kept_among, kept_at, placed_at}
 use Rattle.instant_view.proofs.LinkLemmas.{three}
 use Rattle.instant_view.proofs.TakeLemmas.{get_front}
 
@@ -145,26 +145,29 @@ module _ (es : List Entry) where
   pub kept_rise : KeptRise → (n : ℕ) → Rise (kept_among es n)
   kept_rise law n = among_rise law n
 
--- the kept ones among the first entries
-module _ (stand : VerdictsStand) (es : List Entry) (n : ℕ) (le : n ≤ length es) where
-  front_length : n ≤ length (take n es)
-  front_length = (let e : length (take n es) ≡ min n (length es) = length-take n es in omega (arith, e))
-
-  same_entry : (m : ℕ) → m < n → slice_get (take n es) m ≡ slice_get es m
-  same_entry m lt = sym (get_front (take n es) (drop n es) m (let l = front_length in omega arith)) ∙ ap (λ (l : List Entry). slice_get l m) (take-append-drop n es)
-
-  same_verdict : (m : ℕ) → m < n → verdict_at (take n es) m ≡ verdict_at es m
-  same_verdict m lt = sym (stand (take n es) (drop n es) m (let l = front_length in omega arith)) ∙ ap (λ (l : List Entry). verdict_at l m) (take-append-drop n es)
-
-  kept_alike : (m : ℕ) → m ≤ n → kept_among (take n es) m ≡ kept_among es m
+-- the kept ones of a book that grew
+module _ (stand : VerdictsStand) (es more : List Entry) where
+  pub kept_stays : (n : ℕ) → n ≤ length es → kept_among (es ++ more) n ≡ kept_among es n
   unfolding kept_among kept_at
-  kept_alike zero h = refl
-  kept_alike (suc m) h =
-      ap₂ (λ (a b : List Placed). a ++ b) (kept_alike m (omega arith))
-      (ap₂ (λ (v : Option Verdict) (o : Option Entry). if is_kept_one v then placed_at m o else []) (same_verdict m (omega arith)) (same_entry m (omega arith)))
+  kept_stays zero h = refl
+  kept_stays (suc n) h =
+      ap₂ (λ (a b : List Placed). a ++ b) (kept_stays n (omega arith))
+      (ap₂ (λ (v : Option Verdict) (o : Option Entry). if is_kept_one v then placed_at n o else []) (stand es more n (omega arith)) (get_front es more n (omega arith)))
 
-  pub kept_front : kept_among (take n es) n ≡ kept_among es n
-  kept_front = kept_alike n (omega arith)
+-- the kept ones among the first entries
+pub kept_front : (stand : VerdictsStand) (es : List Entry) (n : ℕ) → n ≤ length es → kept_among (take n es) n ≡ kept_among es n
+kept_front stand es n le =
+    let few : n ≤ length (take n es) = (let e : length (take n es) ≡ min n (length es) = length-take n es in omega (arith, e)) in
+    sym (kept_stays stand (take n es) (drop n es) n few) ∙ ap (λ (l : List Entry). kept_among l n) (take-append-drop n es)
+
+-- a view of a book that grew
+pub views_stand : VerdictsStand → ViewsStand
+views_stand stand view es more stands =
+    let le = stands.within in
+    record {
+      within = (let e = length-append es more in omega (arith, le, e));
+      kept = stands.kept ∙ sym (kept_stays stand es more view.count le);
+    }
 
 -- what is seen of a book by its kept entries
 module _ (es : List Entry) (n : ℕ) (le : length es ≤ n) (rise : Rise (kept_among es n)) (t : ℤ) where

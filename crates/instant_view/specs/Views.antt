@@ -37,13 +37,19 @@ pub record StandsFor (view : ViewOf) (entries : List Entry) : Type 0 where
   pub within : view.count ≤ length entries
   pub kept : view.kept ≡ kept_among entries view.count
 
+-- a view stands for a book, whatever is appended later
+abbrev pub ViewsStand : Type 0
+ViewsStand = (view : ViewOf) (entries later : List Entry) → StandsFor view entries → StandsFor view (entries ++ later)
+
 -- an entry is the last of a series, at this place of a book, that a store keeps and whose moment isn't later than t
 pub record IsLastBy (entries : List Entry) (t : ℤ) (series : List Pair) (place : ℕ) (e : Entry) : Type 0 where
   pub entry : slice_get entries place ≡ Some e
   pub kept : verdict_at entries place ≡ Some Kept
   pub series_is : e.series ≡ series
   pub by : e.moment ≤ℤ t
-  pub last : (later : ℕ) (d : Entry) → place < later → slice_get entries later ≡ Some d → verdict_at entries later ≡ Some Kept → d.series ≡ series → t <ℤ d.moment
+  pub last :
+      (later : ℕ) (d : Entry) → place < later → slice_get entries later ≡ Some d → verdict_at entries later ≡ Some Kept →
+      d.series ≡ series → t <ℤ d.moment
 
 -- an entry is seen at a moment t, and this is its row: it is no marker, and its moment is above t - 300000
 pub record IsSeen (t : ℤ) (e : Entry) (row : ViewRow) : Type 0 where

@@ -22,4 +22,4 @@ pub mod view;
 pub use matchers::{Matcher, MatcherList, Operator, SelectorError, SelectorParts};
 pub use rows::{Placed, ViewRow, ViewRows};
 pub use selector::{Selecting, Selector, has_one_reading};
-pub use view::View;
+pub use view::{View, laws_of_views};

@@ -150,3 +150,10 @@ impl View {
         Ok(ViewRows { items })
     }
 }
+
+/// The law that a view which stands for a book stands for it, whatever is appended later. It does nothing.
+pub fn laws_of_views()
+    ensures { spec.ViewsStand }
+{
+    laws_of_verdicts();
+}

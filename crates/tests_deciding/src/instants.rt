@@ -1,10 +1,11 @@
 //! Instant views: what a selector sees in a book at a moment.
+ghost use Rattle.std.specs.Prelude.{◌≡◌};
 
 use crate::shared::set_of;
 use appender_book::Book;
-use instant_view::{Selector, SelectorError, View, ViewRow};
+use instant_view::{Selector, SelectorError, View, ViewRow, laws_of_views};
 use label_set::{LabelSet, NoMemory};
-use report_samples::{Entry, Kind};
+use report_samples::{Entry, EntryList, Kind};
 use std::alloc::Global;
 use std::process::Abort;
 use std::test::Fail;
@@ -265,7 +266,9 @@ fn expect_rows(
     alloc: Global,
     view: &mut View,
     query: &(&str, i64, &str),
-) -> Result<(), NoMemory> {
+) -> Result<(), NoMemory>
+    ensures { view.new ≡ view.old }
+{
     let Ok(selector) = Selector::read(alloc, query.0) else {
         panic!(rt; "no selector");
     };
@@ -283,27 +286,45 @@ fn expect_rows(
     Ok(())
 }
 
+fn expect_all(
+    rt: &impl Abort,
+    alloc: Global,
+    view: &mut View,
+    queries: &[(&str, i64, &str)],
+) -> Result<(), NoMemory>
+    ensures { view.new ≡ view.old }
+{
+    for query in queries {
+        expect_rows(rt, alloc, view, query)?;
+    }
+    Ok(())
+}
+
+fn entries_of(
+    rt: &impl Abort,
+    alloc: Global,
+    rows: &[(&str, i64, Kind, Option<&str>)],
+) -> Result<EntryList, NoMemory> {
+    let mut items = Vec::new(alloc);
+    for row in rows {
+        items.push(entry(rt, alloc, row)?)?;
+    }
+    Ok(EntryList { items })
+}
+
 #[test]
-fn views_follow_a_book_and_are_asked(rt: HostRuntime) -> Result<(), Fail> {
+fn a_view_follows_a_book_and_is_asked(rt: HostRuntime) -> Result<(), Fail> {
     let alloc = rt.alloc();
     let mut book = Book::new(alloc)?;
     let mut view = View::new(alloc);
-    for row in &FIRST {
-        book.reserve(1)?;
-        book.append(entry(&rt, alloc, row)?);
-    }
+    let first = entries_of(&rt, alloc, &FIRST)?;
+    book.append_all(first)?;
     view.follow(alloc, &book)?;
-    for query in &EARLY {
-        expect_rows(&rt, alloc, &mut view, query)?;
-    }
-    for row in &LATER {
-        book.reserve(1)?;
-        book.append(entry(&rt, alloc, row)?);
-    }
-    let mut view = View::new(alloc);
+    expect_all(&rt, alloc, &mut view, &EARLY)?;
+    let later = entries_of(&rt, alloc, &LATER)?;
+    book.append_all(later)?;
+    laws_of_views();
     view.follow(alloc, &book)?;
-    for query in &LATE {
-        expect_rows(&rt, alloc, &mut view, query)?;
-    }
+    expect_all(&rt, alloc, &mut view, &LATE)?;
     Ok(())
 }

@@ -29,8 +29,8 @@
 //! | `Book::hasher`, `LifeState::hash_of` | `scrapes::texts_are_hashed_with_the_seed_of_the_book` |
 //! | `laws_of_verdicts` | contract alone |
 //! | `Selector::{read, selects}` | `instants::selectors_are_read_and_select` |
-//! | `View::{new, follow, instant}` | `instants::views_follow_a_book_and_are_asked` |
-//! | `has_one_reading` of selectors | contract alone |
+//! | `View::{new, follow, instant}` | `instants::a_view_follows_a_book_and_is_asked` |
+//! | `has_one_reading` of selectors, `laws_of_views` | contract alone |
 //! | `LifeState::{new, count, target, scraped}` | `scrapes`; `scripts`, `texts` |
 //! | `ReadReply::{of, with, into_reply}`, `LifeState::read` | `scrapes::a_reply_that_is_read_is_given_back`, `cores::readers` |
 //! | `LifeState::{force, force_entries, closing, release}` | `scrapes::a_life_is_counted_forced_and_let_go`; `limits` |
