@@ -8,3 +8,4 @@ pub mod TakeLemmas
 pub mod PlaceLemmas
 pub mod RowLemmas
 pub mod ViewLemmas
+pub mod NoteLemmas

@@ -1,23 +1,28 @@
 -- Rows by the kept entries alone.
-use Rattle.std.proofs.Common.{◌≡◌, ◌⊎◌, inl, inr, ℕ, zero, suc, ℤ, pos, ◌-ℤ◌, ◌<◌, ◌≤◌, ◌<ℤ◌, ◌≤ℤ◌, true, false, List, [], ◌∷◌, ◌++◌, length, slice_get, Some, None, Option, Result, Ok, Err, IfOk, refl, sym, ap, ◌∙◌, subst, true≢false, arith, unwrap_or, append-nil, get_or, option_map}
-use Rattle.std.specs.Prelude.{unsigned_abs, slice_index_or, IfSome}
+use Rattle.std.proofs.Common.{Bool, codes, ◌≡◌, ◌⊎◌, inl, inr, ℕ, zero, suc, ℤ, pos, ◌-ℤ◌, ◌<◌, ◌≤◌, ◌<ℤ◌, ◌≤ℤ◌, true, false, List, [], ◌∷◌, ◌++◌, length, slice_get, Some, None, Option, Result, Ok, Err, IfOk, refl, sym, ap, ◌∙◌, subst, true≢false, arith, unwrap_or, append-nil, get_or, option_map, ◌&&◌}
+use Rattle.std.specs.Prelude.{unsigned_abs, slice_index_or, IfSome, IsSome}
 use Rattle.std.specs.Ordering.{is_eq}
 use Rattle.std.specs.declared.cmp.Ordering.TheVariants.{Less, Equal}
 use Rattle.std.specs.BTreeMap.{BTreeMap, get, keys}
-use Rattle.std.specs.List.{Contains}
+use Rattle.std.specs.List.{AllByRecursion, Contains, list_all}
+use Rattle.std.specs.List.Sorted.{IsStrictlySortedBy}
+use Rattle.std.specs.BTreeSet.{BTreeSet, contains}
+use Rattle.std.specs.Option.{option_map_or}
+use Rattle.std.specs.Cmp.Lexicographic.{bytes_decides}
+use Rattle.label_set.specs.Bytes.{bytes_cmp}
 use Rattle.std.proofs.lemmas.Int.{ints}
 use Rattle.std.proofs.lemmas.Option.{same_Some, none-some, slice_get_within, slice_get_past, slice_get-map, get_or_from_slice_get}
-use Rattle.std.proofs.lemmas.Map.Views.{IfSome-get}
+use Rattle.std.proofs.lemmas.Map.Views.{IfSome-get, btree_set_contains_iff}
 use Rattle.label_set.specs.Same.{sets_decide}
 use Rattle.label_set.specs.Sets.{set_cmp, sets_total}
 use Rattle.label_set.specs.declared.texts.Pair.{Pair}
 use Rattle.report_samples.specs.declared.entries.Entry.{Entry}
 use Rattle.appender_book.proofs.SeriesLemmas.{slice_get_left, slice_get_end, length_more}
-use Rattle.instant_view.specs.Selectors.{selects}
+use Rattle.instant_view.specs.Selectors.{holds_in, is_of_name, selects, value_in}
 use Rattle.instant_view.specs.declared.matchers.SelectorParts.{SelectorParts}
 use Rattle.instant_view.specs.declared.rows.Placed.{Placed}
 use Rattle.instant_view.specs.declared.rows.ViewRow.{ViewRow}
-use Rattle.instant_view.specs.Threads.{AreEnds, IsBackTo, IsGathered, IsKeptRow, IsLastOf, IsRowOf, IsSeenAs, IsSelectedRow, Rise, listed}
+use Rattle.instant_view.specs.Threads.{AreEnds, IsBackTo, AreNamed, IsGathered, IsGatheredOf, IsGatheredTo, IsKeptRow, IsLastOf, IsRowOf, IsSeenAs, IsSelectedRow, Rise, listed, is_named}
 use Rattle.instant_view.specs.Views.{AreRising, IsAmong, IsSeen}
 use Rattle.instant_view.proofs.LinkLemmas.{series_at, three}
 
@@ -106,17 +111,11 @@ item_of {X} xs x y i h = by (three i (length xs))
     by (inr (inl at)) = inr (at, same_Some x y (sym (slice_get_end xs x) ∙ ap (slice_get (xs ++ x ∷ [])) (sym at) ∙ h))
     by (inr (inr gt)) = absurd (none-some y (sym (slice_get_past (xs ++ x ∷ []) i (let l = length_more xs x in omega (arith, l, gt))) ∙ h))
 
--- the rows of the first n series
-pub record IsGatheredTo (kept : List Placed) (selector : SelectorParts) (t : ℤ) (es : List (List Pair × ℕ)) (n : ℕ) (rows : List ViewRow) : Type 0 where
-  pub rising : AreRising rows
-  pub each : (row : ViewRow) → IsAmong rows row → (selects selector row.series ≡ true) × IsKeptRow kept t row × ((i : ℕ) × (e : ℕ) × (i < n) × (slice_get es i ≡ Some (row.series, e)))
-  pub all : (i e : ℕ) (row : ViewRow) → i < n → slice_get es i ≡ Some (row.series, e) → selects selector row.series ≡ true → IsKeptRow kept t row → IsAmong rows row
-
-pub gathered_none : (kept : List Placed) (selector : SelectorParts) (t : ℤ) (es : List (List Pair × ℕ)) (rows : List ViewRow) → rows ≡ [] → IsGatheredTo kept selector t es 0 rows
+pub gathered_none : (kept : List Placed) (selector : SelectorParts) (t : ℤ) (es : List (List Pair)) (rows : List ViewRow) → rows ≡ [] → IsGatheredTo kept selector t es 0 rows
 gathered_none kept selector t es rows none = record {
   rising = λ i j r s lt a b. absurd (none-some r (ap (λ (l : List ViewRow). slice_get l i) (sym none) ∙ a));
   each = λ row is. absurd (none-some row (ap (λ (l : List ViewRow). slice_get l is.0) (sym none) ∙ is.1));
-  all = λ i e row lt. absurd (omega arith);
+  all = λ i row lt. absurd (omega arith);
 }
 
 here_or_before : (i n : ℕ) → i < suc n → (i ≡ n) ⊎ (i < n)
@@ -127,38 +126,34 @@ here_or_before i n lt = by (three i n)
     by (inr (inl e)) = inl e
     by (inr (inr g)) = absurd (omega arith)
 
-first_is : (a c : List Pair) (b d : ℕ) → ◌≡◌ {A = Option (List Pair × ℕ)} (Some (a, b)) (Some (c, d)) → a ≡ c
-first_is a c b d e = let p : ◌≡◌ {A = List Pair × ℕ} (a, b) (c, d) = same_Some (a, b) (c, d) e in ap (λ (q : List Pair × ℕ). q.0) p
-
 -- one series more
-module _ (kept : List Placed) (rise : Rise kept) (selector : SelectorParts) (t : ℤ) (es : List (List Pair × ℕ)) (n : ℕ) (rows : List ViewRow) (was : IsGatheredTo kept selector t es n rows)
-    (series : List Pair) (end : ℕ) (at : slice_get es n ≡ Some (series, end))
-    (below : (i : ℕ) (s : List Pair) (e : ℕ) → i < n → slice_get es i ≡ Some (s, e) → set_cmp s series ≡ Less) where
-  its_row : (i e : ℕ) (row : ViewRow) → i ≡ n → slice_get es i ≡ Some (row.series, e) → row.series ≡ series
-  its_row i e row here there = sym (first_is series row.series end e (sym at ∙ ap (slice_get es) (sym here) ∙ there))
+module _ (kept : List Placed) (rise : Rise kept) (selector : SelectorParts) (t : ℤ) (es : List (List Pair)) (n : ℕ) (rows : List ViewRow) (was : IsGatheredTo kept selector t es n rows)
+    (series : List Pair) (at : slice_get es n ≡ Some series) (below : (i : ℕ) (s : List Pair) → i < n → slice_get es i ≡ Some s → set_cmp s series ≡ Less) where
+  its_row : (i : ℕ) (row : ViewRow) → i ≡ n → slice_get es i ≡ Some row.series → row.series ≡ series
+  its_row i row here there = sym (same_Some series row.series (sym at ∙ ap (slice_get es) (sym here) ∙ there))
 
   pub gathered_more : (o : Option ViewRow) → IsSelectedRow kept selector t series o → IsGatheredTo kept selector t es (suc n) (rows ++ listed o)
   gathered_more None none = subst (IsGatheredTo kept selector t es (suc n)) (sym (append-nil rows)) (record {
     rising = was.rising;
-    each = λ row is. (let h = was.each row is in (h.0, h.1, (h.2.0, h.2.1, (let lt = h.2.2 in omega arith), h.2.3)));
-    all = λ i e row lt there s r. by i e row there s r (here_or_before i n lt);
+    each = λ row is. (let h = was.each row is in (h.0, h.1, (h.2.0, (let lt = h.2.1 in omega arith), h.2.2)));
+    all = λ i row lt there s r. by i row there s r (here_or_before i n lt);
   })
     where
-      by : (i e : ℕ) (row : ViewRow) → slice_get es i ≡ Some (row.series, e) → selects selector row.series ≡ true → IsKeptRow kept t row → (i ≡ n) ⊎ (i < n) → IsAmong rows row
-      by i e row there s r (inl here) =
-          let is = its_row i e row here there in
+      by : (i : ℕ) (row : ViewRow) → slice_get es i ≡ Some row.series → selects selector row.series ≡ true → IsKeptRow kept t row → (i ≡ n) ⊎ (i < n) → IsAmong rows row
+      by i row there s r (inl here) =
+          let is = its_row i row here there in
           absurd (none row is (ap (selects selector) (sym is) ∙ s) r)
-      by i e row there s r (inr before) = was.all i e row before there s r
+      by i row there s r (inr before) = was.all i row before there s r
   gathered_more (Some new) found = record {
     rising = λ i j r s lt a b. rises i j r s lt a b (item_of rows new r i a) (item_of rows new s j b);
     each = λ row is. one row (item_of rows new row is.0 is.1);
-    all = λ i e row lt there s r. by i e row there s r (here_or_before i n lt);
+    all = λ i row lt there s r. by i row there s r (here_or_before i n lt);
   }
     where
       lower : (r : ViewRow) (i : ℕ) → slice_get rows i ≡ Some r → set_cmp r.series new.series ≡ Less
       lower r i a =
           let h = was.each r (i, a) in
-          subst (λ s. set_cmp r.series s ≡ Less) (sym found.0) (below h.2.0 r.series h.2.1 h.2.2 h.2.3)
+          subst (λ s. set_cmp r.series s ≡ Less) (sym found.0) (below h.2.0 r.series h.2.1 h.2.2)
 
       rises : (i j : ℕ) (r s : ViewRow) → i < j → slice_get (rows ++ new ∷ []) i ≡ Some r → slice_get (rows ++ new ∷ []) j ≡ Some s →
           (slice_get rows i ≡ Some r) ⊎ ((i ≡ length rows) × (new ≡ r)) → (slice_get rows j ≡ Some s) ⊎ ((j ≡ length rows) × (new ≡ s)) → set_cmp r.series s.series ≡ Less
@@ -168,44 +163,103 @@ module _ (kept : List Placed) (rise : Rise kept) (selector : SelectorParts) (t :
       rises i j r s lt a b (inr x) (inr y) = let d = x.0 in let e = y.0 in absurd (omega (arith, d, e, lt))
 
       one : (row : ViewRow) {i : ℕ} → (slice_get rows i ≡ Some row) ⊎ ((i ≡ length rows) × (new ≡ row)) →
-          (selects selector row.series ≡ true) × IsKeptRow kept t row × ((j : ℕ) × (e : ℕ) × (j < suc n) × (slice_get es j ≡ Some (row.series, e)))
-      one row {i} (inl x) = let h = was.each row (i, x) in (h.0, h.1, (h.2.0, h.2.1, (let lt = h.2.2 in omega arith), h.2.3))
+          (selects selector row.series ≡ true) × IsKeptRow kept t row × ((j : ℕ) × (j < suc n) × (slice_get es j ≡ Some row.series))
+      one row {i} (inl x) = let h = was.each row (i, x) in (h.0, h.1, (h.2.0, (let lt = h.2.1 in omega arith), h.2.2))
       one row {i} (inr x) =
-          subst (λ (q : ViewRow). (selects selector q.series ≡ true) × IsKeptRow kept t q × ((j : ℕ) × (e : ℕ) × (j < suc n) × (slice_get es j ≡ Some (q.series, e)))) x.1
-          (ap (selects selector) found.0 ∙ found.1, found.2, (n, end, omega arith, at ∙ ap (λ s. Some (s, end)) (sym found.0)))
+          subst (λ (q : ViewRow). (selects selector q.series ≡ true) × IsKeptRow kept t q × ((j : ℕ) × (j < suc n) × (slice_get es j ≡ Some q.series))) x.1
+          (ap (selects selector) found.0 ∙ found.1, found.2, (n, omega arith, at ∙ ap Some (sym found.0)))
 
-      by : (i e : ℕ) (row : ViewRow) → slice_get es i ≡ Some (row.series, e) → selects selector row.series ≡ true → IsKeptRow kept t row → (i ≡ n) ⊎ (i < n) → IsAmong (rows ++ new ∷ []) row
-      by i e row there s r (inl here) =
-          let same : new ≡ row = row_same kept t new row (found.0 ∙ sym (its_row i e row here there)) found.2 r in
+      by : (i : ℕ) (row : ViewRow) → slice_get es i ≡ Some row.series → selects selector row.series ≡ true → IsKeptRow kept t row → (i ≡ n) ⊎ (i < n) → IsAmong (rows ++ new ∷ []) row
+      by i row there s r (inl here) =
+          let same : new ≡ row = row_same kept t new row (found.0 ∙ sym (its_row i row here there)) found.2 r in
           (length rows, slice_get_end rows new ∙ ap Some same)
-      by i e row there s r (inr before) =
-          let h = was.all i e row before there s r in
+      by i row there s r (inr before) =
+          let h = was.all i row before there s r in
           (h.0, slice_get_left rows new h.0 (slice_get_within rows h.0 row h.1) ∙ h.1)
 
--- all series
+-- where a list has an item
 contains_get : {X : Type 0} (xs : List X) (k : ℕ) (x : X) → k < length xs → slice_index_or xs k x ≡ x → slice_get xs k ≡ Some x
 contains_get [] k x lt e = absurd (omega arith)
 contains_get (y ∷ xs) zero x lt e = ap Some e
 contains_get (y ∷ xs) (suc k) x lt e = contains_get xs k x (omega arith) e
 
-module _ (kept : List Placed) (selector : SelectorParts) (t : ℤ) (ends : BTreeMap (List Pair) ℕ) (are : AreEnds kept ends) (rows : List ViewRow)
-    (was : IsGatheredTo kept selector t ends.entries (length ends.entries) rows) where
-  exact : (x y : List Pair) → set_cmp x y ≡ Equal → x ≡ y
-  exact x y e = (sets_decide x y).0 (ap is_eq e)
+exact : (x y : List Pair) → set_cmp x y ≡ Equal → x ≡ y
+exact x y e = (sets_decide x y).0 (ap is_eq e)
 
-  in_all : (row : ViewRow) → selects selector row.series ≡ true → IsKeptRow kept t row → IsAmong rows row
-  in_all row s r = by (get set_cmp ends row.series) refl
+-- a series with a row has a place
+module _ (kept : List Placed) (t : ℤ) (ends : BTreeMap (List Pair) ℕ) (are : AreEnds kept ends) (row : ViewRow) (r : IsKeptRow kept t row) where
+  has_place : (end : ℕ) × (get set_cmp ends row.series ≡ Some end)
+  has_place = by (get set_cmp ends row.series) refl
     where
-      by : (o : Option ℕ) → get set_cmp ends row.series ≡ o → IsAmong rows row
+      by : (o : Option ℕ) → get set_cmp ends row.series ≡ o → (end : ℕ) × (get set_cmp ends row.series ≡ Some end)
       by None e =
           let last : IsLastOf kept row.series (length kept) 0 = subst (IsLastOf kept row.series (length kept)) (ap (λ (q : Option ℕ). unwrap_or q 0) e) (are row.series) in
           absurd (last.none r.at r.placed (omega arith) (slice_get_within kept r.at r.placed r.there) r.there r.series_is)
-      by (Some end) e =
-          let h : Contains ends.entries (row.series, end) = subst (λ o. IfSome o (λ v. Contains ends.entries (row.series, v))) e (IfSome-get sets_total exact ends row.series) in
-          was.all h.0 end row h.1 (contains_get ends.entries h.0 (row.series, end) h.1 h.2) s r
+      by (Some end) e = (end, e)
+
+-- all series
+module _ (kept : List Placed) (selector : SelectorParts) (t : ℤ) (ends : BTreeMap (List Pair) ℕ) (are : AreEnds kept ends) (rows : List ViewRow)
+    (was : IsGatheredOf kept selector t (keys ends) rows) where
+  in_all : (row : ViewRow) → selects selector row.series ≡ true → IsKeptRow kept t row → IsAmong rows row
+  in_all row s r =
+      let p = has_place kept t ends are row r in
+      let h : Contains ends.entries (row.series, p.0) = subst (λ o. IfSome o (λ v. Contains ends.entries (row.series, v))) p.1 (IfSome-get sets_total exact ends row.series) in
+      let entry : slice_get ends.entries h.0 ≡ Some (row.series, p.0) = contains_get ends.entries h.0 (row.series, p.0) h.1 h.2 in
+      let key : slice_get (keys ends) h.0 ≡ Some row.series = slice_get-map (λ (q : List Pair × ℕ). q.0) ends.entries h.0 ∙ ap (option_map (λ (q : List Pair × ℕ). q.0)) entry in
+      was.all h.0 row (slice_get_within (keys ends) h.0 row.series key) key s r
 
   pub gathered_all : IsGathered kept selector t rows
   gathered_all = record { rising = was.rising; each = λ row is. (let h = was.each row is in (h.0, h.1)); all = in_all }
+
+-- those of a name
+first_of : (a b : Bool) → (a && b) ≡ true → a ≡ true
+first_of true b e = refl
+first_of false b e = absurd (true≢false (sym e))
+
+its_name : (selector : SelectorParts) (name : List ℕ) (set : List Pair) → selector.name ≡ Some name → selects selector set ≡ true → value_in set (codes "__name__") ≡ name
+unfolding selects
+its_name selector name set is s =
+    let test : is_of_name (Some name) set ≡ true = ap (λ n. is_of_name n set) (sym is) ∙ first_of (is_of_name selector.name set) (list_all (holds_in set) selector.matchers) s in
+    (bytes_decides (value_in set (codes "__name__")) name).0 test
+
+module _ (kept : List Placed) (selector : SelectorParts) (t : ℤ) (ends : BTreeMap (List Pair) ℕ) (are : AreEnds kept ends) (named : BTreeMap (List ℕ) (BTreeSet (List Pair)))
+    (noted : AreNamed ends named) (name : List ℕ) (is : selector.name ≡ Some name) where
+  in_name : (row : ViewRow) → selects selector row.series ≡ true → IsKeptRow kept t row → is_named named name row.series ≡ true
+  in_name row s r =
+      let p = has_place kept t ends are row r in
+      let place : IsSome (get set_cmp ends row.series) = subst IsSome (sym p.1) refl in
+      subst (λ n. is_named named n row.series ≡ true) (its_name selector name row.series is s) (noted row.series place)
+
+  pub gathered_no_name : (rows : List ViewRow) → rows ≡ [] → get bytes_cmp named name ≡ None → IsGathered kept selector t rows
+  gathered_no_name rows none missing = record {
+    rising = λ i j r s lt a b. absurd (none-some r (ap (λ (l : List ViewRow). slice_get l i) (sym none) ∙ a));
+    each = λ row among. absurd (none-some row (ap (λ (l : List ViewRow). slice_get l among.0) (sym none) ∙ among.1));
+    all = λ row s r.
+        absurd (true≢false (sym (in_name row s r) ∙ ap (λ (o : Option (BTreeSet (List Pair))). option_map_or (λ (q : BTreeSet (List Pair)). contains set_cmp q row.series) o false) missing));
+  }
+
+  pub gathered_name : (sets : BTreeSet (List Pair)) (rows : List ViewRow) → get bytes_cmp named name ≡ Some sets → IsGatheredOf kept selector t sets.keys rows → IsGathered kept selector t rows
+  gathered_name sets rows there was = record {
+    rising = was.rising;
+    each = λ row among. (let h = was.each row among in (h.0, h.1));
+    all = λ row s r. (let has : contains set_cmp sets row.series ≡ true =
+        sym (ap (λ (o : Option (BTreeSet (List Pair))). option_map_or (λ (q : BTreeSet (List Pair)). contains set_cmp q row.series) o false) there) ∙ in_name row s r in
+        let h : Contains sets.keys row.series = (btree_set_contains_iff sets_total exact sets row.series).0 has in
+        was.all h.0 row h.1 (contains_get sets.keys h.0 row.series h.1 h.2) s r);
+  }
+
+-- keys in order
+all_get : {X : Type 0} (P : X → Type 0) (xs : List X) → AllByRecursion P xs → (i : ℕ) (x : X) → slice_get xs i ≡ Some x → P x
+all_get P [] all i x at = absurd (none-some x at)
+all_get P (y ∷ xs) all zero x at = subst P (same_Some y x at) all.0
+all_get P (y ∷ xs) all (suc i) x at = all_get P xs all.1 i x at
+
+pub keys_rise : (ks : List (List Pair)) → IsStrictlySortedBy set_cmp ks → (i j : ℕ) (a b : List Pair) → i < j → slice_get ks i ≡ Some a → slice_get ks j ≡ Some b → set_cmp a b ≡ Less
+unfolding IsStrictlySortedBy
+keys_rise [] up i j a b lt x y = absurd (none-some a x)
+keys_rise (k ∷ ks) up i zero a b lt x y = absurd (omega arith)
+keys_rise (k ∷ ks) up zero (suc j) a b lt x y = subst (λ q. set_cmp q b ≡ Less) (same_Some k a x) (all_get (λ q. set_cmp k q ≡ Less) ks up.0 j b y)
+keys_rise (k ∷ ks) up (suc i) (suc j) a b lt x y = keys_rise ks up.1 i j a b (omega arith) x y
 
 -- what a call gives, where it gives something
 pub zero_of : (n : ℕ) → ¬ (1 ≤ n) → n ≡ 0
@@ -228,12 +282,9 @@ module _ {E : Type 0} (kept : List Placed) (t : ℤ) (series : List Pair) (r : R
       ok (Ok o) h = selected_found kept t series selector o sure h
       ok (Err e) h = tt
 
--- the keys of a map by its entries
-pub keys_below : (m : BTreeMap (List Pair) ℕ) (n : ℕ) (series : List Pair) → ((i : ℕ) (d : List Pair) → i < n → set_cmp (get_or (keys m) i d) series ≡ Less) →
-    (i : ℕ) (s : List Pair) (e : ℕ) → i < n → slice_get m.entries i ≡ Some (s, e) → set_cmp s series ≡ Less
-keys_below m n series h i s e lt at =
-    let key : slice_get (keys m) i ≡ Some s = slice_get-map (λ (p : List Pair × ℕ). p.0) m.entries i ∙ ap (option_map (λ (p : List Pair × ℕ). p.0)) at in
-    subst (λ k. set_cmp k series ≡ Less) (get_or_from_slice_get (keys m) i s s key) (h i s lt)
-
 pub get_there : {X : Type 0} (xs : List X) (k : ℕ) (x : X) → k < length xs → x ≡ get_or xs k x → slice_get xs k ≡ Some x
 get_there xs k x lt e = contains_get xs k x lt (sym e)
+
+pub if_ok : {A E : Type 0} (P Q : A → Type 0) → ((x : A) → P x → Q x) → (r : Result A E) → IfOk r P → IfOk r Q
+if_ok P Q h (Ok x) p = h x p
+if_ok P Q h (Err e) p = tt

@@ -2,7 +2,8 @@
 use Rattle.std.proofs.Common.{◌≡◌, ◌⊎◌, inl, inr, ℕ, zero, suc, ◌<◌, ◌≤◌, Bool, true, false, List, [], ◌∷◌, ◌++◌, length, slice_get, Some, refl, sym, ap, ◌∙◌, subst, true≢false, arith, if◌then◌else◌, append_assoc}
 use Rattle.std.specs.Prelude.{reverse}
 use Rattle.std.proofs.lemmas.List.{reverse-append}
-use Rattle.std.specs.BTreeMap.{BTreeMap}
+use Rattle.std.specs.BTreeMap.{BTreeMap, get}
+use Rattle.std.specs.Prelude.{IsSome}
 use Rattle.std.specs.Ordering.{is_eq}
 use Rattle.std.proofs.lemmas.Option.{same_Some, none-some, slice_get_within, slice_get_past}
 use Rattle.label_set.specs.Same.{sets_decide}
@@ -12,7 +13,7 @@ use Rattle.appender_book.proofs.SeriesLemmas.{slice_get_left, slice_get_end, len
 use Rattle.instant_view.specs.declared.rows.Placed.{Placed}
 use Rattle.instant_view.specs.declared.links.Link.{Link}
 use Rattle.instant_view.specs.declared.threads.Threads.{Threads}
-use Rattle.instant_view.specs.Threads.{AreEnds, AreLinked, IsEndOf, IsLastOf, IsLink, IsThreaded, Rise, end_of, link_at, twice_back}
+use Rattle.instant_view.specs.Threads.{AreEnds, AreLinked, AreNamed, IsEndOf, IsLastOf, IsLink, IsThreaded, Rise, end_of, link_at, twice_back}
 use Rattle.instant_view.proofs.LinkLemmas.{link_of, three}
 
 -- the front of a list
@@ -144,9 +145,10 @@ module _ (kept : List Placed) (p : Placed) where
 -- all of it
 pub threaded_more : (old new : Threads) (p : Placed) (link : Link) (last : ℕ) → IsThreaded old → Rise (old.kept.items ++ p ∷ []) →
     new.kept.items ≡ old.kept.items ++ p ∷ [] → new.links.items ≡ old.links.items ++ link ∷ [] → last ≡ end_of old.ends p.entry.series →
-    ((s : List Pair) → end_of new.ends s ≡ (if is_eq (set_cmp p.entry.series s) then suc (length old.kept.items) else end_of old.ends s)) → link.previous ≡ last →
+    ((s : List Pair) → end_of new.ends s ≡ (if is_eq (set_cmp p.entry.series s) then suc (length old.kept.items) else end_of old.ends s)) →
+    ((s : List Pair) → IsSome (get set_cmp new.ends s) → IsSome (get set_cmp old.ends s)) → new.named ≡ old.named → link.previous ≡ last →
     (link.jump ≡ last) ⊎ (link.jump ≡ twice_back old.links.items last) → IsThreaded new
-threaded_more old new p link last is rise kept_is links_is last_is ends_are previous jump =
+threaded_more old new p link last is rise kept_is links_is last_is ends_are others named_is previous jump =
     let kept = old.kept.items in
     let found : IsLastOf kept p.entry.series (length kept) last = subst (IsLastOf kept p.entry.series (length kept)) (sym last_is) (is.ends p.entry.series) in
     record {
@@ -156,6 +158,7 @@ threaded_more old new p link last is rise kept_is links_is last_is ends_are prev
           (subst (AreLinked (kept ++ p ∷ [])) (sym links_is)
           (linked_more kept p old.links.items link is.linked (new_link kept p old.links.items link p.entry.series last is.linked found previous jump)));
       ends = subst (λ ks. AreEnds ks new.ends) (sym kept_is) (ends_more kept p old.ends new.ends is.ends ends_are);
+      named = subst (AreNamed new.ends) (sym named_is) (λ s place. is.named s (others s place));
     }
 
 -- the last of those that are taken in from their end

@@ -1,10 +1,13 @@
 -- How the last entry of a series by a moment is found among kept ones: from the last of all back, by links to earlier ones of the series.
 -- An end is one more than a place in the list of kept entries, and 0 where there is no entry.
-use Rattle.std.specs.Prelude.{◌≡◌, ℕ, zero, suc, ℤ, ◌+◌, ◌<◌, ◌≤◌, ◌<ℤ◌, ◌≤ℤ◌, Bool, true, false, List, [], ◌∷◌, length, slice_get, Option, Some, None, IsSome, unwrap_or, vec_len, vec_capacity, if◌then◌else◌, int_lt}
+use Rattle.std.specs.Prelude.{◌≡◌, ℕ, zero, suc, ℤ, ◌+◌, ◌<◌, ◌≤◌, ◌<ℤ◌, ◌≤ℤ◌, Bool, true, false, List, [], ◌∷◌, length, slice_get, Option, Some, None, IsSome, unwrap_or, vec_len, vec_capacity, if◌then◌else◌, int_lt, codes}
 use Rattle.std.specs.BTreeMap.{BTreeMap, get}
+use Rattle.std.specs.BTreeSet.{BTreeSet, contains}
+use Rattle.std.specs.Option.{option_map_or}
+use Rattle.label_set.specs.Bytes.{bytes_cmp}
 use Rattle.label_set.specs.Sets.{set_cmp}
 use Rattle.label_set.specs.declared.texts.Pair.{Pair}
-use Rattle.instant_view.specs.Selectors.{selects}
+use Rattle.instant_view.specs.Selectors.{selects, value_in}
 use Rattle.instant_view.specs.declared.matchers.SelectorParts.{SelectorParts}
 use Rattle.instant_view.specs.declared.rows.Placed.{Placed}
 use Rattle.instant_view.specs.declared.rows.ViewRow.{ViewRow}
@@ -47,11 +50,20 @@ end_of ends series = unwrap_or (get set_cmp ends series) 0
 abbrev pub AreEnds : List Placed → BTreeMap (List Pair) ℕ → Type 0
 AreEnds kept ends = (series : List Pair) → IsLastOf kept series (length kept) (end_of ends series)
 
+-- a set is among those that are noted for a name
+abbrev pub is_named : BTreeMap (List ℕ) (BTreeSet (List Pair)) → List ℕ → List Pair → Bool
+is_named named name set = option_map_or (λ (sets : BTreeSet (List Pair)). contains set_cmp sets set) (get bytes_cmp named name) false
+
+-- each series with a place is noted for its name
+abbrev pub AreNamed : BTreeMap (List Pair) ℕ → BTreeMap (List ℕ) (BTreeSet (List Pair)) → Type 0
+AreNamed ends named = (series : List Pair) → IsSome (get set_cmp ends series) → is_named named (value_in series (codes "__name__")) series ≡ true
+
 -- the index is that of these kept entries
 pub record IsThreaded (threads : Threads) : Type 0 where
   pub rise : Rise threads.kept.items
   pub linked : AreLinked threads.kept.items threads.links.items
   pub ends : AreEnds threads.kept.items threads.ends
+  pub named : AreNamed threads.ends threads.named
 
 -- there is room for n more entries
 pub record HasRoom (n : ℕ) (threads : Threads) : Type 0 where
@@ -124,6 +136,17 @@ pub record IsGathered (kept : List Placed) (selector : SelectorParts) (t : ℤ) 
   pub rising : AreRising rows
   pub each : (row : ViewRow) → IsAmong rows row → (selects selector row.series ≡ true) × IsKeptRow kept t row
   pub all : (row : ViewRow) → selects selector row.series ≡ true → IsKeptRow kept t row → IsAmong rows row
+
+-- the rows of the first n of these series, of which the selected ones have theirs
+pub record IsGatheredTo (kept : List Placed) (selector : SelectorParts) (t : ℤ) (series : List (List Pair)) (n : ℕ) (rows : List ViewRow) : Type 0 where
+  pub rising : AreRising rows
+  pub each : (row : ViewRow) → IsAmong rows row →
+      (selects selector row.series ≡ true) × IsKeptRow kept t row × ((i : ℕ) × (i < n) × (slice_get series i ≡ Some row.series))
+  pub all : (i : ℕ) (row : ViewRow) → i < n → slice_get series i ≡ Some row.series → selects selector row.series ≡ true → IsKeptRow kept t row → IsAmong rows row
+
+-- the rows of all of these series
+abbrev pub IsGatheredOf : List Placed → SelectorParts → ℤ → List (List Pair) → List ViewRow → Type 0
+IsGatheredOf kept selector t series rows = IsGatheredTo kept selector t series (length series) rows
 
 -- what may be there, as a list
 abbrev pub listed : Option ViewRow → List ViewRow

@@ -154,6 +154,14 @@ impl<'s> Model for Selecting<'s> {
 }
 
 impl<'s> Selecting<'s> {
+    /// The metric name in front, if there is one.
+    pub(crate) fn name(&self) -> Option<&'s Name>
+        ensures { option_map (λ n. n.now) result ≡ self.now.name }
+    {
+        let selector = self.selector;
+        selector.name.as_ref()
+    }
+
     /// Whether a set is selected.
     #[tactic(auto, unfolding(crate::specs::Selectors::selects))]
     pub fn selects(&mut self, alloc: Global, set: &LabelSet) -> Result<bool, NoMemory>

@@ -1,17 +1,18 @@
 //! The kept entries of a view, with an index of their series.
-ghost use Rattle.std.specs.Prelude.{◌≡◌, ◌+◌, ◌≤ℤ◌, ◌++◌, ◌∷◌, [], All, List, ℕ, length, if◌then◌else◌, IfOk, OnOk, IsSome};
-ghost use Rattle.std.specs.BTreeMap.{get};
+ghost use Rattle.std.specs.Prelude.{◌≡◌, ◌+◌, ◌≤ℤ◌, ◌++◌, ◌∷◌, [], ℕ, true, All, List, ℕ, length, if◌then◌else◌, IfOk, OnOk, IsSome, codes};
+ghost use Rattle.std.specs.BTreeMap.{get, keys};
 ghost use Rattle.std.specs.Ordering.{is_eq};
 ghost use Rattle.label_set.specs.Sets.{set_cmp};
 ghost use Rattle.label_set.specs.declared.texts.Pair.{Pair};
+ghost use Rattle.instant_view.specs.Selectors.{value_in};
 ghost use Rattle.instant_view.specs.Threads as spec;
 
 use crate::links::{Link, end_by, link_behind};
 use crate::rows::{Placed, ViewRow};
 use crate::selector::Selecting;
-use label_set::{LabelSet, NoMemory};
+use label_set::{LabelSet, Name, NoMemory};
 use std::alloc::Global;
-use std::collections::BTreeMap;
+use std::collections::{BTreeMap, BTreeSet};
 
 /// An entry is seen for less than so many milliseconds.
 const LOOKBACK: u64 = 300_000;
@@ -22,29 +23,75 @@ pub struct Threads {
     pub kept: Vec<Placed>,
     links: Vec<Link>,
     ends: BTreeMap<LabelSet, usize>,
+    /// For each name, the label sets of its series.
+    named: BTreeMap<Name, BTreeSet<LabelSet>>,
 }
 
-/// Makes a place for the end of a series.
-fn make_place(ends: &mut BTreeMap<LabelSet, usize>, series: &LabelSet) -> Result<(), NoMemory>
+/// Notes a series for its name.
+fn note_name(
+    alloc: Global,
+    named: &mut BTreeMap<Name, BTreeSet<LabelSet>>,
+    name: &str,
+    series: &LabelSet,
+) -> Result<(), NoMemory>
+    ensures ok { OnOk result (spec.is_named named.new name.now series.now ≡ true) }
+    ensures others { (n : List ℕ) (s : List Pair) → spec.is_named named.old n s ≡ true → spec.is_named named.new n s ≡ true }
+{
+    let name = Name::from_str(alloc, name)?;
+    let series = series.copy()?;
+    if let Some(sets) = named.get_mut(&name) {
+        sets.insert(series)?;
+        return Ok(());
+    }
+    let mut sets = BTreeSet::new(alloc);
+    sets.insert(series)?;
+    named.insert(name, sets)?;
+    Ok(())
+}
+
+/// The value of `__name__`.
+fn name_of(series: &LabelSet) -> &str
+    ensures { result.now ≡ value_in series.now (codes "__name__") }
+{
+    series.get("__name__").unwrap_or("")
+}
+
+/// Makes a place for the end of a series, and notes it for its name.
+fn make_place(
+    alloc: Global,
+    ends: &mut BTreeMap<LabelSet, usize>,
+    named: &mut BTreeMap<Name, BTreeSet<LabelSet>>,
+    series: &LabelSet,
+) -> Result<(), NoMemory>
+    requires { spec.AreNamed ends.old named.old }
     ensures ok { OnOk result (IsSome (get set_cmp ends.new series.now)) }
     ensures places { (s : List Pair) → IsSome (get set_cmp ends.old s) → IsSome (get set_cmp ends.new s) }
     ensures same { (s : List Pair) → spec.end_of ends.new s ≡ spec.end_of ends.old s }
+    ensures named { spec.AreNamed ends.new named.new }
 {
     if ends.contains_key(series) {
         return Ok(());
     }
+    note_name(alloc, named, name_of(series), series)?;
     let series = series.copy()?;
     ends.insert(series, 0)?;
     Ok(())
 }
 
 /// Makes places for the ends of the series of entries.
-fn make_places(ends: &mut BTreeMap<LabelSet, usize>, fresh: &[Placed]) -> Result<(), NoMemory>
+fn make_places(
+    alloc: Global,
+    ends: &mut BTreeMap<LabelSet, usize>,
+    named: &mut BTreeMap<Name, BTreeSet<LabelSet>>,
+    fresh: &[Placed],
+) -> Result<(), NoMemory>
+    requires { spec.AreNamed ends.old named.old }
     ensures ok { OnOk result (All (spec.HasPlace ends.new) fresh.now) }
     ensures same { (s : List Pair) → spec.end_of ends.new s ≡ spec.end_of ends.old s }
+    ensures named { spec.AreNamed ends.new named.new }
 {
     for placed in fresh {
-        make_place(ends, &placed.entry.series)?;
+        make_place(alloc, ends, named, &placed.entry.series)?;
     }
     Ok(())
 }
@@ -55,6 +102,7 @@ fn renew(ends: &mut BTreeMap<LabelSet, usize>, series: &LabelSet, end: usize) ->
     ensures before { result ≡ spec.end_of ends.old series.now }
     ensures ends { (s : List Pair) → spec.end_of ends.new s ≡ (if is_eq (set_cmp series.now s) then end else spec.end_of ends.old s) }
     ensures places { (s : List Pair) → IsSome (get set_cmp ends.old s) → IsSome (get set_cmp ends.new s) }
+    ensures others { (s : List Pair) → IsSome (get set_cmp ends.new s) → IsSome (get set_cmp ends.old s) }
 {
     match ends.get_mut(series) {
         Some(last) => {
@@ -108,11 +156,12 @@ impl Threads {
             kept: Vec::new(alloc),
             links: Vec::new(alloc),
             ends: BTreeMap::new(alloc),
+            named: BTreeMap::new(alloc),
         }
     }
 
     /// Makes room for entries.
-    pub fn make_room(&mut self, fresh: &[Placed]) -> Result<(), NoMemory>
+    pub fn make_room(&mut self, alloc: Global, fresh: &[Placed]) -> Result<(), NoMemory>
         requires { spec.IsThreaded self.old }
         ensures kept { self.new.kept.items ≡ self.old.kept.items }
         ensures threaded { spec.IsThreaded self.new }
@@ -121,7 +170,7 @@ impl Threads {
     {
         self.kept.reserve(fresh.len())?;
         self.links.reserve(fresh.len())?;
-        make_places(&mut self.ends, fresh)
+        make_places(alloc, &mut self.ends, &mut self.named, fresh)
     }
 
     /// Takes an entry in, into room that was made before.
@@ -198,7 +247,52 @@ impl Threads {
         self.row_of_series(alloc, end, moment)
     }
 
-    /// The rows of the series that a selector selects, by rising label set.
+    /// The end of the last entry of a series.
+    fn end_of(&self, series: &LabelSet) -> usize
+        ensures { result ≡ spec.end_of self.now.ends series.now }
+    {
+        self.ends.get(series).copied().unwrap_or(0)
+    }
+
+    /// The rows of all series, by rising label set.
+    fn all_rows(
+        &self,
+        alloc: Global,
+        selecting: &mut Selecting<'_>,
+        moment: i64,
+    ) -> Result<Vec<ViewRow>, NoMemory>
+        requires { spec.IsThreaded self.now }
+        ensures { IfOk result (λ v. spec.IsGatheredOf self.now.kept.items selecting.old moment (keys self.now.ends) v.items) }
+    {
+        let mut rows = Vec::new(alloc);
+        for (series, end) in &self.ends {
+            let row = self.selected_row(alloc, selecting, series, *end, moment)?;
+            push_row(&mut rows, row)?;
+        }
+        Ok(rows)
+    }
+
+    /// The rows of some series, by rising label set.
+    fn rows_of(
+        &self,
+        alloc: Global,
+        sets: &BTreeSet<LabelSet>,
+        selecting: &mut Selecting<'_>,
+        moment: i64,
+    ) -> Result<Vec<ViewRow>, NoMemory>
+        requires { spec.IsThreaded self.now }
+        ensures { IfOk result (λ v. spec.IsGatheredOf self.now.kept.items selecting.old moment sets.now.keys v.items) }
+    {
+        let mut rows = Vec::new(alloc);
+        for series in sets {
+            let end = self.end_of(series);
+            let row = self.selected_row(alloc, selecting, series, end, moment)?;
+            push_row(&mut rows, row)?;
+        }
+        Ok(rows)
+    }
+
+    /// The rows of the series that a selector selects, by rising label set: where it has a name, only series of that name are looked at.
     pub fn rows(
         &self,
         alloc: Global,
@@ -208,11 +302,12 @@ impl Threads {
         requires { spec.IsThreaded self.now }
         ensures { IfOk result (λ v. spec.IsGathered self.now.kept.items selecting.old moment v.items) }
     {
-        let mut rows = Vec::new(alloc);
-        for (series, end) in &self.ends {
-            let row = self.selected_row(alloc, selecting, series, *end, moment)?;
-            push_row(&mut rows, row)?;
+        let Some(name) = selecting.name() else {
+            return self.all_rows(alloc, selecting, moment);
+        };
+        match self.named.get(name) {
+            None => Ok(Vec::new(alloc)),
+            Some(sets) => self.rows_of(alloc, sets, selecting, moment),
         }
-        Ok(rows)
     }
 }

@@ -127,7 +127,7 @@ impl View {
         ensures err { OnErr result (self.new ≡ self.old) }
     {
         let fresh = kept_from(alloc, book, self.count)?;
-        self.threads.make_room(&fresh)?;
+        self.threads.make_room(alloc, &fresh)?;
         laws_of_verdicts();
         self.threads.take_in(fresh);
         self.count = book.len();

@@ -14,4 +14,5 @@ loop-placed-preserved c =
           (All-weaker (HasPlace c.loop-placed.ends) (HasPlace c.make_place.new.ends) (λ (p : Placed) h. c.make_place.ensures.places p.entry.series h) _ c.loop-placed.invariant.places)
           c.in_ok-make_place.ensures.ok);
       same = λ s. c.make_place.ensures.same s ∙ c.loop-placed.invariant.same s;
+      named = c.make_place.ensures.named;
     }

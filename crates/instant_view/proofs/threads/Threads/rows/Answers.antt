@@ -1,61 +1,30 @@
-use Rattle.std.proofs.Common.{◌∙◌, ℕ, sym, ap, subst, refl, suc, length, unwrap_or, Option, w64, to_z, of_z}
-use Rattle.std.specs.Map.Iter.{deref_pair}
+use Rattle.std.proofs.Common.{◌≡◌, ◌∙◌, List, sym, subst, IfOk, w64, to_z, of_z}
+use Rattle.std.specs.BTreeMap.{keys}
 use Rattle.std.proofs.lemmas.Int.{to_z-of_z}
-use Rattle.std.proofs.lemmas.Map.Iter.{btree_map_turn, iter_end, iter_turn}
-use Rattle.label_set.specs.Sets.{sets_total}
-use Rattle.appender_book.proofs.SeriesLemmas.{length_more}
-use Rattle.instant_view.specs.Threads.{IsGathered, IsLastOf, IsSelectedRow}
-use Rattle.instant_view.proofs.RowLemmas.{IsGatheredTo, gathered_all, gathered_more, gathered_none, keys_below}
+use Rattle.instant_view.specs.Threads.{IsGathered, IsGatheredOf}
+use Rattle.instant_view.proofs.RowLemmas.{gathered_all, gathered_name, gathered_no_name, if_ok}
 use Rattle.instant_view.proofs.threads.Threads.rows.Goals as goal
 
-pub loop-series-init : goal.loop-series-init
-loop-series-init c = record {
-  same = refl;
-  gathered = gathered_none c.args.self.now.kept.items c.args.selecting.now (to_z w64 (of_z w64 c.args.moment)) c.args.self.now.ends.entries c.new-rows.result.items c.new-rows.ensures.items;
-}
-
-pub loop-series-preserved : goal.loop-series-preserved
-loop-series-preserved c =
-    let kept = c.args.self.now.kept.items in
-    let t = to_z w64 (of_z w64 c.args.moment) in
-    let ends = c.args.self.now.ends in
-    let xs = c.loop-series.yielded in
-    let series = c.in-Some.series.now in
-    let gives = c.into_iter-series-iterator.ensures.into_iter_gives in
-    let turn =
-    btree_map_turn deref_pair xs c.into_iter-series-iterator.result c.loop-series.series-iterator c.next.new.self c.next.result (c.in-Some.series, c.in-Some.end) c.loop-series.yielded_by c.in-Some.is c.next.ensures.steps
-    sets_total ends gives.0 gives.5 in
-    let at =
-    iter_turn deref_pair ends.entries xs c.into_iter-series-iterator.result c.loop-series.series-iterator c.next.new.self c.next.result gives.0 c.loop-series.yielded_by (c.in-Some.series, c.in-Some.end) c.in-Some.is
-    c.next.ensures.steps in
-    let found : IsSelectedRow kept c.args.selecting.now t series c.in_ok-row.row =
-    subst (λ s. IsSelectedRow kept s t series c.in_ok-row.row) c.loop-series.invariant.same c.in_ok-row.ensures.row in
-    record {
-      same = c.selected_row.ensures.same ∙ c.loop-series.invariant.same;
-      gathered =
-          subst (λ n. IsGatheredTo kept c.args.selecting.now t ends.entries n c.push_row.new.rows.items) (sym (length_more xs (c.in-Some.series, c.in-Some.end)))
-          (subst (IsGatheredTo kept c.args.selecting.now t ends.entries (suc (length xs))) (sym c.in_ok-push_row.ensures)
-          (gathered_more kept c.requires.rise c.args.selecting.now t ends.entries (length xs) c.loop-series.rows.items c.loop-series.invariant.gathered
-          series c.in-Some.end.now at.1 (keys_below ends (length xs) series turn.2) c.in_ok-row.row found));
-    }
-
-pub selected_row-requires-clause-last : goal.selected_row-requires-clause-last
-selected_row-requires-clause-last c =
-    let kept = c.args.self.now.kept.items in
-    let gives = c.into_iter-series-iterator.ensures.into_iter_gives in
-    let turn =
-    btree_map_turn deref_pair c.loop-series.yielded c.into_iter-series-iterator.result c.loop-series.series-iterator c.next.new.self c.next.result (c.in-Some.series, c.in-Some.end)
-    c.loop-series.yielded_by c.in-Some.is c.next.ensures.steps sets_total c.args.self.now.ends gives.0 gives.5 in
-    subst (IsLastOf kept c.in-Some.series.now (length kept)) (ap (λ (o : Option ℕ). unwrap_or o 0) turn.1) (c.requires.ends c.in-Some.series.now)
-
-pub returns : goal.returns
-returns c =
+pub returns-in_default : goal.returns-in_default
+returns-in_default c =
     let kept = c.args.self.now.kept.items in
     let ends = c.args.self.now.ends in
-    let gives = c.into_iter-series-iterator.ensures.into_iter_gives in
-    let end =
-    iter_end deref_pair ends.entries c.loop-series.yielded c.into_iter-series-iterator.result c.loop-series.series-iterator c.next.new.self c.next.result gives.0 c.loop-series.yielded_by
-    c.in-None.is c.next.ensures.steps in
-    subst (λ n. IsGathered kept c.args.selecting.now n c.loop-series.rows.items) (to_z-of_z w64 c.args.moment c.ranges.moment)
-    (gathered_all kept c.args.selecting.now (to_z w64 (of_z w64 c.args.moment)) ends c.requires.ends c.loop-series.rows.items
-    (subst (λ n. IsGatheredTo kept c.args.selecting.now (to_z w64 (of_z w64 c.args.moment)) ends.entries n c.loop-series.rows.items) end.1 c.loop-series.invariant.gathered))
+    let selector = c.args.selecting.now in
+    if_ok (λ v. IsGatheredOf kept selector c.args.moment (keys ends) v.items) (λ v. IsGathered kept selector c.args.moment v.items)
+    (λ v. gathered_all kept selector c.args.moment ends c.requires.ends v.items) c.all_rows.result
+    (subst (λ t. IfOk c.all_rows.result (λ v. IsGatheredOf kept selector t (keys ends) v.items)) (to_z-of_z w64 c.args.moment c.ranges.moment) c.all_rows.ensures)
+
+pub returns-in-None : goal.returns-in-None
+returns-in-None c =
+    gathered_no_name c.args.self.now.kept.items c.args.selecting.now c.args.moment c.args.self.now.ends c.requires.ends c.args.self.now.named c.requires.named
+    c.in-Some.name.now (sym c.in-Some.ensures) c.new.result.items c.new.ensures.items (sym c.in-None.ensures.value)
+
+pub returns-in-Some-get : goal.returns-in-Some-get
+returns-in-Some-get c =
+    let kept = c.args.self.now.kept.items in
+    let selector = c.args.selecting.now in
+    let sets = c.in-Some-get.sets.now in
+    if_ok (λ v. IsGatheredOf kept selector c.args.moment sets.keys v.items) (λ v. IsGathered kept selector c.args.moment v.items)
+    (λ v. gathered_name kept selector c.args.moment c.args.self.now.ends c.requires.ends c.args.self.now.named c.requires.named c.in-Some.name.now (sym c.in-Some.ensures) sets v.items
+    (sym c.in-Some-get.ensures.value)) c.rows_of.result
+    (subst (λ t. IfOk c.rows_of.result (λ v. IsGatheredOf kept selector t sets.keys v.items)) (to_z-of_z w64 c.args.moment c.ranges.moment) c.rows_of.ensures)
