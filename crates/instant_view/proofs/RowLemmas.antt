@@ -18,7 +18,8 @@ use Rattle.label_set.specs.Sets.{set_cmp, sets_total}
 use Rattle.label_set.specs.declared.texts.Pair.{Pair}
 use Rattle.report_samples.specs.declared.entries.Entry.{Entry}
 use Rattle.appender_book.proofs.SeriesLemmas.{slice_get_left, slice_get_end, length_more}
-use Rattle.instant_view.specs.Selectors.{holds_in, is_of_name, selects, value_in}
+use Rattle.instant_view.specs.Selectors.{IsNameAmong, IsNameOf, holds_in, is_of_name, selects, value_in}
+use Rattle.instant_view.specs.declared.matchers.Matcher.{Matcher}
 use Rattle.instant_view.specs.declared.matchers.SelectorParts.{SelectorParts}
 use Rattle.instant_view.specs.declared.rows.Placed.{Placed}
 use Rattle.instant_view.specs.declared.rows.ViewRow.{ViewRow}
@@ -216,19 +217,28 @@ first_of : (a b : Bool) → (a && b) ≡ true → a ≡ true
 first_of true b e = refl
 first_of false b e = absurd (true≢false (sym e))
 
-its_name : (selector : SelectorParts) (name : List ℕ) (set : List Pair) → selector.name ≡ Some name → selects selector set ≡ true → value_in set (codes "__name__") ≡ name
+pub its_name : (selector : SelectorParts) (name : List ℕ) (set : List Pair) → selector.name ≡ Some name → selects selector set ≡ true → value_in set (codes "__name__") ≡ name
 unfolding selects
 its_name selector name set is s =
     let test : is_of_name (Some name) set ≡ true = ap (λ n. is_of_name n set) (sym is) ∙ first_of (is_of_name selector.name set) (list_all (holds_in set) selector.matchers) s in
     (bytes_decides (value_in set (codes "__name__")) name).0 test
 
+second_of : (a b : Bool) → (a && b) ≡ true → b ≡ true
+second_of true b e = e
+second_of false b e = absurd (true≢false (sym e))
+
+pub name_of_matchers : (selector : SelectorParts) (ms : List Matcher) (name : List ℕ) → selector.matchers ≡ ms → IsNameAmong ms name → IsNameOf selector name
+unfolding selects
+name_of_matchers selector ms name same is set s =
+    is set (ap (list_all (holds_in set)) (sym same) ∙ second_of (is_of_name selector.name set) (list_all (holds_in set) selector.matchers) s)
+
 module _ (kept : List Placed) (selector : SelectorParts) (t : ℤ) (ends : BTreeMap (List Pair) ℕ) (are : AreEnds kept ends) (named : BTreeMap (List ℕ) (BTreeSet (List Pair)))
-    (noted : AreNamed ends named) (name : List ℕ) (is : selector.name ≡ Some name) where
+    (noted : AreNamed ends named) (name : List ℕ) (is : IsNameOf selector name) where
   in_name : (row : ViewRow) → selects selector row.series ≡ true → IsKeptRow kept t row → is_named named name row.series ≡ true
   in_name row s r =
       let p = has_place kept t ends are row r in
       let place : IsSome (get set_cmp ends row.series) = subst IsSome (sym p.1) refl in
-      subst (λ n. is_named named n row.series ≡ true) (its_name selector name row.series is s) (noted row.series place)
+      subst (λ n. is_named named n row.series ≡ true) (is row.series s) (noted row.series place)
 
   pub gathered_no_name : (rows : List ViewRow) → rows ≡ [] → get bytes_cmp named name ≡ None → IsGathered kept selector t rows
   gathered_no_name rows none missing = record {
@@ -284,6 +294,10 @@ module _ {E : Type 0} (kept : List Placed) (t : ℤ) (series : List Pair) (r : R
 
 pub get_there : {X : Type 0} (xs : List X) (k : ℕ) (x : X) → k < length xs → x ≡ get_or xs k x → slice_get xs k ≡ Some x
 get_there xs k x lt e = contains_get xs k x lt (sym e)
+
+pub if_some : {A : Type 0} (P Q : A → Type 0) → ((x : A) → P x → Q x) → (o : Option A) → IfSome o P → IfSome o Q
+if_some P Q h (Some x) p = h x p
+if_some P Q h None p = tt
 
 pub if_ok : {A E : Type 0} (P Q : A → Type 0) → ((x : A) → P x → Q x) → (r : Result A E) → IfOk r P → IfOk r Q
 if_ok P Q h (Ok x) p = h x p

@@ -40,6 +40,18 @@ is_of_name name set = option_map_or (λ (n : List ℕ). bytes_eq (value_in set (
 unfoldable pub selects : SelectorParts → List Pair → Bool
 selects parts set = is_of_name parts.name set && list_all (holds_in set) parts.matchers
 
+-- each set that is selected has this name
+abbrev pub IsNameOf : SelectorParts → List ℕ → Type 0
+IsNameOf parts name = (set : List Pair) → selects parts set ≡ true → value_in set (codes "__name__") ≡ name
+
+-- the same of matchers
+abbrev pub IsNameAmong : List Matcher → List ℕ → Type 0
+IsNameAmong ms name = (set : List Pair) → list_all (holds_in set) ms ≡ true → value_in set (codes "__name__") ≡ name
+
+-- the same of one
+abbrev pub IsNameBy : Matcher → List ℕ → Type 0
+IsNameBy m name = (set : List Pair) → holds_in set m ≡ true → value_in set (codes "__name__") ≡ name
+
 -- there is no name, and each matcher holds of the empty text
 abbrev pub holds_of_nothing : Matcher → Bool
 holds_of_nothing m = holds m []

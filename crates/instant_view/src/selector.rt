@@ -1,12 +1,12 @@
 //! Selectors, read and ready to be asked.
-ghost use Rattle.std.specs.Prelude.{◌≡◌, All, IfErr, IfOk, option_map, false};
+ghost use Rattle.std.specs.Prelude.{◌≡◌, All, IfErr, IfOk, IfSome, option_map, false};
 ghost use Rattle.std.specs.List.{list_all};
 ghost use Rattle.instant_view.specs.Grammar as grammar;
 ghost use Rattle.instant_view.specs.Selectors as spec;
 
 use crate::matchers::{SelectorError, SelectorParts};
 use crate::reading::selector_in;
-use crate::tests::{Test, Tester, built, testers};
+use crate::tests::{Test, Tester, built, name_among, testers};
 use label_set::{LabelSet, Name, NoMemory};
 use std::alloc::Global;
 use std::marker::Model;
@@ -154,12 +154,15 @@ impl<'s> Model for Selecting<'s> {
 }
 
 impl<'s> Selecting<'s> {
-    /// The metric name in front, if there is one.
+    /// The name of each set that is selected, where the selector asks for one name: that in front, or the text of a matcher.
     pub(crate) fn name(&self) -> Option<&'s Name>
-        ensures { option_map (λ n. n.now) result ≡ self.now.name }
+        ensures { IfSome result (λ n. spec.IsNameOf self.now n.now) }
     {
         let selector = self.selector;
-        selector.name.as_ref()
+        match &selector.name {
+            Some(name) => Some(name),
+            None => name_among(&selector.tests),
+        }
     }
 
     /// Whether a set is selected.

@@ -5,7 +5,7 @@ ghost use Rattle.instant_view.specs.Selectors as spec;
 ghost use Rattle.instant_view.specs.Tests as tests;
 
 use crate::matchers::{Matcher, Operator, SelectorError};
-use label_set::{LabelSet, NoMemory};
+use label_set::{LabelSet, Name, NoMemory};
 use pattern_rule::{Matching, Pattern, PatternError};
 use std::alloc::Global;
 use std::marker::Model;
@@ -79,6 +79,23 @@ impl Test {
         Ok(Test { matcher, pattern })
     }
 
+    /// The name of each set of which the matcher holds, where it asks for one name.
+    fn name(&self) -> Option<&Name>
+        ensures { IfSome result (λ n. spec.IsNameBy self.now n.now) }
+    {
+        match self.matcher.operator {
+            Operator::Equal => {
+                if self.matcher.label.as_str() == "__name__" {
+                    return Some(&self.matcher.value);
+                }
+                None
+            }
+            Operator::Unequal => None,
+            Operator::Match => None,
+            Operator::Mismatch => None,
+        }
+    }
+
     /// The matcher with room for one of its pattern.
     pub fn tester(&self) -> Tester<'_>
         ensures { result ≡ self.now }
@@ -92,6 +109,18 @@ impl Test {
             matching,
         }
     }
+}
+
+/// The name of each set of which the matchers hold, where one of them asks for one name.
+pub fn name_among(tests: &[Test]) -> Option<&Name>
+    ensures { IfSome result (λ n. spec.IsNameAmong tests.now n.now) }
+{
+    for test in tests {
+        if let Some(name) = test.name() {
+            return Some(name);
+        }
+    }
+    None
 }
 
 /// Builds the patterns of matchers.

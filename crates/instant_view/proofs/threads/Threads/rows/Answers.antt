@@ -17,7 +17,7 @@ returns-in_default c =
 pub returns-in-None : goal.returns-in-None
 returns-in-None c =
     gathered_no_name c.args.self.now.kept.items c.args.selecting.now c.args.moment c.args.self.now.ends c.requires.ends c.args.self.now.named c.requires.named
-    c.in-Some.name.now (sym c.in-Some.ensures) c.new.result.items c.new.ensures.items (sym c.in-None.ensures.value)
+    c.in-Some.name.now c.in-Some.ensures c.new.result.items c.new.ensures.items (sym c.in-None.ensures.value)
 
 pub returns-in-Some-get : goal.returns-in-Some-get
 returns-in-Some-get c =
@@ -25,6 +25,6 @@ returns-in-Some-get c =
     let selector = c.args.selecting.now in
     let sets = c.in-Some-get.sets.now in
     if_ok (λ v. IsGatheredOf kept selector c.args.moment sets.keys v.items) (λ v. IsGathered kept selector c.args.moment v.items)
-    (λ v. gathered_name kept selector c.args.moment c.args.self.now.ends c.requires.ends c.args.self.now.named c.requires.named c.in-Some.name.now (sym c.in-Some.ensures) sets v.items
+    (λ v. gathered_name kept selector c.args.moment c.args.self.now.ends c.requires.ends c.args.self.now.named c.requires.named c.in-Some.name.now c.in-Some.ensures sets v.items
     (sym c.in-Some-get.ensures.value)) c.rows_of.result
     (subst (λ t. IfOk c.rows_of.result (λ v. IsGatheredOf kept selector t sets.keys v.items)) (to_z-of_z w64 c.args.moment c.ranges.moment) c.rows_of.ensures)
