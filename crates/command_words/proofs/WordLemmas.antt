@@ -11,10 +11,10 @@ use Rattle.clap.specs.declared.error.kind.ErrorKind.TheVariants.{OutOfMemory}
 use Rattle.clap.specs.declared.parser.matches.ArgMatches.{ArgMatches}
 use Rattle.clap.proofs.OnLiterals.{clap_on_literals}
 use Rattle.clap.proofs.WalkLemmas.{first_value-rows}
-use Rattle.command_words.specs.Arguments.{replay_app, file_app, synth_app, run_app, app_for, fault_in, rows_in}
+use Rattle.command_words.specs.Arguments.{replay_app, file_app, at_app, synth_app, run_app, app_for, fault_in, rows_in}
 use Rattle.command_words.specs.Words.{order_of, asked_in, order_by, file_in, file_asked, unless_refused, is_given}
 use Rattle.command_words.specs.declared.words.Verb.{Verb}
-use Rattle.command_words.specs.declared.words.Verb.TheVariants.{Replay, Check, Convert, Synth, Run}
+use Rattle.command_words.specs.declared.words.Verb.TheVariants.{Replay, Check, Convert, At, Synth, Run}
 use Rattle.command_words.specs.declared.words.Asked.{Asked}
 use Rattle.command_words.specs.declared.words.Order.{Order}
 
@@ -29,6 +29,10 @@ free_check = refl
 free_convert : is_simple_and_free (file_app (codes "convert")) ≡ true
 unfolding file_app clap_on_literals
 free_convert = refl
+
+free_at : is_simple_and_free at_app ≡ true
+unfolding at_app clap_on_literals
+free_at = refl
 
 free_synth : is_simple_and_free synth_app ≡ true
 unfolding synth_app clap_on_literals
@@ -50,6 +54,10 @@ simple_convert : is_simple (file_app (codes "convert")) ≡ true
 unfolding file_app clap_on_literals
 simple_convert = refl
 
+simple_at : is_simple at_app ≡ true
+unfolding at_app clap_on_literals
+simple_at = refl
+
 simple_synth : is_simple synth_app ≡ true
 unfolding synth_app clap_on_literals
 simple_synth = refl
@@ -62,6 +70,7 @@ is_free : (command : Verb) → is_simple_and_free (app_for command) ≡ true
 is_free Replay = free_replay
 is_free Check = free_check
 is_free Convert = free_convert
+is_free At = free_at
 is_free Synth = free_synth
 is_free Run = free_run
 
@@ -69,6 +78,7 @@ has_simple : (command : Verb) → is_simple (app_for command) ≡ true
 has_simple Replay = simple_replay
 has_simple Check = simple_check
 has_simple Convert = simple_convert
+has_simple At = simple_at
 has_simple Synth = simple_synth
 has_simple Run = simple_run
 

@@ -5,7 +5,7 @@ use Rattle.clap.specs.Kinds.{Kinds}
 use Rattle.clap.specs.Faults.{fault_of}
 use Rattle.clap.specs.declared.builder.action.ArgAction.TheVariants.{SetTrue}
 use Rattle.command_words.specs.declared.words.Verb.{Verb}
-use Rattle.command_words.specs.declared.words.Verb.TheVariants.{Replay, Check, Convert, Synth, Run}
+use Rattle.command_words.specs.declared.words.Verb.TheVariants.{Replay, Check, Convert, At, Synth, Run}
 
 abbrev pub kept_id : Text
 kept_id = codes "kept"
@@ -15,6 +15,12 @@ cut_id = codes "cut"
 
 abbrev pub file_id : Text
 file_id = codes "file"
+
+abbrev pub ms_id : Text
+ms_id = codes "ms"
+
+abbrev pub selector_id : Text
+selector_id = codes "selector"
 
 abbrev pub seed_id : Text
 seed_id = codes "seed"
@@ -52,6 +58,10 @@ replay_app = with_rule (with_rule (with_rule (bare_app (codes "replay")) (flag_r
 unfoldable pub file_app : Text → App
 file_app name = with_rule (bare_app name) (word_rule file_id)
 
+-- `at MS SELECTOR FILE`
+unfoldable pub at_app : App
+at_app = with_rule (with_rule (with_rule (bare_app (codes "at")) (word_rule ms_id)) (word_rule selector_id)) (word_rule file_id)
+
 -- `synth SEED TARGETS SCRAPES`
 unfoldable pub synth_app : App
 synth_app = with_rule (with_rule (with_rule (bare_app (codes "synth")) (word_rule seed_id)) (word_rule targets_id)) (word_rule scrapes_id)
@@ -64,6 +74,7 @@ abbrev pub app_for : Verb → App
 app_for Replay = replay_app
 app_for Check = file_app (codes "check")
 app_for Convert = file_app (codes "convert")
+app_for At = at_app
 app_for Synth = synth_app
 app_for Run = run_app
 

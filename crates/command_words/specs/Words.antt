@@ -9,12 +9,13 @@ use Rattle.value_text.specs.Values.{digits}
 use Rattle.outside.specs.Sizes.{most_body_bytes, most_text_bytes}
 use Rattle.synth.specs.Scripts.{plan, most_targets, most_scrapes, most_scrapes_of_all}
 use Rattle.synth.specs.declared.scripts.Plan.{Plan}
-use Rattle.command_words.specs.Arguments.{kept_id, cut_id, file_id, seed_id, targets_id, scrapes_id, turns_id, fault_in, rows_in}
+use Rattle.command_words.specs.Arguments.{kept_id, cut_id, file_id, ms_id, selector_id, seed_id, targets_id, scrapes_id, turns_id, fault_in, rows_in}
 use Rattle.command_words.specs.Askings.{Asking, asking, running}
+use Rattle.command_words.specs.Instants.{instant}
 use Rattle.command_words.specs.declared.words.Verb.{Verb}
 use Rattle.command_words.specs.declared.words.Verb.TheVariants as verb
 use Rattle.command_words.specs.declared.words.Command.{Command}
-use Rattle.command_words.specs.declared.words.Command.TheVariants.{Replay, Check, Convert}
+use Rattle.command_words.specs.declared.words.Command.TheVariants.{Replay, Check, Convert, At}
 use Rattle.command_words.specs.declared.words.Asked.{Asked}
 use Rattle.command_words.specs.declared.words.Asked.TheVariants.{File, Synth}
 use Rattle.command_words.specs.declared.words.Order.{Order}
@@ -26,6 +27,7 @@ verb_named word =
     if bytes_eq word (codes "replay") then Some verb.Replay
     else if bytes_eq word (codes "check") then Some verb.Check
     else if bytes_eq word (codes "convert") then Some verb.Convert
+    else if bytes_eq word (codes "at") then Some verb.At
     else if bytes_eq word (codes "synth") then Some verb.Synth
     else if bytes_eq word (codes "run") then Some verb.Run
     else None
@@ -42,17 +44,25 @@ asked_by_file command rows = option_map (λ file. File (asking (is_given kept_id
 abbrev pub replay_asked : List Row → Option Asked
 replay_asked rows = asked_by_file (Replay (is_given cut_id rows)) rows
 
--- 1 to 10 digits
-abbrev pub is_number : List ℕ → Bool
-is_number text = (digits text == length text) && (nat_le 1 (length text) && nat_le (length text) 10)
+-- 1 to so many digits
+abbrev pub is_number : ℕ → List ℕ → Bool
+is_number most text = (digits text == length text) && (nat_le 1 (length text) && nat_le (length text) most)
 
 -- the number that they spell, where it is below a limit
-unfoldable pub number_below : ℕ → List ℕ → Option ℕ
-number_below limit text = if is_number text && nat_lt (digits_value 10 text) limit then Some (digits_value 10 text) else None
+unfoldable pub number_below : ℕ → ℕ → List ℕ → Option ℕ
+number_below most limit text = if is_number most text && nat_lt (digits_value 10 text) limit then Some (digits_value 10 text) else None
 
 -- the number that was given for an argument
-abbrev pub number_in : Text → ℕ → List Row → Option ℕ
-number_in id limit rows = option_and_then (number_below limit) (first_of id rows)
+abbrev pub number_in : Text → ℕ → ℕ → List Row → Option ℕ
+number_in id most limit rows = option_and_then (number_below most limit) (first_of id rows)
+
+-- what a selector sees at a moment, by the script in the file that was named
+abbrev pub asked_by_moment : List Row → Option ℕ → Option (List ℕ) → Option Asked
+asked_by_moment rows (Some moment) (Some selector) = asked_by_file (At (instant moment selector)) rows
+asked_by_moment rows _ _ = None
+
+abbrev pub at_asked : List Row → Option Asked
+at_asked rows = asked_by_moment rows (number_in ms_id 16 (2 ^ 52) rows) (first_of selector_id rows)
 
 -- whether a script of these numbers may be made: of one target at least, and of no more scrapes in all than it may have
 unfoldable pub is_plan : Plan → Bool
@@ -73,15 +83,17 @@ order_by_turns kept _ _ = None
 
 -- the workload of the numbers that were given
 abbrev pub workload_by : List Row → Option Asked
-workload_by rows = asked_by_numbers (number_in seed_id (2 ^ 32) rows) (number_in targets_id (most_targets + 1) rows) (number_in scrapes_id (most_scrapes + 1) rows)
+workload_by rows =
+    asked_by_numbers (number_in seed_id 10 (2 ^ 32) rows) (number_in targets_id 10 (most_targets + 1) rows) (number_in scrapes_id 10 (most_scrapes + 1) rows)
 
 -- a command with the values that its arguments have
 abbrev pub order_by : Verb → List Row → Option Order
 order_by verb.Replay rows = option_map Still (replay_asked rows)
 order_by verb.Check rows = option_map Still (asked_by_file Check rows)
 order_by verb.Convert rows = option_map Still (asked_by_file Convert rows)
+order_by verb.At rows = option_map Still (at_asked rows)
 order_by verb.Synth rows = option_map Still (workload_by rows)
-order_by verb.Run rows = order_by_turns (is_given kept_id rows) (number_in turns_id 1000001 rows) (first_of file_id rows)
+order_by verb.Run rows = order_by_turns (is_given kept_id rows) (number_in turns_id 10 1000001 rows) (first_of file_id rows)
 
 -- nothing is asked for by words that are refused
 abbrev pub unless_refused : Kinds → Option Order → Option Order
@@ -125,3 +137,4 @@ abbrev pub limit_of : Command → ℕ
 limit_of (Replay cut) = 268435456
 limit_of Check = most_text_bytes
 limit_of Convert = most_body_bytes
+limit_of (At i) = 268435456

@@ -6,6 +6,7 @@ ghost use Rattle.command_words.specs.Words as spec;
 ghost use Rattle.command_words.specs.declared.words.Order.TheVariants as orders;
 ghost use Rattle.command_words.specs.declared.words.Verb.TheVariants as verbs;
 
+use crate::viewing::viewing_of;
 use crate::words::{Asked, Command, OfFile, Order, Verb, live_of, verb_named, workload_of};
 use clap::error::ErrorKind;
 use clap::{Arg, ArgAction, ArgMatches, Command as Grammar};
@@ -76,6 +77,16 @@ fn file_grammar<'a>(alloc: Global, name: &'a str) -> Result<Grammar<'a>, AllocEr
     Ok(whole)
 }
 
+/// `at MS SELECTOR FILE`.
+fn at_grammar<'a>(alloc: Global) -> Result<Grammar<'a>, AllocError>
+    ensures { IfOk result (λ g. app_of g ≡ grammar.at_app) }
+{
+    let with_moment = bare(alloc, "at").arg(word(alloc, "ms"))?;
+    let with_selector = with_moment.arg(word(alloc, "selector"))?;
+    let whole = with_selector.arg(word(alloc, "file"))?;
+    Ok(whole)
+}
+
 /// `synth SEED TARGETS SCRAPES`.
 fn synth_grammar<'a>(alloc: Global) -> Result<Grammar<'a>, AllocError>
     ensures { IfOk result (λ g. app_of g ≡ grammar.synth_app) }
@@ -104,6 +115,7 @@ fn grammar_of<'a>(alloc: Global, verb: Verb) -> Result<Grammar<'a>, AllocError>
         Verb::Replay => replay_grammar(alloc),
         Verb::Check => file_grammar(alloc, "check"),
         Verb::Convert => file_grammar(alloc, "convert"),
+        Verb::At => at_grammar(alloc),
         Verb::Synth => synth_grammar(alloc),
         Verb::Run => run_grammar(alloc),
     }
@@ -147,8 +159,8 @@ fn word_in<'a>(id: &str, matches: &ArgMatches<'a>) -> Option<&'a str>
 }
 
 /// What a command over a file is asked for.
-fn asked_by_file<'a>(command: Command, matches: &ArgMatches<'a>) -> Option<Asked<'a>>
-    ensures { result ≡ spec.asked_by_file command (rows_of (found_of matches.now)) }
+fn asked_by_file<'a>(command: Command<'a>, matches: &ArgMatches<'a>) -> Option<Asked<'a>>
+    ensures { result ≡ spec.asked_by_file command.entry (rows_of (found_of matches.now)) }
 {
     match word_in("file", matches) {
         Some(file) => Some(Asked::File(OfFile {
@@ -168,14 +180,14 @@ fn replay_asked<'a>(matches: &ArgMatches<'a>) -> Option<Asked<'a>>
     asked_by_file(Command::Replay { cut }, matches)
 }
 
-/// The number that 1 to 10 digits spell, below a limit.
+/// The number that 1 to so many digits spell, below a limit.
 #[tactic(auto, unfolding(crate::specs::Words::number_below))]
-fn number_below(limit: u64, text: &[u8]) -> Option<u64>
-    ensures number { result ≡ spec.number_below limit text.now }
+fn number_below(most: usize, limit: u64, text: &[u8]) -> Option<u64>
+    ensures number { result ≡ spec.number_below most limit text.now }
     ensures below { IfSome result (λ n. n < limit) }
 {
     let count = digit_count(text);
-    if count != text.len() || count < 1 || count > 10 {
+    if count != text.len() || count < 1 || count > most {
         return None;
     }
     match number_of(text) {
@@ -185,13 +197,27 @@ fn number_below(limit: u64, text: &[u8]) -> Option<u64>
 }
 
 /// The number that was given for an argument.
-fn number_in(id: &str, limit: u64, matches: &ArgMatches<'_>) -> Option<u64>
-    ensures number { result ≡ spec.number_in id.now limit (rows_of (found_of matches.now)) }
+fn number_in(id: &str, most: usize, limit: u64, matches: &ArgMatches<'_>) -> Option<u64>
+    ensures number { result ≡ spec.number_in id.now most limit (rows_of (found_of matches.now)) }
     ensures below { IfSome result (λ n. n < limit) }
 {
     match word_in(id, matches) {
-        Some(word) => number_below(limit, word.as_bytes()),
+        Some(word) => number_below(most, limit, word.as_bytes()),
         None => None,
+    }
+}
+
+/// What `at` is asked for.
+fn at_asked<'a>(matches: &ArgMatches<'a>) -> Option<Asked<'a>>
+    ensures { result ≡ spec.at_asked (rows_of (found_of matches.now)) }
+{
+    let moment = number_in("ms", 16, 1 << 52, matches);
+    match (moment, word_in("selector", matches)) {
+        (Some(moment), Some(selector)) => {
+            let command = Command::At(viewing_of(moment, selector));
+            asked_by_file(command, matches)
+        }
+        _ => None,
     }
 }
 
@@ -199,9 +225,9 @@ fn number_in(id: &str, limit: u64, matches: &ArgMatches<'_>) -> Option<u64>
 fn asked_by_numbers<'a>(matches: &ArgMatches<'_>) -> Option<Asked<'a>>
     ensures { result ≡ spec.workload_by (rows_of (found_of matches.now)) }
 {
-    let seed = number_in("seed", 1 << 32, matches);
-    let targets = number_in("targets", MOST_TARGETS + 1, matches);
-    let scrapes = number_in("scrapes", MOST_SCRAPES + 1, matches);
+    let seed = number_in("seed", 10, 1 << 32, matches);
+    let targets = number_in("targets", 10, MOST_TARGETS + 1, matches);
+    let scrapes = number_in("scrapes", 10, MOST_SCRAPES + 1, matches);
     match (seed, targets, scrapes) {
         (Some(seed), Some(targets), Some(scrapes)) => workload_of(seed, targets, scrapes),
         _ => None,
@@ -212,7 +238,7 @@ fn asked_by_numbers<'a>(matches: &ArgMatches<'_>) -> Option<Asked<'a>>
 fn order_by_turns<'a>(matches: &ArgMatches<'a>) -> Option<Order<'a>>
     ensures { result ≡ spec.order_by verbs.Run (rows_of (found_of matches.now)) }
 {
-    let turns = number_in("turns", 1_000_001, matches);
+    let turns = number_in("turns", 10, 1_000_001, matches);
     match (turns, word_in("file", matches)) {
         (Some(turns), Some(file)) => Some(live_of(turns, is_given("kept", matches), file)),
         _ => None,
@@ -237,6 +263,7 @@ fn order_by<'a>(verb: Verb, matches: &ArgMatches<'a>) -> Option<Order<'a>>
         Verb::Replay => still(replay_asked(matches)),
         Verb::Check => still(asked_by_file(Command::Check, matches)),
         Verb::Convert => still(asked_by_file(Command::Convert, matches)),
+        Verb::At => still(at_asked(matches)),
         Verb::Synth => still(asked_by_numbers(matches)),
         Verb::Run => order_by_turns(matches),
     }

@@ -4,7 +4,9 @@
 #![tactic(auto)]
 
 pub mod arguments;
+pub mod viewing;
 pub mod words;
 
 pub use arguments::{WordsError, asked_in, order_in};
+pub use viewing::Viewing;
 pub use words::{Asked, Command, Live, OfFile, Order, Verb, Workload, limit_of};

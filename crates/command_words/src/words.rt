@@ -5,6 +5,7 @@ ghost use Rattle.command_words.specs.Askings.{running};
 ghost use Rattle.command_words.specs.Words as spec;
 ghost use Rattle.command_words.specs.declared.words.Order.TheVariants as order;
 
+use crate::viewing::Viewing;
 use outside::{MOST_BODY_BYTES, MOST_TEXT_BYTES};
 use std::marker::Model;
 use synth::MOST_SCRAPES_OF_ALL;
@@ -15,25 +16,28 @@ pub enum Verb {
     Replay,
     Check,
     Convert,
+    At,
     Synth,
     Run,
 }
 
 /// The commands over a file.
-#[derive(Clone, Copy, PartialEq, Eq, Debug)]
-pub enum Command {
+#[derive(Drop, Debug)]
+pub enum Command<'a> {
     /// Replay the script in a file; of one that may have been cut, what it begins with.
     Replay { cut: bool },
     /// Check the configuration in a file.
     Check,
     /// Convert the OpenMetrics body in a file.
     Convert,
+    /// Tell what a selector sees at a moment in the book of the script in a file.
+    At(Viewing<'a>),
 }
 
 /// A command with its flag, and the name of its file.
 #[derive(Drop, Debug)]
 pub struct OfFile<'a> {
-    pub command: Command,
+    pub command: Command<'a>,
     /// Whether each line of a book has the verdict in front.
     pub kept: bool,
     pub file: &'a str,
@@ -164,6 +168,8 @@ pub fn verb_named(word: &str) -> Option<Verb>
         Some(Verb::Check)
     } else if word == "convert" {
         Some(Verb::Convert)
+    } else if word == "at" {
+        Some(Verb::At)
     } else if word == "synth" {
         Some(Verb::Synth)
     } else if word == "run" {
@@ -205,11 +211,11 @@ pub fn live_of<'a>(turns: u64, kept: bool, file: &'a str) -> Order<'a>
 }
 
 /// How many bytes the file of a command may have: 256 MiB for a script, 4 MiB for a configuration, and 64 MiB for a body.
-pub fn limit_of(command: Command) -> usize
-    ensures { result ≡ spec.limit_of command }
+pub fn limit_of(command: &Command<'_>) -> usize
+    ensures { result ≡ spec.limit_of command.now }
 {
     match command {
-        Command::Replay { .. } => 268_435_456,
+        Command::Replay { .. } | Command::At(_) => 268_435_456,
         Command::Check => MOST_TEXT_BYTES as usize,
         Command::Convert => MOST_BODY_BYTES as usize,
     }

@@ -199,8 +199,13 @@ fn calls_that_fail_have_their_status(rt: HostRuntime) -> Result<(), Fail> {
     {
         let means = means_of(&rt)?;
         let alloc = means.alloc;
-        for command in ["replay", "check"] {
-            let words = words_of(alloc, &[command, "s"])?;
+        let commands = [
+            ["replay", "s"].as_slice(),
+            ["check", "s"].as_slice(),
+            ["at", "0", "x", "s"].as_slice(),
+        ];
+        for command in commands {
+            let words = words_of(alloc, command)?;
             let mut failing = MemShelf::new(files(alloc, b"{}")?, fails(alloc, &[0])?)?;
             let ran = run_over(means, words.as_slice(), &mut failing, ROOM, &[])?;
             assert_left(&rt, &ran, 6, b"", b"scrape: read fault\n");

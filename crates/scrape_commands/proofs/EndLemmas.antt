@@ -1,34 +1,39 @@
 -- What follows of a call that ended.
 use Rattle.std.proofs.Common.{◌≡◌, ◌≢◌, ℕ, ◌≤◌, List, sym, refl, ap, ◌∙◌, inl, inr, arith, subst}
-use Rattle.std.specs.Prelude.{Bool, Result, Ok, Err}
+use Rattle.std.specs.Prelude.{IsSomeAnd, Result, Ok, Err}
 use Rattle.outside.specs.Objects.{ShelfSeen, SinkSeen, Use, IsUntouched, Missed, MetLonger, FailedToRead}
 use Rattle.config_fields.specs.declared.fault.ConfFault.{ConfFault}
 use Rattle.journal_text.specs.declared.faults.ScriptFault.{ScriptFault}
 use Rattle.om_reader.specs.Bodies.{converted}
 use Rattle.scrape_commands.specs.Checks.{IsFault, fault_message}
-use Rattle.scrape_commands.specs.Scripts.{IsFaultOf, fault_message as script_message}
-use Rattle.command_words.specs.Words.{file_in}
+use Rattle.scrape_commands.specs.Scripts.{HasScriptFault, fault_message as script_message}
+use Rattle.scrape_commands.specs.Instants.{RefusesSelector, fault_message as selector_message}
+use Rattle.command_words.specs.Words.{OfFile, asked_in, file_in}
 use Rattle.scrape_commands.specs.Ends.{Call, work_of, Reads, Prints, IsRefused, WorkEnds, Speaks, IsSaid, Ended, status_at, status_of, line_message, message_of}
-use Rattle.scrape_commands.specs.Laws.{Causes, NoCountFell, IsStatus}
-use Rattle.command_words.specs.declared.words.Command.TheVariants.{Replay, Check, Convert}
+use Rattle.scrape_commands.specs.Laws.{Causes, NamesNoFault, NoCountFell, IsStatus}
+use Rattle.command_words.specs.declared.words.Command.{Command}
+use Rattle.command_words.specs.declared.words.Command.TheVariants.{Check, Convert}
 use Rattle.scrape_commands.specs.declared.refusals.Refusal.{Refusal}
-use Rattle.scrape_commands.specs.declared.refusals.Refusal.TheVariants.{BadWords, Absent, Config, Script, OpenMetrics, ReadFault, WriteFault, NoMemory, TooLong}
+use Rattle.scrape_commands.specs.declared.refusals.SelectorFault.{SelectorFault}
+use Rattle.scrape_commands.specs.declared.refusals.Refusal.TheVariants.{BadWords, Selector, Absent, Config, Script, OpenMetrics, ReadFault, WriteFault, NoMemory, TooLong}
 
--- a status tells its refusal, but for the fault of a file
-same_refusal : (r s : Refusal) → status_of r ≢ 4 → status_of r ≢ 5 → status_of r ≢ 13 → status_of r ≡ status_of s → s ≡ r
-same_refusal BadWords BadWords n m o e = refl
-same_refusal Absent Absent n m o e = refl
-same_refusal (Config f) s n m o e = absurd (n refl)
-same_refusal (Script f) s n m o e = absurd (m refl)
-same_refusal (OpenMetrics l) s n m o e = absurd (o refl)
-same_refusal ReadFault ReadFault n m o e = refl
-same_refusal WriteFault WriteFault n m o e = refl
-same_refusal NoMemory NoMemory n m o e = refl
-same_refusal TooLong TooLong n m o e = refl
-same_refusal _ _ n m o e = absurd (omega (arith, e))
+-- a status tells its refusal, where that names no fault
+same_refusal : (r s : Refusal) → NamesNoFault r → status_of r ≡ status_of s → s ≡ r
+same_refusal (Selector f) s n e = absurd n
+same_refusal (Config f) s n e = absurd n
+same_refusal (Script f) s n e = absurd n
+same_refusal (OpenMetrics l) s n e = absurd n
+same_refusal BadWords BadWords n e = refl
+same_refusal Absent Absent n e = refl
+same_refusal ReadFault ReadFault n e = refl
+same_refusal WriteFault WriteFault n e = refl
+same_refusal NoMemory NoMemory n e = refl
+same_refusal TooLong TooLong n e = refl
+same_refusal _ _ n e = absurd (omega (arith, e))
 
 not_zero : (r : Refusal) → status_of r ≡ 0 → ⊥
 not_zero BadWords e = omega (arith, e)
+not_zero (Selector f) e = omega (arith, e)
 not_zero Absent e = omega (arith, e)
 not_zero (Config f) e = omega (arith, e)
 not_zero (Script f) e = omega (arith, e)
@@ -44,13 +49,13 @@ module _ (c : Call) where
     pub refused : IsRefused r (work_of c)
     pub said : IsSaid (message_of (file_in c.words) r) c.err
 
-  told_by : (r : Refusal) → status_of r ≢ 4 → status_of r ≢ 5 → status_of r ≢ 13 → Ended (status_of r) c → Told r
-  told_by r n m o e = of e.end e.status_is e.work_ends e.speaks
+  told_by : (r : Refusal) → NamesNoFault r → Ended (status_of r) c → Told r
+  told_by r n e = of e.end e.status_is e.work_ends e.speaks
     where
       of : (end : Result (Unit {0}) Refusal) → status_of r ≡ status_at end → WorkEnds end (work_of c) → Speaks end (file_in c.words) c.err → Told r
       of (Ok u) is w s = absurd (not_zero r is)
       of (Err other) is w s =
-          let same : other ≡ r = same_refusal r other n m o is in
+          let same : other ≡ r = same_refusal r other n is in
           record {
             refused = subst (λ (z : Refusal). IsRefused z (work_of c)) same w;
             said = subst (λ (z : Refusal). IsSaid (message_of (file_in c.words) z) c.err) same s;
@@ -72,8 +77,18 @@ module _ (c : Call) where
   faulty_by (Err (Config f)) is w s = (f, w.cause.0, w.cause.1, w.cause.2, s)
   faulty_by (Err _) is w s = absurd (omega (arith, is))
 
+  abbrev Unselected : Type 0
+  Unselected = (fault : SelectorFault) × IsSomeAnd (asked_in c.words) (OfFile (λ a. RefusesSelector a.command fault)) × IsSaid (selector_message fault) c.err
+
+  selector_by : (end : Result (Unit {0}) Refusal) → 12 ≡ status_at end → WorkEnds end (work_of c) → Speaks end (file_in c.words) c.err → Unselected
+  selector_by (Ok u) is w s = absurd (omega (arith, is))
+  selector_by (Err (Selector f)) is w s = (f, w.cause, s)
+  selector_by (Err _) is w s = absurd (omega (arith, is))
+
   abbrev Misspelled : Type 0
-  Misspelled = (fault : ScriptFault) × (cut : Bool) × (bytes : List ℕ) × Reads (Replay cut) bytes (work_of c) × IsFaultOf cut bytes fault × IsSaid (script_message fault) c.err
+  Misspelled =
+      (fault : ScriptFault) × (command : Command) × (bytes : List ℕ) × Reads command bytes (work_of c) × HasScriptFault command bytes fault
+      × IsSaid (script_message fault) c.err
 
   misspelled_by : (end : Result (Unit {0}) Refusal) → 5 ≡ status_at end → WorkEnds end (work_of c) → Speaks end (file_in c.words) c.err → Misspelled
   misspelled_by (Ok u) is w s = absurd (omega (arith, is))
@@ -92,15 +107,16 @@ module _ (c : Call) where
   causes_of = record {
     done = λ e. done_by e.end e.status_is e.work_ends;
     quiet = λ e. quiet_by e.end e.status_is e.speaks;
-    bad_words = λ e. (told_by BadWords (λ z. omega (arith, z)) (λ z. omega (arith, z)) (λ z. omega (arith, z)) e).refused.cause;
-    absent = λ e. let t = told_by Absent (λ z. omega (arith, z)) (λ z. omega (arith, z)) (λ z. omega (arith, z)) e in (t.refused.shelf, t.refused.cause);
+    bad_words = λ e. (told_by BadWords tt e).refused.cause;
+    selector = λ e. selector_by e.end e.status_is e.work_ends e.speaks;
+    absent = λ e. let t = told_by Absent tt e in (t.refused.shelf, t.refused.cause);
     faulty = λ e. faulty_by e.end e.status_is e.work_ends e.speaks;
     misspelled = λ e. misspelled_by e.end e.status_is e.work_ends e.speaks;
     faulty_line = λ e. line_by e.end e.status_is e.work_ends e.speaks;
-    read_fault = λ e. (told_by ReadFault (λ z. omega (arith, z)) (λ z. omega (arith, z)) (λ z. omega (arith, z)) e).refused.shelf;
-    front = λ e. (told_by WriteFault (λ z. omega (arith, z)) (λ z. omega (arith, z)) (λ z. omega (arith, z)) e).refused.cause;
-    too_long = λ e. let t = told_by TooLong (λ z. omega (arith, z)) (λ z. omega (arith, z)) (λ z. omega (arith, z)) e in (t.refused.shelf, t.refused.cause);
-    said = λ r n m o e. (told_by r n m o e).said;
+    read_fault = λ e. (told_by ReadFault tt e).refused.shelf;
+    front = λ e. (told_by WriteFault tt e).refused.cause;
+    too_long = λ e. let t = told_by TooLong tt e in (t.refused.shelf, t.refused.cause);
+    said = λ r n e. (told_by r n e).said;
   }
 
 pub status_by : (status : ℕ) (c : Call) → Ended status c → IsStatus status
@@ -120,6 +136,7 @@ unwritten_by status c e some other = of e.end e.status_is e.work_ends
     of : (end : Result (Unit {0}) Refusal) → status ≡ status_at end → WorkEnds end (work_of c) → IsUntouched c.out
     of (Ok u) is w = absurd (some is)
     of (Err BadWords) is w = w.out
+    of (Err (Selector f)) is w = w.out
     of (Err Absent) is w = w.out
     of (Err (Config f)) is w = w.out
     of (Err (Script f)) is w = w.out
@@ -171,6 +188,7 @@ later_by status c e =
     of_shelf : (end : Result (Unit {0}) Refusal) → WorkEnds end (work_of c) → Counts c.shelf
     of_shelf (Ok u) w = same_counts c.shelf w.shelf
     of_shelf (Err BadWords) w = same_counts c.shelf w.shelf
+    of_shelf (Err (Selector f)) w = same_counts c.shelf w.shelf
     of_shelf (Err Absent) w = missed_counts c.shelf w.shelf
     of_shelf (Err (Config f)) w = same_counts c.shelf w.shelf
     of_shelf (Err (Script f)) w = same_counts c.shelf w.shelf
@@ -183,6 +201,7 @@ later_by status c e =
     of_out : (end : Result (Unit {0}) Refusal) → WorkEnds end (work_of c) → c.out.before.faults ≤ c.out.after.faults
     of_out (Ok u) w = let d = w.prints.put.sound in omega (arith, d)
     of_out (Err BadWords) w = same_puts c.out w.out
+    of_out (Err (Selector f)) w = same_puts c.out w.out
     of_out (Err Absent) w = same_puts c.out w.out
     of_out (Err (Config f)) w = same_puts c.out w.out
     of_out (Err (Script f)) w = same_puts c.out w.out

@@ -1,5 +1,5 @@
 -- How a call of the program ends: the one table of its refusals.
-use Rattle.std.specs.Prelude.{◌≡◌, ◌⊎◌, ℕ, ◌≤◌, Bool, ⊤, List, ◌++◌, codes, length, Option, Some, None, IsSomeAnd, Result, Ok, Err}
+use Rattle.std.specs.Prelude.{◌≡◌, ◌⊎◌, ℕ, pos, ◌≤◌, Bool, false, ⊤, List, ◌++◌, codes, length, Option, Some, None, IsSomeAnd, Result, Ok, Err}
 use Rattle.std.specs.Fmt.{decimal}
 use Rattle.outside.specs.Objects.{ShelfSeen, SinkSeen, Use, IsUntouched, Rose, HasFile, LacksFile, HasLongerFile, Missed, MetLonger, FailedToRead, Adds, AddsFront, Took, Cut}
 use Rattle.journal_text.specs.declared.events.Event.{Event}
@@ -7,18 +7,20 @@ use Rattle.jobs_in_force.specs.declared.jobs.Filed.{Filed}
 use Rattle.scrape_machine.specs.Machine.{book_of}
 use Rattle.book_text.specs.Texts.{printed}
 use Rattle.scrape_commands.specs.Checks.{IsConf, IsFault, ok_line, fault_message}
-use Rattle.scrape_commands.specs.Scripts.{IsScriptOf, IsFaultOf, fault_message as script_message}
+use Rattle.scrape_commands.specs.Scripts.{IsScriptOf, HasScriptFault, fault_message as script_message}
+use Rattle.scrape_commands.specs.Instants.{IsReady, IsSelectorOf, IsViewText, RefusesSelector, fault_message as selector_message}
 use Rattle.scrape_commands.specs.Synths.{synth_text}
 use Rattle.om_reader.specs.Bodies.{converted}
+use Rattle.instant_view.specs.declared.matchers.SelectorParts.{SelectorParts}
 use Rattle.synth.specs.declared.scripts.Plan.{Plan}
-use Rattle.command_words.specs.Askings.{asking}
+use Rattle.command_words.specs.Askings.{Asking, asking}
 use Rattle.command_words.specs.Words.{OfFile, asked_in, file_in, limit_of}
 use Rattle.command_words.specs.declared.words.Asked.{Asked}
 use Rattle.command_words.specs.declared.words.Asked.TheVariants.{File, Synth}
 use Rattle.command_words.specs.declared.words.Command.{Command}
-use Rattle.command_words.specs.declared.words.Command.TheVariants.{Replay, Check, Convert}
+use Rattle.command_words.specs.declared.words.Command.TheVariants.{Replay, Check, Convert, At}
 use Rattle.scrape_commands.specs.declared.refusals.Refusal.{Refusal}
-use Rattle.scrape_commands.specs.declared.refusals.Refusal.TheVariants.{BadWords, Absent, Config, Script, OpenMetrics, ReadFault, WriteFault, NoMemory, TooLong}
+use Rattle.scrape_commands.specs.declared.refusals.Refusal.TheVariants.{BadWords, Selector, Absent, Config, Script, OpenMetrics, ReadFault, WriteFault, NoMemory, TooLong}
 
 -- a call of the program: its words, and what it made of each outside object
 pub record Call : Type 0 where
@@ -42,19 +44,32 @@ work asked shelf out = record { asked = asked; shelf = shelf; out = out }
 abbrev pub work_of : Call → Work
 work_of c = work (asked_in c.words) c.shelf c.out
 
--- this command was asked for, and its file has these bytes (where the shelf tells its files), within the limit
+-- this command was asked for, with its selector, and its file has these bytes (where the shelf tells its files), within the limit
 pub record Reads (command : Command) (bytes : List ℕ) (w : Work) : Type 0 where
   pub file : List ℕ
   pub kept : Bool
   pub asked : w.asked ≡ Some (File (asking kept file command))
   pub has : HasFile w.shelf.before file bytes
   pub short : length bytes ≤ limit_of command
+  pub ready : IsReady command
 
--- what a command prints for the bytes of its file: the book of the journal that they stand for, with verdicts or without, the number of jobs, or the body that they become
+-- what a command prints for the bytes of its file: the book of the journal that they stand for, with verdicts or without, the number of jobs, the body
+-- that they become, or what the selector sees at the moment in the book
 abbrev pub IsOutput : Command → Bool → List ℕ → List ℕ → Type 0
 IsOutput (Replay cut) kept bytes text = (journal : List Event) × IsScriptOf cut bytes journal × (text ≡ printed kept (book_of journal))
 IsOutput Check kept bytes text = (jobs : List Filed) × IsConf bytes jobs × (text ≡ ok_line (length jobs))
 IsOutput Convert kept bytes text = converted bytes ≡ Ok text
+IsOutput (At i) kept bytes text =
+    (journal : List Event) × (parts : SelectorParts) × IsScriptOf false bytes journal × IsSelectorOf i.selector parts
+    × IsViewText (book_of journal) parts (pos i.moment) text
+
+-- this is what the command prints of its file, as a shelf has that
+pub record IsTextOf (text : List ℕ) (a : Asking) (shelf : ShelfSeen) : Type 0 where
+  pub bytes : List ℕ
+  pub has : HasFile shelf a.file bytes
+  pub short : length bytes ≤ limit_of a.command
+  pub ready : IsReady a.command
+  pub output : IsOutput a.command a.kept bytes text
 
 -- a command over a file was asked for, and this is what it prints
 pub record IsOfFile (text : List ℕ) (w : Work) : Type 0 where
@@ -88,6 +103,7 @@ pub record PrintsFront (w : Work) : Type 0 where
 -- the status of a refusal
 abbrev pub status_of : Refusal → ℕ
 status_of BadWords = 2
+status_of (Selector fault) = 12
 status_of Absent = 3
 status_of (Config fault) = 4
 status_of (Script fault) = 5
@@ -104,6 +120,7 @@ line_message line = codes "scrape: openmetrics line " ++ (decimal line ++ codes 
 -- the message of a refusal, for the file that the words name
 abbrev pub message_of : List ℕ → Refusal → List ℕ
 message_of file BadWords = codes "scrape: bad words\n"
+message_of file (Selector fault) = selector_message fault
 message_of file Absent = codes "scrape: absent " ++ (file ++ codes "\n")
 message_of file (Config fault) = fault_message fault
 message_of file (Script fault) = script_message fault
@@ -113,21 +130,23 @@ message_of file WriteFault = codes "scrape: write fault\n"
 message_of file NoMemory = codes "scrape: no memory\n"
 message_of file TooLong = codes "scrape: too long " ++ (file ++ codes "\n")
 
--- the cause of each refusal
+-- the cause of each refusal; the selector of `at` is read before the file
 abbrev pub IsCause : Refusal → Work → Type 0
 IsCause BadWords w = w.asked ≡ None
-IsCause Absent w = IsSomeAnd w.asked (OfFile (λ a. LacksFile w.shelf.before a.file))
+IsCause (Selector fault) w = IsSomeAnd w.asked (OfFile (λ a. RefusesSelector a.command fault))
+IsCause Absent w = IsSomeAnd w.asked (OfFile (λ a. IsReady a.command × LacksFile w.shelf.before a.file))
 IsCause (Config fault) w = (bytes : List ℕ) × Reads Check bytes w × IsFault bytes fault
-IsCause (Script fault) w = (cut : Bool) × (bytes : List ℕ) × Reads (Replay cut) bytes w × IsFaultOf cut bytes fault
+IsCause (Script fault) w = (command : Command) × (bytes : List ℕ) × Reads command bytes w × HasScriptFault command bytes fault
 IsCause (OpenMetrics line) w = (bytes : List ℕ) × Reads Convert bytes w × (converted bytes ≡ Err line)
-IsCause ReadFault w = IsSomeAnd w.asked (OfFile (λ a. ⊤))
+IsCause ReadFault w = IsSomeAnd w.asked (OfFile (λ a. IsReady a.command))
 IsCause WriteFault w = PrintsFront w
 IsCause NoMemory w = ⊤
-IsCause TooLong w = IsSomeAnd w.asked (OfFile (λ a. HasLongerFile w.shelf.before a.file (limit_of a.command)))
+IsCause TooLong w = IsSomeAnd w.asked (OfFile (λ a. IsReady a.command × HasLongerFile w.shelf.before a.file (limit_of a.command)))
 
 -- what it leaves of the shelf: one count risen, of three refusals, and nothing else changed
 abbrev pub LeavesShelf : Refusal → Use ShelfSeen → Type 0
 LeavesShelf BadWords shelf = IsUntouched shelf
+LeavesShelf (Selector fault) shelf = IsUntouched shelf
 LeavesShelf Absent shelf = Missed shelf
 LeavesShelf (Config fault) shelf = IsUntouched shelf
 LeavesShelf (Script fault) shelf = IsUntouched shelf
@@ -140,6 +159,7 @@ LeavesShelf TooLong shelf = MetLonger shelf
 -- and of the output: nothing is added but a front at a write fault, as its cause says
 abbrev pub LeavesOut : Refusal → Use SinkSeen → Type 0
 LeavesOut BadWords out = IsUntouched out
+LeavesOut (Selector fault) out = IsUntouched out
 LeavesOut Absent out = IsUntouched out
 LeavesOut (Config fault) out = IsUntouched out
 LeavesOut (Script fault) out = IsUntouched out

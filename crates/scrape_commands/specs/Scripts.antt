@@ -1,5 +1,5 @@
 -- What a script stands for, and what is said of one that stands for nothing.
-use Rattle.std.specs.Prelude.{◌≡◌, ◌≢◌, ℕ, Bool, true, false, List, ◌++◌, codes}
+use Rattle.std.specs.Prelude.{◌≡◌, ◌≢◌, ℕ, Bool, true, false, List, ◌++◌, codes, Option, Some, None}
 use Rattle.std.specs.Fmt.{decimal}
 use Rattle.journal_text.specs.declared.faults.ScriptCause.{ScriptCause}
 use Rattle.journal_text.specs.declared.faults.ScriptCause.TheVariants.{Header, Line, Rest, Order}
@@ -10,6 +10,15 @@ use Rattle.journal_text.specs.declared.events.Event.{Event}
 use Rattle.journal_text.specs.Events.{IsJournal, first_line, journal_text}
 use Rattle.journal_text.specs.Faults.{IsFault, IsJournalOf, IsOnlyFault, SpellsNone}
 use Rattle.journal_text.specs.Fronts.{IsFrontOf, IsHeadless}
+use Rattle.command_words.specs.declared.words.Command.{Command}
+use Rattle.command_words.specs.declared.words.Command.TheVariants.{Replay, Check, Convert, At}
+
+-- whether the script that a command reads may have been cut; none where it reads no script
+abbrev pub cut_of : Command → Option Bool
+cut_of (Replay cut) = Some cut
+cut_of Check = None
+cut_of Convert = None
+cut_of (At i) = Some false
 
 -- the journal that a script stands for: the one that it spells, or with `--cut` the one of the events before the first that isn't read
 abbrev pub IsScriptOf : Bool → List ℕ → List Event → Type 0
@@ -20,6 +29,10 @@ IsScriptOf true bytes journal = (left : ℕ) × IsFrontOf bytes journal left
 abbrev pub IsFaultOf : Bool → List ℕ → ScriptFault → Type 0
 IsFaultOf false bytes fault = IsOnlyFault bytes fault
 IsFaultOf true bytes fault = IsHeadless bytes fault
+
+-- the same of the script that a command reads
+abbrev pub HasScriptFault : Command → List ℕ → ScriptFault → Type 0
+HasScriptFault command bytes fault = (cut : Bool) × (cut_of command ≡ Some cut) × IsFaultOf cut bytes fault
 
 -- a script was refused for its fault, or memory ran out
 abbrev pub RefusesScript : Bool → List ℕ → ScriptError → Type 0

@@ -1,20 +1,22 @@
 //! The commands of the program.
-ghost use Rattle.std.specs.Prelude.{◌≡◌, ◌≤◌, ◌++◌, Bool, codes, length, Some, IfOk, IfErr, OnOk, IsErrOf};
+ghost use Rattle.std.specs.Prelude.{◌≡◌, ◌≤◌, ◌++◌, codes, length, Some, IfOk, IfErr, OnOk};
 ghost use Rattle.outside.specs.Objects.{ShelfSeen, SinkSeen, used, HasFile, IsUntouched};
-ghost use Rattle.scrape_commands.specs.Ends.{work, WorkEnds, IsRefused};
-ghost use Rattle.command_words.specs.Askings.{asking};
+ghost use Rattle.scrape_commands.specs.Ends.{work, WorkEnds, IsRefused, IsTextOf};
+ghost use Rattle.scrape_commands.specs.Instants.{IsReady, IsSelectorOf};
 ghost use Rattle.command_words.specs.Words as words;
 ghost use Rattle.command_words.specs.declared.words.Asked.TheVariants.{File, Synth};
 ghost use Rattle.book_text.specs.Summaries.{number_line};
 ghost use Rattle.scrape_commands.specs.Synths as synths;
 ghost use Rattle.scrape_commands.specs.Synths.{synth_text};
-ghost use Rattle.command_words.specs.declared.words.Command.TheVariants.{Replay, Check, Convert};
+ghost use Rattle.command_words.specs.declared.words.Command.TheVariants.{Replay, Check, Convert, At};
 
 use crate::checks::{conf_of, print_ok};
+use crate::instants::{refusal_of, view_text};
 use crate::refusals::Refusal;
 use crate::replays::replayed;
 use book_text::{PrintError, print_book, summary_of};
-use command_words::{Asked, Command, OfFile, Workload, limit_of};
+use command_words::{Asked, Command, OfFile, Viewing, Workload, limit_of};
+use instant_view::Selector;
 use itoa::Buffer;
 use journal_text::ScriptError;
 use label_set::{Blob, NoMemory};
@@ -25,20 +27,16 @@ use scrape_core::{Core, Means};
 use std::alloc::Global;
 use synth::make_script;
 
-/// Reads the file of a command.
-fn read_file<S: Shelf>(
-    alloc: Global,
-    command: Command,
-    file: &str,
-    shelf: &mut S,
-) -> Result<Blob, Refusal>
-    ensures has { IfOk result (λ bytes. HasFile (S.seen shelf.old) file.now bytes) }
-    ensures short { IfOk result (λ bytes. length bytes ≤ words.limit_of command) }
+/// Reads the file of a command, whose selector was read where it has one.
+fn read_file<S: Shelf>(alloc: Global, asked: &OfFile<'_>, shelf: &mut S) -> Result<Blob, Refusal>
+    requires ready { IsReady asked.now.command }
+    ensures has { IfOk result (λ bytes. HasFile (S.seen shelf.old) asked.now.file bytes) }
+    ensures short { IfOk result (λ bytes. length bytes ≤ words.limit_of asked.now.command) }
     ensures untouched { OnOk result (IsUntouched (used (S.seen shelf.old) (S.seen shelf.new))) }
-    ensures refused { (kept : Bool) (out : SinkSeen) → IfErr result (λ r. IsRefused r
-        (work (Some (File (asking kept file.now command))) (used (S.seen shelf.old) (S.seen shelf.new)) (used out out))) }
+    ensures refused { (out : SinkSeen) → IfErr result (λ r. IsRefused r
+        (work (Some (File asked.now)) (used (S.seen shelf.old) (S.seen shelf.new)) (used out out))) }
 {
-    match shelf.read_file(alloc, file, limit_of(command)) {
+    match shelf.read_file(alloc, asked.file, limit_of(&asked.command)) {
         Ok(bytes) => Ok(bytes),
         Err(ShelfError::Absent) => Err(Refusal::Absent),
         Err(ShelfError::TooLong) => Err(Refusal::TooLong),
@@ -47,27 +45,20 @@ fn read_file<S: Shelf>(
     }
 }
 
-/// The flags of a replay.
-#[derive(Clone, Copy)]
-struct Flags {
-    cut: bool,
-    kept: bool,
-}
-
 /// Replays a script, of one that may have been cut what it begins with, and prints the book of its journal, each line with its verdict where that
 /// is wanted.
 fn replay<S: Shelf, O: Sink>(
     means: Means,
-    flags: Flags,
-    script: &str,
+    cut: bool,
+    asked: &OfFile<'_>,
     shelf: &mut S,
     out: &mut O,
 ) -> Result<(), Refusal>
+    requires { asked.now.command ≡ Replay cut }
     ensures { WorkEnds result
-        (work (Some (File (asking flags.kept script.now (Replay flags.cut)))) (used (S.seen shelf.old) (S.seen shelf.new)) (used (O.seen out.old) (O.seen out.new))) }
+        (work (Some (File asked.now)) (used (S.seen shelf.old) (S.seen shelf.new)) (used (O.seen out.old) (O.seen out.new))) }
 {
-    let Flags { cut, kept } = flags;
-    let bytes = match read_file(means.alloc, Command::Replay { cut }, script, shelf) {
+    let bytes = match read_file(means.alloc, asked, shelf) {
         Ok(bytes) => bytes,
         Err(refusal) => return Err(refusal),
     };
@@ -76,7 +67,7 @@ fn replay<S: Shelf, O: Sink>(
         Err(ScriptError::Bad(fault)) => return Err(Refusal::Script(fault)),
         Err(ScriptError::NoMemory) => return Err(Refusal::NoMemory),
     };
-    match print_book(means.alloc, kept, core.book(), out) {
+    match print_book(means.alloc, asked.kept, core.book(), out) {
         Ok(()) => {
             core.let_go();
             Ok(())
@@ -95,14 +86,15 @@ fn replay<S: Shelf, O: Sink>(
 /// Checks the configuration in a file and prints the number of its jobs.
 fn check<S: Shelf, O: Sink>(
     alloc: Global,
-    file: &str,
+    asked: &OfFile<'_>,
     shelf: &mut S,
     out: &mut O,
 ) -> Result<(), Refusal>
-    ensures { (kept : Bool) → WorkEnds result
-        (work (Some (File (asking kept file.now Check))) (used (S.seen shelf.old) (S.seen shelf.new)) (used (O.seen out.old) (O.seen out.new))) }
+    requires { asked.now.command ≡ Check }
+    ensures { WorkEnds result
+        (work (Some (File asked.now)) (used (S.seen shelf.old) (S.seen shelf.new)) (used (O.seen out.old) (O.seen out.new))) }
 {
-    let bytes = match read_file(alloc, Command::Check, file, shelf) {
+    let bytes = match read_file(alloc, asked, shelf) {
         Ok(bytes) => bytes,
         Err(refusal) => return Err(refusal),
     };
@@ -121,14 +113,15 @@ fn check<S: Shelf, O: Sink>(
 /// Prints the body that one of OpenMetrics in a file becomes.
 fn convert<S: Shelf, O: Sink>(
     alloc: Global,
-    file: &str,
+    asked: &OfFile<'_>,
     shelf: &mut S,
     out: &mut O,
 ) -> Result<(), Refusal>
-    ensures { (kept : Bool) → WorkEnds result
-        (work (Some (File (asking kept file.now Convert))) (used (S.seen shelf.old) (S.seen shelf.new)) (used (O.seen out.old) (O.seen out.new))) }
+    requires { asked.now.command ≡ Convert }
+    ensures { WorkEnds result
+        (work (Some (File asked.now)) (used (S.seen shelf.old) (S.seen shelf.new)) (used (O.seen out.old) (O.seen out.new))) }
 {
-    let bytes = match read_file(alloc, Command::Convert, file, shelf) {
+    let bytes = match read_file(alloc, asked, shelf) {
         Ok(bytes) => bytes,
         Err(refusal) => return Err(refusal),
     };
@@ -138,6 +131,58 @@ fn convert<S: Shelf, O: Sink>(
         Err(OmError::NoMemory) => return Err(Refusal::NoMemory),
     };
     match out.put(text.as_slice()) {
+        Ok(()) => Ok(()),
+        Err(_) => Err(Refusal::WriteFault),
+    }
+}
+
+/// The text of what a selector sees at a moment in the book of the script in a file.
+fn seen_text<S: Shelf>(
+    means: Means,
+    viewing: &Viewing<'_>,
+    selector: &Selector,
+    asked: &OfFile<'_>,
+    shelf: &mut S,
+) -> Result<Vec<u8>, Refusal>
+    requires command { asked.now.command ≡ At viewing.now }
+    requires selector { IsSelectorOf viewing.now.selector selector.now }
+    ensures text { IfOk result (λ text. IsTextOf text.items asked.now (S.seen shelf.old)) }
+    ensures untouched { OnOk result (IsUntouched (used (S.seen shelf.old) (S.seen shelf.new))) }
+    ensures refused { (out : SinkSeen) → IfErr result (λ r. IsRefused r
+        (work (Some (File asked.now)) (used (S.seen shelf.old) (S.seen shelf.new)) (used out out))) }
+{
+    let bytes = match read_file(means.alloc, asked, shelf) {
+        Ok(bytes) => bytes,
+        Err(refusal) => return Err(refusal),
+    };
+    match view_text(means, viewing.moment(), selector, bytes.as_slice()) {
+        Ok(text) => Ok(text),
+        Err(ScriptError::Bad(fault)) => Err(Refusal::Script(fault)),
+        Err(ScriptError::NoMemory) => Err(Refusal::NoMemory),
+    }
+}
+
+/// Prints what a selector sees at a moment in the book of the script in a file.
+fn at<S: Shelf, O: Sink>(
+    means: Means,
+    viewing: &Viewing<'_>,
+    asked: &OfFile<'_>,
+    shelf: &mut S,
+    out: &mut O,
+) -> Result<(), Refusal>
+    requires { asked.now.command ≡ At viewing.now }
+    ensures { WorkEnds result
+        (work (Some (File asked.now)) (used (S.seen shelf.old) (S.seen shelf.new)) (used (O.seen out.old) (O.seen out.new))) }
+{
+    let selector = match Selector::read(means.alloc, viewing.selector()) {
+        Ok(selector) => selector,
+        Err(error) => return Err(refusal_of(error)),
+    };
+    let text = match seen_text(means, viewing, &selector, asked, shelf) {
+        Ok(text) => text,
+        Err(refusal) => return Err(refusal),
+    };
+    match out.put(&text) {
         Ok(()) => Ok(()),
         Err(_) => Err(Refusal::WriteFault),
     }
@@ -202,13 +247,11 @@ fn perform_file<S: Shelf, O: Sink>(
     ensures { WorkEnds result
         (work (Some (File asked.now)) (used (S.seen shelf.old) (S.seen shelf.new)) (used (O.seen out.old) (O.seen out.new))) }
 {
-    match asked.command {
-        Command::Replay { cut } => {
-            let kept = asked.kept;
-            replay(means, Flags { cut, kept }, asked.file, shelf, out)
-        }
-        Command::Check => check(means.alloc, asked.file, shelf, out),
-        Command::Convert => convert(means.alloc, asked.file, shelf, out),
+    match &asked.command {
+        Command::Replay { cut } => replay(means, *cut, asked, shelf, out),
+        Command::Check => check(means.alloc, asked, shelf, out),
+        Command::Convert => convert(means.alloc, asked, shelf, out),
+        Command::At(viewing) => at(means, viewing, asked, shelf, out),
     }
 }
 

@@ -5,9 +5,10 @@ ghost use Rattle.control_lines.specs.Faults.{fault_limit};
 ghost use Rattle.outside.specs.Objects.{used, Took, Cut};
 ghost use Rattle.scrape_commands.specs.Checks as checks;
 ghost use Rattle.scrape_commands.specs.Ends.{IsSaid, line_message, message_of};
+ghost use Rattle.scrape_commands.specs.Instants as instants;
 ghost use Rattle.scrape_commands.specs.Scripts as scripts;
 
-use crate::refusals::Refusal;
+use crate::refusals::{Refusal, SelectorFault};
 use control_lines::faults::{fault_place, fault_word};
 use itoa::Buffer;
 use journal_text::{ScriptCause, ScriptFault};
@@ -122,12 +123,31 @@ fn say_line<E: Sink>(err: &mut E, line: u64)
     }
 }
 
+fn selector_word(fault: SelectorFault) -> &'static str
+    ensures { result.now ≡ instants.fault_word fault }
+{
+    match fault {
+        SelectorFault::Syntax => "Syntax",
+        SelectorFault::Pattern => "Pattern",
+        SelectorFault::Bare => "Bare",
+    }
+}
+
+/// Tries the message of a selector's fault.
+fn say_selector<E: Sink>(err: &mut E, fault: SelectorFault)
+    ensures { IsSaid (instants.fault_message fault) (used (E.seen err.old) (E.seen err.new)) }
+{
+    let word = selector_word(fault).as_bytes();
+    say_three(err, b"scrape: selector ", word, b"\n");
+}
+
 /// Tries the message of a refusal.
 pub fn say<E: Sink>(err: &mut E, file: &str, refusal: &Refusal)
     ensures { IsSaid (message_of file.now refusal.now) (used (E.seen err.old) (E.seen err.new)) }
 {
     match refusal {
         Refusal::BadWords => say_text(err, b"scrape: bad words\n"),
+        Refusal::Selector(fault) => say_selector(err, *fault),
         Refusal::Absent => say_three(err, b"scrape: absent ", file.as_bytes(), b"\n"),
         Refusal::Config(fault) => say_fault(err, fault),
         Refusal::Script(fault) => say_script(err, fault),

@@ -81,6 +81,7 @@ fn status_of(refusal: &Refusal) -> u8
 {
     match refusal {
         Refusal::BadWords => 2,
+        Refusal::Selector(_) => 12,
         Refusal::Absent => 3,
         Refusal::Config(_) => 4,
         Refusal::Script(_) => 5,
@@ -106,14 +107,15 @@ pub fn status_at(end: &Result<(), Refusal>) -> u8
 ///
 /// | status | comes |
 /// |---|---|
-/// | 0 | `replay`: the script was replayed, or with `--cut` the events before the first that isn't read, and the whole text of its book, with verdicts where `--kept` was given, added to `out`; `check`: the configuration has no fault, and the line with the number of its jobs was added; `convert`: each line was read, and the body of the text exposition format with the same rows added; `synth`: the script of the numbers was made and replayed, and the summary of its book added, with the number of its relabelling runs |
+/// | 0 | `replay`: the script was replayed, or with `--cut` the events before the first that isn't read, and the whole text of its book, with verdicts where `--kept` was given, added to `out`; `check`: the configuration has no fault, and the line with the number of its jobs was added; `convert`: each line was read, and the body of the text exposition format with the same rows added; `at`: the script was replayed, and a line added for each series that the selector sees at the moment; `synth`: the script of the numbers was made and replayed, and the summary of its book added, with the number of its relabelling runs |
 /// | 2 | exactly where the words are none of these commands', but for want of memory |
 /// | 3 | the shelf has no file of the name, and counted that |
 /// | 4 | `check`: the configuration has a fault, which the message names |
-/// | 5 | `replay`: the file has the text of no journal, for the fault that the message names, with its offset; with `--cut`: it doesn't begin with the first line of a journal |
+/// | 5 | `replay`, `at`: the file has the text of no journal, for the fault that the message names, with its offset; with `--cut`: it doesn't begin with the first line of a journal |
 /// | 6, 7 | reading or writing failed, and was counted |
 /// | 8 | memory ran out |
 /// | 9 | the file is longer than its command takes, and the shelf counted that |
+/// | 12 | `at`: the text is no selector: it isn't written as one (`Syntax`), a pattern of it isn't one or nests too deep (`Pattern`), or it asks for nothing (`Bare`); looked for before the file |
 /// | 13 | `convert`: a line of the file is faulty, the first of the number that the message names |
 ///
 /// `ended` is that table; `printed`, `unwritten`, `complete` and `later` are what a reader looks for first, and follow from it. What each status

@@ -13,8 +13,9 @@ use super::{ROOM, Ran, means_of, run_over};
 use label_set::{Blob, Name, NoMemory};
 use outside::{FileList, StoredFile, SureShelf};
 use scrape_cases::{
-    bodies, broken, checked, conflicts, conversions, cuts, endings, fields, flags, limits,
-    relabelling, reloads, scripts, synths, targets, texts, updates, verdicts, words,
+    bodies, broken, checked, conflicts, conversions, cuts, endings, fields, flags, instants,
+    limits, relabelling, reloads, scripts, selectors, synths, targets, texts, updates, verdicts,
+    words,
 };
 use scrape_core::Means;
 use std::alloc::{AllocError, Global};
@@ -23,7 +24,7 @@ use std::str;
 use std::test::Fail;
 
 /// All cases, by subject.
-const TEXTS: [&str; 19] = [
+const TEXTS: [&str; 21] = [
     words::CASES,
     flags::CASES,
     scripts::CASES,
@@ -31,6 +32,8 @@ const TEXTS: [&str; 19] = [
     broken::CASES,
     cuts::CASES,
     conversions::CASES,
+    instants::CASES,
+    selectors::CASES,
     reloads::CASES,
     updates::CASES,
     endings::CASES,
