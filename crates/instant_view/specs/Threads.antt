@@ -128,7 +128,8 @@ IsRowOf kept t series (Some row) = (row.series ≡ series) × IsKeptRow kept t r
 
 -- the same, where the series is selected
 abbrev pub IsSelectedRow : List Placed → SelectorParts → ℤ → List Pair → Option ViewRow → Type 0
-IsSelectedRow kept selector t series None = (row : ViewRow) → row.series ≡ series → selects selector series ≡ true → ¬ (IsKeptRow kept t row)
+IsSelectedRow kept selector t series None =
+    (row : ViewRow) → row.series ≡ series → selects selector series ≡ true → ¬ (IsKeptRow kept t row)
 IsSelectedRow kept selector t series (Some row) = (row.series ≡ series) × (selects selector series ≡ true) × IsKeptRow kept t row
 
 -- the rows of the selected series, by rising label set
