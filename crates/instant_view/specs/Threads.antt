@@ -143,7 +143,9 @@ pub record IsGatheredTo (kept : List Placed) (selector : SelectorParts) (t : ℤ
   pub rising : AreRising rows
   pub each : (row : ViewRow) → IsAmong rows row →
       (selects selector row.series ≡ true) × IsKeptRow kept t row × ((i : ℕ) × (i < n) × (slice_get series i ≡ Some row.series))
-  pub all : (i : ℕ) (row : ViewRow) → i < n → slice_get series i ≡ Some row.series → selects selector row.series ≡ true → IsKeptRow kept t row → IsAmong rows row
+  pub all :
+      (i : ℕ) (row : ViewRow) → i < n → slice_get series i ≡ Some row.series → selects selector row.series ≡ true →
+      IsKeptRow kept t row → IsAmong rows row
 
 -- the rows of all of these series
 abbrev pub IsGatheredOf : List Placed → SelectorParts → ℤ → List (List Pair) → List ViewRow → Type 0
