@@ -15,12 +15,20 @@ FaultIs NoMemory said = Unit {0}
 abbrev pub Finds : {A B : Type 0} → (A → B) → Result A SelectorError → Option B → Type 0
 Finds view result said = MatchResult result (λ v. said ≡ Some (view v)) (λ f. FaultIs f said)
 
+-- matchers as they were and as they are
+pub record Growth : Type 0 where
+  pub old : List Matcher
+  pub new : List Matcher
+
+abbrev pub from_to : List Matcher → List Matcher → Growth
+from_to old new = record { old = old; new = new }
+
 -- the matcher that was said was added, and what follows it was returned, unless memory ran out
-abbrev pub AddsOne : {A : Type 0} → (A → List ℕ) → Result A SelectorError → Option (Matcher × List ℕ) → List Matcher → List Matcher → Type 0
-AddsOne rest_of result said old new =
-    MatchResult result (λ r. (m : Matcher) × (said ≡ Some (m, rest_of r)) × (new ≡ old ++ m ∷ [])) (λ f. FaultIs f said)
+abbrev pub AddsOne : {A : Type 0} → (A → List ℕ) → Result A SelectorError → Option (Matcher × List ℕ) → Growth → Type 0
+AddsOne rest_of result said growth =
+    MatchResult result (λ r. (m : Matcher) × (said ≡ Some (m, rest_of r)) × (growth.new ≡ growth.old ++ m ∷ [])) (λ f. FaultIs f said)
 
 -- the same of matchers
-abbrev pub AddsAll : {A : Type 0} → (A → List ℕ) → Result A SelectorError → Option (List Matcher × List ℕ) → List Matcher → List Matcher → Type 0
-AddsAll rest_of result said old new =
-    MatchResult result (λ r. (ms : List Matcher) × (said ≡ Some (ms, rest_of r)) × (new ≡ old ++ ms)) (λ f. FaultIs f said)
+abbrev pub AddsAll : {A : Type 0} → (A → List ℕ) → Result A SelectorError → Option (List Matcher × List ℕ) → Growth → Type 0
+AddsAll rest_of result said growth =
+    MatchResult result (λ r. (ms : List Matcher) × (said ≡ Some (ms, rest_of r)) × (growth.new ≡ growth.old ++ ms)) (λ f. FaultIs f said)

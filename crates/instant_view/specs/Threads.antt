@@ -128,7 +128,8 @@ IsRowOf kept t series (Some row) = (row.series ≡ series) × IsKeptRow kept t r
 
 -- the same, where the series is selected
 abbrev pub IsSelectedRow : List Placed → SelectorParts → ℤ → List Pair → Option ViewRow → Type 0
-IsSelectedRow kept selector t series None = (row : ViewRow) → row.series ≡ series → selects selector series ≡ true → ¬ (IsKeptRow kept t row)
+IsSelectedRow kept selector t series None =
+    (row : ViewRow) → row.series ≡ series → selects selector series ≡ true → ¬ (IsKeptRow kept t row)
 IsSelectedRow kept selector t series (Some row) = (row.series ≡ series) × (selects selector series ≡ true) × IsKeptRow kept t row
 
 -- the rows of the selected series, by rising label set
@@ -142,7 +143,9 @@ pub record IsGatheredTo (kept : List Placed) (selector : SelectorParts) (t : ℤ
   pub rising : AreRising rows
   pub each : (row : ViewRow) → IsAmong rows row →
       (selects selector row.series ≡ true) × IsKeptRow kept t row × ((i : ℕ) × (i < n) × (slice_get series i ≡ Some row.series))
-  pub all : (i : ℕ) (row : ViewRow) → i < n → slice_get series i ≡ Some row.series → selects selector row.series ≡ true → IsKeptRow kept t row → IsAmong rows row
+  pub all :
+      (i : ℕ) (row : ViewRow) → i < n → slice_get series i ≡ Some row.series → selects selector row.series ≡ true →
+      IsKeptRow kept t row → IsAmong rows row
 
 -- the rows of all of these series
 abbrev pub IsGatheredOf : List Placed → SelectorParts → ℤ → List (List Pair) → List ViewRow → Type 0

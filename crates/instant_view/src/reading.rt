@@ -4,7 +4,7 @@ ghost use Rattle.std.specs.List.{list_all};
 ghost use Rattle.label_set.specs.Bytes.{is_label_name, is_metric_name};
 ghost use Rattle.expo_reader.specs.Texts as texts;
 ghost use Rattle.instant_view.specs.declared.matchers.Matcher.{Matcher};
-ghost use Rattle.instant_view.specs.Faults.{AddsAll, AddsOne, Finds};
+ghost use Rattle.instant_view.specs.Faults.{AddsAll, AddsOne, Finds, from_to};
 ghost use Rattle.instant_view.specs.Forms as spec;
 ghost use Rattle.instant_view.specs.Grammar.{is_apart};
 
@@ -47,7 +47,7 @@ fn push_valued<'b>(
     matchers: &mut Vec<Matcher>,
 ) -> Result<&'b [u8], SelectorError>
     requires { IsTrue (is_label_name label.now) }
-    ensures matcher { AddsOne (λ r. r.now) result (spec.valued label.now operator (texts.text_in quoted.now)) matchers.old.items matchers.new.items }
+    ensures matcher { AddsOne (λ r. r.now) result (spec.valued label.now operator (texts.text_in quoted.now)) (from_to matchers.old.items matchers.new.items) }
     ensures shorter { IfOk result (λ rest. length rest.now < length quoted.now) }
 {
     let Some(text) = text_in(quoted) else {
@@ -69,7 +69,7 @@ fn push_matcher<'b>(
     text: &'b [u8],
     matchers: &mut Vec<Matcher>,
 ) -> Result<&'b [u8], SelectorError>
-    ensures matcher { AddsOne (λ r. r.now) result (spec.matcher_in text.now) matchers.old.items matchers.new.items }
+    ensures matcher { AddsOne (λ r. r.now) result (spec.matcher_in text.now) (from_to matchers.old.items matchers.new.items) }
     ensures shorter { IfOk result (λ rest. length rest.now < length text.now) }
 {
     let Some(label) = label_in(text) else {
@@ -93,7 +93,7 @@ fn matchers_in<'b>(
     text: &'b [u8],
     matchers: &mut Vec<Matcher>,
 ) -> Result<&'b [u8], SelectorError>
-    ensures { AddsAll (λ r. r.now) result (spec.all_matchers_in text.now) matchers.old.items matchers.new.items }
+    ensures { AddsAll (λ r. r.now) result (spec.all_matchers_in text.now) (from_to matchers.old.items matchers.new.items) }
 {
     let mut left = text;
     loop {

@@ -17,7 +17,7 @@ use std::collections::{BTreeMap, BTreeSet};
 /// An entry is seen for less than so many milliseconds.
 const LOOKBACK: u64 = 300_000;
 
-/// Kept entries, each with links to earlier ones of its series, and the end of the last one of each series.
+/// Kept entries, each with links to earlier ones of its series, the end of the last one of each series, and the series of each name.
 #[derive(Drop)]
 pub struct Threads {
     pub kept: Vec<Placed>,
@@ -292,7 +292,7 @@ impl Threads {
         Ok(rows)
     }
 
-    /// The rows of the series that a selector selects, by rising label set: where it has a name, only series of that name are looked at.
+    /// The rows of the series that a selector selects, by rising label set: where it asks for one name, only series of that name are looked at.
     pub fn rows(
         &self,
         alloc: Global,
