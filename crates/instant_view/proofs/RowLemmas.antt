@@ -11,7 +11,7 @@ use Rattle.std.specs.Option.{option_map_or}
 use Rattle.std.specs.Cmp.Lexicographic.{bytes_decides}
 use Rattle.label_set.specs.Bytes.{bytes_cmp}
 use Rattle.std.proofs.lemmas.Int.{ints}
-use Rattle.std.proofs.lemmas.Option.{same_Some, none-some, slice_get_within, slice_get_past, slice_get-map, get_or_from_slice_get}
+use Rattle.std.proofs.lemmas.Option.{same_Some, none-some, slice_get_within, slice_get_past, slice_get-map}
 use Rattle.std.proofs.lemmas.Map.Views.{IfSome-get, btree_set_contains_iff}
 use Rattle.label_set.specs.Same.{sets_decide}
 use Rattle.label_set.specs.Sets.{set_cmp, sets_total}
@@ -24,7 +24,7 @@ use Rattle.instant_view.specs.declared.matchers.SelectorParts.{SelectorParts}
 use Rattle.instant_view.specs.declared.rows.Placed.{Placed}
 use Rattle.instant_view.specs.declared.rows.ViewRow.{ViewRow}
 use Rattle.instant_view.specs.Threads.{AreEnds, IsBackTo, AreNamed, IsGathered, IsGatheredOf, IsGatheredTo, IsKeptRow, IsLastOf, IsRowOf, IsSeenAs, IsSelectedRow, Rise, listed, is_named}
-use Rattle.instant_view.specs.Views.{AreRising, IsAmong, IsSeen}
+use Rattle.instant_view.specs.Views.{IsAmong, IsSeen}
 use Rattle.instant_view.proofs.LinkLemmas.{series_at, three}
 
 pub not_both : (a t : ℤ) → t <ℤ a → a ≤ℤ t → ⊥

@@ -1,5 +1,5 @@
 //! The kept entries of a view, with an index of their series.
-ghost use Rattle.std.specs.Prelude.{◌≡◌, ◌+◌, ◌≤ℤ◌, ◌++◌, ◌∷◌, [], ℕ, true, All, List, ℕ, length, if◌then◌else◌, IfOk, OnOk, IsSome, codes};
+ghost use Rattle.std.specs.Prelude.{◌≡◌, ◌+◌, ◌≤ℤ◌, ◌++◌, ◌∷◌, [], true, All, List, ℕ, length, if◌then◌else◌, IfOk, OnOk, IsSome, codes};
 ghost use Rattle.std.specs.BTreeMap.{get, keys};
 ghost use Rattle.std.specs.Ordering.{is_eq};
 ghost use Rattle.label_set.specs.Sets.{set_cmp};

@@ -1,4 +1,4 @@
-use Rattle.std.proofs.Common.{◌≡◌, ◌∙◌, ℕ, List, Some, sym, ap, subst, refl, suc, length, slice_get, w64, to_z, of_z}
+use Rattle.std.proofs.Common.{◌∙◌, sym, subst, refl, suc, length, w64, to_z, of_z}
 use Rattle.std.specs.Map.Iter.{deref}
 use Rattle.std.proofs.lemmas.Int.{to_z-of_z}
 use Rattle.std.proofs.lemmas.Map.Iter.{iter_end, iter_turn}
