@@ -1,4 +1,4 @@
-use Rattle.std.proofs.Common.{sym, subst, IfOk, w64, to_z}
+use Rattle.std.proofs.Common.{sym, subst, IfOk, w64}
 use Rattle.std.specs.BTreeMap.{keys}
 use Rattle.std.proofs.lemmas.Int.{to_z-of_z}
 use Rattle.instant_view.specs.Threads.{IsGathered, IsGatheredOf}
