@@ -1,5 +1,5 @@
 -- Which status is due of a call that ended.
-use Rattle.std.proofs.Common.{◌≡◌, ◌⊎◌, ℕ, Bool, List, sym, refl, ◌∙◌, inl, inr, arith, subst}
+use Rattle.std.proofs.Common.{◌≡◌, ◌⊎◌, ℕ, Bool, List, [], sym, refl, ◌∙◌, inl, inr, arith, subst}
 use Rattle.std.specs.Prelude.{Result, Ok, Err, None}
 use Rattle.journal_text.specs.declared.faults.ScriptFault.{ScriptFault}
 use Rattle.jobs_in_force.specs.Jobs.{loaded}
@@ -25,7 +25,7 @@ use Rattle.scrape_commands.proofs.FaultLemmas.{ConfAt, LineAt, sure_fault, conf_
 module _ (c : Call) where
   -- a file that is told
   module _ (m : Command) (bytes : List ℕ) (t : IsTold m bytes c) where
-    told_asking : Asking
+    abbrev told_asking : Asking
     told_asking = asking t.kept (file_in c.words) m
 
     told_command : (n : Command) (b : List ℕ) → Reads n b (work_of c) → m ≡ n

@@ -27,6 +27,7 @@ use Rattle.scrape_commands.specs.Ends.{work, Reads, IsOutput, IsTextOf, IsAskedF
 use Rattle.command_words.specs.declared.words.Asked.TheVariants.{File, Synth}
 use Rattle.command_words.specs.declared.words.Command.{Command}
 use Rattle.command_words.specs.declared.words.Command.TheVariants.{Replay, Check, Convert, At}
+use Rattle.scrape_commands.specs.declared.refusals.SelectorFault.TheVariants.{Syntax, Pattern, Bare}
 use Rattle.scrape_commands.specs.declared.refusals.Refusal.TheVariants.{Selector, Config, Script, OpenMetrics, WriteFault}
 
 module _ (a : Asking) (text : List ℕ) (shelf : Use ShelfSeen) (out : Use SinkSeen) (is : IsTextOf text a shelf.before) where
@@ -109,9 +110,9 @@ module _ (a : Asking) (bytes slice : List ℕ) (shelf : ShelfSeen) (has : HasFil
 -- a text that is no selector
 module _ (a : Asking) (i : Instant) (is : a.command ≡ At i) (shelf : ShelfSeen) (out : SinkSeen) where
   pub selector_refused : (e : SelectorError) → Refuses e i.selector → IsRefused (refusal_of e) (work (Some (File a)) (used shelf shelf) (used out out))
-  selector_refused error.Syntax r = record { cause = subst (λ (z : Command). RefusesSelector z _) (sym is) r; shelf = refl; out = refl }
-  selector_refused error.Pattern r = record { cause = subst (λ (z : Command). RefusesSelector z _) (sym is) r; shelf = refl; out = refl }
-  selector_refused error.Bare r = record { cause = subst (λ (z : Command). RefusesSelector z _) (sym is) r; shelf = refl; out = refl }
+  selector_refused error.Syntax r = record { cause = subst (λ (z : Command). RefusesSelector z Syntax) (sym is) r; shelf = refl; out = refl }
+  selector_refused error.Pattern r = record { cause = subst (λ (z : Command). RefusesSelector z Pattern) (sym is) r; shelf = refl; out = refl }
+  selector_refused error.Bare r = record { cause = subst (λ (z : Command). RefusesSelector z Bare) (sym is) r; shelf = refl; out = refl }
   selector_refused error.NoMemory r = record { cause = tt; shelf = refl; out = refl }
 
 module _ (p : Plan) (text : List ℕ) (shelf : ShelfSeen) (out : Use SinkSeen)

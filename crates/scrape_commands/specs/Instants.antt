@@ -19,14 +19,14 @@ use Rattle.scrape_commands.specs.declared.refusals.SelectorFault.{SelectorFault}
 use Rattle.scrape_commands.specs.declared.refusals.SelectorFault.TheVariants.{Syntax, Pattern, Bare}
 
 -- `<moment> <set> <value>` and a line feed
-abbrev pub row_line : ViewRow → List ℕ
+unfoldable pub row_line : ViewRow → List ℕ
 row_line row = signed_decimal row.moment ++ (codes " " ++ (set_text row.series ++ (codes " " ++ (row.value ++ codes "\n"))))
 
 abbrev pub rows_text : List ViewRow → List ℕ
 rows_text rows = flat_map row_line rows
 
 -- the lines of the rows that a selector sees at a moment in a book
-abbrev pub IsViewText : List Entry → SelectorParts → ℤ → List ℕ → Type 0
+unfoldable pub IsViewText : List Entry → SelectorParts → ℤ → List ℕ → Type 0
 IsViewText entries parts t text = (rows : List ViewRow) × IsInstantView entries parts t rows × (text ≡ rows_text rows)
 
 -- the text is a selector of these parts: its patterns are patterns, and it asks for something

@@ -1,8 +1,9 @@
 //! The commands of the program.
-ghost use Rattle.std.specs.Prelude.{◌≡◌, ◌≤◌, ◌++◌, codes, length, Some, IfOk, IfErr, OnOk};
+ghost use Rattle.std.specs.Prelude.{◌≡◌, ◌≤◌, ◌++◌, Bool, codes, length, Some, IfOk, IfErr, OnOk};
 ghost use Rattle.outside.specs.Objects.{ShelfSeen, SinkSeen, used, HasFile, IsUntouched};
 ghost use Rattle.scrape_commands.specs.Ends.{work, WorkEnds, IsRefused, IsTextOf};
 ghost use Rattle.scrape_commands.specs.Instants.{IsReady, IsSelectorOf};
+ghost use Rattle.command_words.specs.Askings.{asking};
 ghost use Rattle.command_words.specs.Words as words;
 ghost use Rattle.command_words.specs.declared.words.Asked.TheVariants.{File, Synth};
 ghost use Rattle.book_text.specs.Summaries.{number_line};
@@ -28,15 +29,20 @@ use std::alloc::Global;
 use synth::make_script;
 
 /// Reads the file of a command, whose selector was read where it has one.
-fn read_file<S: Shelf>(alloc: Global, asked: &OfFile<'_>, shelf: &mut S) -> Result<Blob, Refusal>
-    requires ready { IsReady asked.now.command }
-    ensures has { IfOk result (λ bytes. HasFile (S.seen shelf.old) asked.now.file bytes) }
-    ensures short { IfOk result (λ bytes. length bytes ≤ words.limit_of asked.now.command) }
+fn read_file<S: Shelf>(
+    alloc: Global,
+    command: &Command<'_>,
+    file: &str,
+    shelf: &mut S,
+) -> Result<Blob, Refusal>
+    requires ready { IsReady command.now }
+    ensures has { IfOk result (λ bytes. HasFile (S.seen shelf.old) file.now bytes) }
+    ensures short { IfOk result (λ bytes. length bytes ≤ words.limit_of command.now) }
     ensures untouched { OnOk result (IsUntouched (used (S.seen shelf.old) (S.seen shelf.new))) }
-    ensures refused { (out : SinkSeen) → IfErr result (λ r. IsRefused r
-        (work (Some (File asked.now)) (used (S.seen shelf.old) (S.seen shelf.new)) (used out out))) }
+    ensures refused { (kept : Bool) (out : SinkSeen) → IfErr result (λ r. IsRefused r
+        (work (Some (File (asking kept file.now command.now))) (used (S.seen shelf.old) (S.seen shelf.new)) (used out out))) }
 {
-    match shelf.read_file(alloc, asked.file, limit_of(&asked.command)) {
+    match shelf.read_file(alloc, file, limit_of(command)) {
         Ok(bytes) => Ok(bytes),
         Err(ShelfError::Absent) => Err(Refusal::Absent),
         Err(ShelfError::TooLong) => Err(Refusal::TooLong),
@@ -45,20 +51,27 @@ fn read_file<S: Shelf>(alloc: Global, asked: &OfFile<'_>, shelf: &mut S) -> Resu
     }
 }
 
+/// The flags of a replay.
+#[derive(Clone, Copy)]
+struct Flags {
+    cut: bool,
+    kept: bool,
+}
+
 /// Replays a script, of one that may have been cut what it begins with, and prints the book of its journal, each line with its verdict where that
 /// is wanted.
 fn replay<S: Shelf, O: Sink>(
     means: Means,
-    cut: bool,
-    asked: &OfFile<'_>,
+    flags: Flags,
+    script: &str,
     shelf: &mut S,
     out: &mut O,
 ) -> Result<(), Refusal>
-    requires { asked.now.command ≡ Replay cut }
     ensures { WorkEnds result
-        (work (Some (File asked.now)) (used (S.seen shelf.old) (S.seen shelf.new)) (used (O.seen out.old) (O.seen out.new))) }
+        (work (Some (File (asking flags.kept script.now (Replay flags.cut)))) (used (S.seen shelf.old) (S.seen shelf.new)) (used (O.seen out.old) (O.seen out.new))) }
 {
-    let bytes = match read_file(means.alloc, asked, shelf) {
+    let Flags { cut, kept } = flags;
+    let bytes = match read_file(means.alloc, &Command::Replay { cut }, script, shelf) {
         Ok(bytes) => bytes,
         Err(refusal) => return Err(refusal),
     };
@@ -67,7 +80,7 @@ fn replay<S: Shelf, O: Sink>(
         Err(ScriptError::Bad(fault)) => return Err(Refusal::Script(fault)),
         Err(ScriptError::NoMemory) => return Err(Refusal::NoMemory),
     };
-    match print_book(means.alloc, asked.kept, core.book(), out) {
+    match print_book(means.alloc, kept, core.book(), out) {
         Ok(()) => {
             core.let_go();
             Ok(())
@@ -86,15 +99,14 @@ fn replay<S: Shelf, O: Sink>(
 /// Checks the configuration in a file and prints the number of its jobs.
 fn check<S: Shelf, O: Sink>(
     alloc: Global,
-    asked: &OfFile<'_>,
+    file: &str,
     shelf: &mut S,
     out: &mut O,
 ) -> Result<(), Refusal>
-    requires { asked.now.command ≡ Check }
-    ensures { WorkEnds result
-        (work (Some (File asked.now)) (used (S.seen shelf.old) (S.seen shelf.new)) (used (O.seen out.old) (O.seen out.new))) }
+    ensures { (kept : Bool) → WorkEnds result
+        (work (Some (File (asking kept file.now Check))) (used (S.seen shelf.old) (S.seen shelf.new)) (used (O.seen out.old) (O.seen out.new))) }
 {
-    let bytes = match read_file(alloc, asked, shelf) {
+    let bytes = match read_file(alloc, &Command::Check, file, shelf) {
         Ok(bytes) => bytes,
         Err(refusal) => return Err(refusal),
     };
@@ -113,15 +125,14 @@ fn check<S: Shelf, O: Sink>(
 /// Prints the body that one of OpenMetrics in a file becomes.
 fn convert<S: Shelf, O: Sink>(
     alloc: Global,
-    asked: &OfFile<'_>,
+    file: &str,
     shelf: &mut S,
     out: &mut O,
 ) -> Result<(), Refusal>
-    requires { asked.now.command ≡ Convert }
-    ensures { WorkEnds result
-        (work (Some (File asked.now)) (used (S.seen shelf.old) (S.seen shelf.new)) (used (O.seen out.old) (O.seen out.new))) }
+    ensures { (kept : Bool) → WorkEnds result
+        (work (Some (File (asking kept file.now Convert))) (used (S.seen shelf.old) (S.seen shelf.new)) (used (O.seen out.old) (O.seen out.new))) }
 {
-    let bytes = match read_file(alloc, asked, shelf) {
+    let bytes = match read_file(alloc, &Command::Convert, file, shelf) {
         Ok(bytes) => bytes,
         Err(refusal) => return Err(refusal),
     };
@@ -136,22 +147,23 @@ fn convert<S: Shelf, O: Sink>(
     }
 }
 
-/// The text of what a selector sees at a moment in the book of the script in a file.
+/// The text of what a selector sees at a moment in the book of the script in a file, for the command that asks for it.
 fn seen_text<S: Shelf>(
     means: Means,
+    command: &Command<'_>,
     viewing: &Viewing<'_>,
     selector: &Selector,
-    asked: &OfFile<'_>,
+    script: &str,
     shelf: &mut S,
 ) -> Result<Vec<u8>, Refusal>
-    requires command { asked.now.command ≡ At viewing.now }
+    requires command { command.now ≡ At viewing.now }
     requires selector { IsSelectorOf viewing.now.selector selector.now }
-    ensures text { IfOk result (λ text. IsTextOf text.items asked.now (S.seen shelf.old)) }
+    ensures text { (kept : Bool) → IfOk result (λ text. IsTextOf text.items (asking kept script.now command.now) (S.seen shelf.old)) }
     ensures untouched { OnOk result (IsUntouched (used (S.seen shelf.old) (S.seen shelf.new))) }
-    ensures refused { (out : SinkSeen) → IfErr result (λ r. IsRefused r
-        (work (Some (File asked.now)) (used (S.seen shelf.old) (S.seen shelf.new)) (used out out))) }
+    ensures refused { (kept : Bool) (out : SinkSeen) → IfErr result (λ r. IsRefused r
+        (work (Some (File (asking kept script.now command.now))) (used (S.seen shelf.old) (S.seen shelf.new)) (used out out))) }
 {
-    let bytes = match read_file(means.alloc, asked, shelf) {
+    let bytes = match read_file(means.alloc, command, script, shelf) {
         Ok(bytes) => bytes,
         Err(refusal) => return Err(refusal),
     };
@@ -162,23 +174,24 @@ fn seen_text<S: Shelf>(
     }
 }
 
-/// Prints what a selector sees at a moment in the book of the script in a file.
+/// Prints what a selector sees at a moment in the book of the script in a file, for the command that asks for it.
 fn at<S: Shelf, O: Sink>(
     means: Means,
+    command: &Command<'_>,
     viewing: &Viewing<'_>,
-    asked: &OfFile<'_>,
+    script: &str,
     shelf: &mut S,
     out: &mut O,
 ) -> Result<(), Refusal>
-    requires { asked.now.command ≡ At viewing.now }
-    ensures { WorkEnds result
-        (work (Some (File asked.now)) (used (S.seen shelf.old) (S.seen shelf.new)) (used (O.seen out.old) (O.seen out.new))) }
+    requires { command.now ≡ At viewing.now }
+    ensures { (kept : Bool) → WorkEnds result
+        (work (Some (File (asking kept script.now command.now))) (used (S.seen shelf.old) (S.seen shelf.new)) (used (O.seen out.old) (O.seen out.new))) }
 {
     let selector = match Selector::read(means.alloc, viewing.selector()) {
         Ok(selector) => selector,
         Err(error) => return Err(refusal_of(error)),
     };
-    let text = match seen_text(means, viewing, &selector, asked, shelf) {
+    let text = match seen_text(means, command, viewing, &selector, script, shelf) {
         Ok(text) => text,
         Err(refusal) => return Err(refusal),
     };
@@ -248,10 +261,13 @@ fn perform_file<S: Shelf, O: Sink>(
         (work (Some (File asked.now)) (used (S.seen shelf.old) (S.seen shelf.new)) (used (O.seen out.old) (O.seen out.new))) }
 {
     match &asked.command {
-        Command::Replay { cut } => replay(means, *cut, asked, shelf, out),
-        Command::Check => check(means.alloc, asked, shelf, out),
-        Command::Convert => convert(means.alloc, asked, shelf, out),
-        Command::At(viewing) => at(means, viewing, asked, shelf, out),
+        Command::Replay { cut } => {
+            let (cut, kept) = (*cut, asked.kept);
+            replay(means, Flags { cut, kept }, asked.file, shelf, out)
+        }
+        Command::Check => check(means.alloc, asked.file, shelf, out),
+        Command::Convert => convert(means.alloc, asked.file, shelf, out),
+        Command::At(viewing) => at(means, &asked.command, viewing, asked.file, shelf, out),
     }
 }
 

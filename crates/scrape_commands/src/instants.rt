@@ -1,5 +1,5 @@
 //! What a selector sees at a moment in the book of a script.
-ghost use Rattle.std.specs.Prelude.{◌≡◌, ◌<◌, ◌^◌, ◌++◌, pos, false, IfOk, IfErr, OnOk};
+ghost use Rattle.std.specs.Prelude.{◌≡◌, ◌<◌, ◌^◌, ◌++◌, List, pos, false, IfOk, IfErr, OnOk};
 ghost use Rattle.journal_text.specs.declared.events.Event.{Event};
 ghost use Rattle.scrape_commands.specs.Instants as spec;
 ghost use Rattle.scrape_commands.specs.Scripts.{IsScriptOf, RefusesScript};
@@ -28,6 +28,7 @@ pub fn refusal_of(error: SelectorError) -> Refusal
 }
 
 /// Adds the line of a row.
+#[tactic(auto, unfolding(crate::specs::Instants::row_line))]
 fn push_row(text: &mut Vec<u8>, row: &ViewRow) -> Result<(), NoMemory>
     ensures { OnOk result (text.new.items ≡ text.old.items ++ spec.row_line row.now) }
 {
@@ -53,6 +54,7 @@ fn rows_text(alloc: Global, rows: &[ViewRow]) -> Result<Vec<u8>, NoMemory>
 }
 
 /// What a selector sees at a moment in a book.
+#[tactic(auto, unfolding(crate::specs::Instants::IsViewText))]
 fn book_view(
     alloc: Global,
     selector: &Selector,
