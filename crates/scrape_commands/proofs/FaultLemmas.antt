@@ -1,6 +1,6 @@
 -- What is wrong with the file of a command, or with its selector.
-use Rattle.std.proofs.Common.{◌≡◌, ℕ, Bool, true, false, List, ◌++◌, append_assoc, sym, refl, ◌∙◌, subst, Option, None, Some}
-use Rattle.std.specs.Prelude.{Result, Ok, Err}
+use Rattle.std.proofs.Common.{◌≡◌, ℕ, Bool, true, false, List, ◌++◌, append_assoc, sym, ◌∙◌, subst, Some}
+use Rattle.std.specs.Prelude.{Result, Err}
 use Rattle.std.specs.List.{Any}
 use Rattle.journal_text.specs.declared.events.Event.{Event}
 use Rattle.journal_text.specs.Events.{events_text, first_line}

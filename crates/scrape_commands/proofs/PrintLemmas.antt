@@ -1,6 +1,6 @@
 -- What a command printed, or a front of it: the book of a replayed script, the line of a checked configuration, a converted body, what a selector sees,
 -- the summary of a script that was made; and why a file gave nothing.
-use Rattle.std.proofs.Common.{◌≡◌, ℕ, ◌≤◌, Bool, false, List, length, inl, inr, refl, ap, subst, sym, ◌∙◌}
+use Rattle.std.proofs.Common.{◌≡◌, ℕ, ◌≤◌, Bool, false, List, length, inl, inr, refl, ap, subst, sym}
 use Rattle.std.specs.Prelude.{Some, Ok, Err, pos}
 use Rattle.outside.specs.Objects.{ShelfSeen, SinkSeen, Use, used, IsUntouched, HasFile, Took, Cut}
 use Rattle.journal_text.specs.declared.events.Event.{Event}
@@ -28,7 +28,7 @@ use Rattle.command_words.specs.declared.words.Asked.TheVariants.{File, Synth}
 use Rattle.command_words.specs.declared.words.Command.{Command}
 use Rattle.command_words.specs.declared.words.Command.TheVariants.{Replay, Check, Convert, At}
 use Rattle.scrape_commands.specs.declared.refusals.SelectorFault.TheVariants.{Syntax, Pattern, Bare}
-use Rattle.scrape_commands.specs.declared.refusals.Refusal.TheVariants.{Selector, Config, Script, OpenMetrics, WriteFault}
+use Rattle.scrape_commands.specs.declared.refusals.Refusal.TheVariants.{Config, Script, OpenMetrics, WriteFault}
 
 module _ (a : Asking) (text : List ℕ) (shelf : Use ShelfSeen) (out : Use SinkSeen) (is : IsTextOf text a shelf.before) where
   file_asked_for : IsAskedFor text (work (Some (File a)) shelf out)

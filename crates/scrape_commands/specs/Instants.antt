@@ -1,5 +1,5 @@
 -- What `at` prints: what a selector sees at a moment in the book of a script's journal. And what is said of a text that is no selector.
-use Rattle.std.specs.Prelude.{◌≡◌, ℕ, ℤ, ◌⊎◌, ⊤, All, false, List, ◌++◌, flat_map, codes}
+use Rattle.std.specs.Prelude.{◌≡◌, ℕ, ℤ, ⊤, All, false, List, ◌++◌, flat_map, codes}
 use Rattle.std.specs.Fmt.{signed_decimal}
 use Rattle.std.specs.List.{Any}
 use Rattle.label_set.specs.SetText.{set_text}
