@@ -19,6 +19,7 @@ pub mod scripts;
 pub mod synths;
 pub mod targets;
 pub mod texts;
+pub mod tracked;
 pub mod updates;
 pub mod verdicts;
 pub mod words;

@@ -14,7 +14,7 @@ use label_set::{Blob, Name, NoMemory};
 use outside::{FileList, StoredFile, SureShelf};
 use scrape_cases::{
     bodies, broken, checked, conflicts, conversions, cuts, endings, fields, flags, limits,
-    relabelling, reloads, scripts, synths, targets, texts, updates, verdicts, words,
+    relabelling, reloads, scripts, synths, targets, texts, tracked, updates, verdicts, words,
 };
 use scrape_core::Means;
 use std::alloc::{AllocError, Global};
@@ -23,7 +23,7 @@ use std::str;
 use std::test::Fail;
 
 /// All cases, by subject.
-const TEXTS: [&str; 19] = [
+const TEXTS: [&str; 20] = [
     words::CASES,
     flags::CASES,
     scripts::CASES,
@@ -37,6 +37,7 @@ const TEXTS: [&str; 19] = [
     verdicts::CASES,
     bodies::CASES,
     texts::CASES,
+    tracked::CASES,
     targets::CASES,
     conflicts::CASES,
     relabelling::CASES,
