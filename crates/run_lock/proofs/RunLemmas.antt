@@ -4,7 +4,7 @@ use Rattle.std.specs.Prelude.{Option, Some, None, slice_get}
 use Rattle.std.proofs.lemmas.List.{length-set, length-replicate}
 use Rattle.journal_text.specs.declared.events.Event.{Event}
 use Rattle.journal_text.specs.declared.events.Event.TheVariants.{Finish, Sweep, Halt}
-use Rattle.journal_text.specs.Events.{now_of}
+use Rattle.journal_text.specs.Events.{IsJournal, now_of}
 use Rattle.outside.specs.declared.replies.Reply.{Reply}
 use Rattle.scrape_core.specs.Records.{IsFresh, IsWhole, started_of}
 use Rattle.scrape_machine.specs.Machine.{world_of}
@@ -264,8 +264,9 @@ module _ (workers turns : ℕ) (start : List Event) where
       unended now o = refl
 
   -- at the end of all work
-  pub run_whole : (k : Known) (m : ℤ) → IsRun workers turns start k → k.ended ≡ true → IsWhole (k.events ++ Halt m ∷ [])
-  run_whole k m run over = run_is_whole k.events (k.events ++ Halt m ∷ []) m k.next k.started k.slots run.running (run.over over).0 (sym run.counted ∙ (run.over over).1) refl
+  pub run_whole : (k : Known) (m : ℤ) → IsRun workers turns start k → k.ended ≡ true → IsJournal (k.events ++ Halt m ∷ []) → IsWhole (k.events ++ Halt m ∷ [])
+  run_whole k m run over journal =
+      run_is_whole k.events (k.events ++ Halt m ∷ []) m k.next k.started k.slots run.running (run.over over).0 (sym run.counted ∙ (run.over over).1) refl journal
 
   pub halted_log : (k : Known) (m : ℤ) → IsRun workers turns start k → entries_of (k.events ++ Halt m ∷ []) (k.marks ++ mark.Brought 0 ∷ []) ≡ log_of k ++ entry 0 (Brought (now_of k.events) (Halt m)) ∷ []
   halted_log k m run = brought_log k 0 (Halt m) run

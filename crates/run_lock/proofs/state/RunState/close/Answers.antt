@@ -2,7 +2,7 @@ use Rattle.std.proofs.Common.{◌≡◌, ℕ, ℤ, List, [], ◌∷◌, ◌++◌
 use Rattle.std.specs.Prelude.{Option, Some, None}
 use Rattle.journal_text.specs.declared.events.Event.{Event}
 use Rattle.journal_text.specs.declared.events.Event.TheVariants.{Finish, Sweep, Halt}
-use Rattle.journal_text.specs.Events.{now_of}
+use Rattle.journal_text.specs.Events.{IsJournal, now_of}
 use Rattle.journal_text.specs.Lines.{number}
 use Rattle.run_lock.specs.declared.marks.Entry.{Entry}
 use Rattle.run_lock.specs.declared.marks.Mark.{Mark}
@@ -25,33 +25,34 @@ returns-clause-done g c =
     let old = c.args.self in
     let k : Known = record { events = old.core; marks = old.marks.items; next = old.next; started = old.started; slots = old.slots.items; out = old.out; sweeps_left = old.sweeps_left; ended = old.ended } in
     let m = pos (now_of old.core) in
-    subst IsWhole (sym c.halt.ensures) (run_whole g.B.Asked.workers g.B.Asked.turns g.B.Asked.start k m old.run (old.run.shown c.requires.ended))
+    subst IsWhole (sym c.halt.ensures.halted) (run_whole g.B.Asked.workers g.B.Asked.turns g.B.Asked.start k m old.run (old.run.shown c.requires.ended)
+    (subst IsJournal c.halt.ensures.halted c.halt.ensures.journal))
 
 pub returns-clause-seats : goal.returns-clause-seats
 returns-clause-seats g c =
     let old = c.args.self in
     let k : Known = record { events = old.core; marks = old.marks.items; next = old.next; started = old.started; slots = old.slots.items; out = old.out; sweeps_left = old.sweeps_left; ended = old.ended } in
     let m = pos (now_of old.core) in
-    (λ i. length (seats_in (c.push_reserved.ensures.items i))) ∙ (halted_seats g.B.Asked.workers g.B.Asked.turns g.B.Asked.start k m old.run ∙ ap (λ (es : List Event). length es) (sym c.halt.ensures))
+    (λ i. length (seats_in (c.push_reserved.ensures.items i))) ∙ (halted_seats g.B.Asked.workers g.B.Asked.turns g.B.Asked.start k m old.run ∙ ap (λ (es : List Event). length es) (sym c.halt.ensures.halted))
 
 pub returns-clause-entries : goal.returns-clause-entries
 returns-clause-entries g c =
     let old = c.args.self in
     let k : Known = record { events = old.core; marks = old.marks.items; next = old.next; started = old.started; slots = old.slots.items; out = old.out; sweeps_left = old.sweeps_left; ended = old.ended } in
     let m = pos (now_of old.core) in
-    (λ i. entries_of (c.halt.ensures i) (c.push_reserved.ensures.items i)) ∙ halted_log g.B.Asked.workers g.B.Asked.turns g.B.Asked.start k m old.run
+    (λ i. entries_of (c.halt.ensures.halted i) (c.push_reserved.ensures.items i)) ∙ halted_log g.B.Asked.workers g.B.Asked.turns g.B.Asked.start k m old.run
 
 pub returns-clause-others : goal.returns-clause-others
 returns-clause-others g c =
     let old = c.args.self in
     let k : Known = record { events = old.core; marks = old.marks.items; next = old.next; started = old.started; slots = old.slots.items; out = old.out; sweeps_left = old.sweeps_left; ended = old.ended } in
     let m = pos (now_of old.core) in
-    λ q some. (λ i. events_of q (c.halt.ensures i) (seats_in (c.push_reserved.ensures.items i))) ∙ halted_other g.B.Asked.workers g.B.Asked.turns g.B.Asked.start k m q old.run some
+    λ q some. (λ i. events_of q (c.halt.ensures.halted i) (seats_in (c.push_reserved.ensures.items i))) ∙ halted_other g.B.Asked.workers g.B.Asked.turns g.B.Asked.start k m q old.run some
 
 pub returns-clause-caller : goal.returns-clause-caller
 returns-clause-caller g c =
     let old = c.args.self in
     let k : Known = record { events = old.core; marks = old.marks.items; next = old.next; started = old.started; slots = old.slots.items; out = old.out; sweeps_left = old.sweeps_left; ended = old.ended } in
     let m = pos (now_of old.core) in
-    subst (λ (t : List Event × List Mark). IsOfCaller g.B.Asked.start t.0 (seats_in t.1) (own_by 0 (entries_of old.core old.marks.items))) (λ i. (sym c.halt.ensures i, sym c.push_reserved.ensures.items i))
+    subst (λ (t : List Event × List Mark). IsOfCaller g.B.Asked.start t.0 (seats_in t.1) (own_by 0 (entries_of old.core old.marks.items))) (λ i. (sym c.halt.ensures.halted i, sym c.push_reserved.ensures.items i))
     (halted_caller g.B.Asked.workers g.B.Asked.turns g.B.Asked.start k m old.run)
