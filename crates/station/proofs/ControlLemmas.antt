@@ -21,7 +21,9 @@ use Rattle.station.specs.InputLines.{is_feed, all_but_last, last_of, ended_lines
 use Rattle.station.specs.declared.reader.Reader.{Reader}
 use Rattle.station.specs.declared.ends.RunEnd.{RunEnd}
 use Rattle.station.specs.declared.ends.RunEnd.TheVariants.{Done, ReadFault, WriteFault, TooLong, NoMemory}
-use Rattle.station.specs.Ends.{run_end}
+use Rattle.station.specs.declared.ends.Stop.{Stop}
+use Rattle.station.specs.declared.ends.Stop.TheVariants as stop
+use Rattle.station.specs.Ends.{end_of, run_end}
 use Rattle.station.proofs.EndLemmas.{adds_then, rose_last}
 
 -- the parts at line feeds: there is one at least, and the last has none
@@ -228,6 +230,15 @@ caller_end start end a b after left v w u d e f same faults still read done soun
         → IfSome x (λ files. IfSome left (λ bytes. HasDone (caller_did files (jobs_known start v) end bytes) v u (used d f)))
     both_some None y is r h = tt
     both_some (Some files) y is r h = if_some left (one files r) (subst (λ o. IfSome o (λ files. IfSome left (λ bytes. HasDone (control_did files (jobs_known start w) end bytes) w u (used e f)))) is h)
+
+-- an end by a stop is no sound one
+pub unsound : (s : Stop) (shelf : Use ShelfSeen) → IsSound (end_of s) shelf → ⊥
+unsound stop.ReadFault shelf h = h
+unsound stop.WriteFault shelf h = h
+unsound stop.NoMemory shelf h = h
+
+pub stopped_did : (start : List Event) (end : RunEnd) (s : Stop) (shelf : Use ShelfSeen) (left : Option (List ℕ)) (v w : List Entry) (err : Use SinkSeen) → end ≡ end_of s → CallerDid start end shelf left v w err
+stopped_did start end s shelf left v w err is sound = absurd (unsound s shelf (subst (λ (e : RunEnd). IsSound e shelf) is sound))
 
 pub tells_over : {S E : Type 0} (seen : S → ShelfSeen) (held : E → SinkSeen) (whole : Bool) (end result : RunEnd) (a : ShelfSeen) (b : SinkSeen) (s s' : S) (e e' : E) (left : Option (List ℕ)) (start es : List Event) (seats : List ℕ) (v w : List Entry)
     → result ≡ run_end whole end → s' ≡ s → e' ≡ e → ordered v ≡ [] → (whole ≡ true → IsOfCaller start es seats w)

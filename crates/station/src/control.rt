@@ -191,6 +191,29 @@ fn read_control<'r, L: Ledger, B: Asked, R: Wait, S: Shelf, E: Sink, C: Source>(
     unreachable!()
 }
 
+/// Reads the listed files of the configuration in force, and then control.
+fn read_all<'r, L: Ledger, B: Asked, R: Wait, S: Shelf, E: Sink, C: Source>(
+    seat: &mut Seat<'r, L, B, R>,
+    shelf: &mut S,
+    err: &mut E,
+    control: &mut C,
+) -> RunEnd
+    requires seat { IsOwn seat.old.lock.now 0 seat.old.pass }
+    ensures lock { seat.new.lock ≡ seat.old.lock }
+    ensures seat { IsOwn seat.new.lock.now 0 seat.new.pass }
+    ensures shelf { ShelfWent (used (S.seen shelf.old) (S.seen shelf.new)) }
+    ensures err { SinkWent (used (E.seen err.old) (E.seen err.new)) }
+    ensures control { SourceWent (used (C.seen control.old) (C.seen control.new)) }
+    ensures ends { EndsSo result (used (S.seen shelf.old) (S.seen shelf.new)) (used (E.seen err.old) (E.seen err.new)) (used (C.seen control.old) (C.seen control.new)) }
+    ensures did { CallerDid B.start result (used (S.seen shelf.old) (S.seen shelf.new)) (C.seen control.old).left (own_of seat.old.pass) (own_of seat.new.pass) (used (E.seen err.old) (E.seen err.new)) }
+{
+    let done = read_listed(seat, shelf);
+    match done {
+        Ok(()) => read_control(seat, shelf, err, control),
+        Err(stop) => end_of(stop),
+    }
+}
+
 /// The loop of the caller: it reads the listed files of the configuration in force, and then control. Where memory runs out all loops are to stop.
 pub fn take_commands<'r, L: Ledger, B: Asked, R: Wait, S: Shelf, E: Sink, C: Source>(
     seat: &mut Seat<'r, L, B, R>,
@@ -207,12 +230,10 @@ pub fn take_commands<'r, L: Ledger, B: Asked, R: Wait, S: Shelf, E: Sink, C: Sou
     ensures ends { EndsSo result (used (S.seen shelf.old) (S.seen shelf.new)) (used (E.seen err.old) (E.seen err.new)) (used (C.seen control.old) (C.seen control.new)) }
     ensures did { CallerDid B.start result (used (S.seen shelf.old) (S.seen shelf.new)) (C.seen control.old).left (own_of seat.old.pass) (own_of seat.new.pass) (used (E.seen err.old) (E.seen err.new)) }
 {
-    let end = match read_listed(seat, shelf) {
-        Ok(()) => read_control(seat, shelf, err, control),
-        Err(stop) => end_of(stop),
-    };
-    if end == RunEnd::NoMemory {
-        seat.fail(0);
+    let end = read_all(seat, shelf, err, control);
+    if end != RunEnd::NoMemory {
+        return end;
     }
-    end
+    seat.fail(0);
+    RunEnd::NoMemory
 }
