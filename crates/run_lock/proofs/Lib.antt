@@ -4,4 +4,5 @@ pub mod HeldLemmas
 mod ListedLemmas
 pub mod RunLemmas
 pub mod SeatLemmas
+pub mod SharingLemmas
 pub mod SlotLemmas
