@@ -46,4 +46,7 @@ returns-in-Err-clause-ends g c =
     subst (λ (end : RunEnd). EndsSo end shelf (used e e) (used s s)) (sym c.end_of.ensures) (ends_stopped c.in-Err.stop shelf (used e e) (used s s) (omega arith) (stops_is c.read_listed-done.result c.in-Err.stop shelf c.in-Err.is c.read_listed-done.ensures.stops))
 
 pub returns-in-Err-clause-did : goal.returns-in-Err-clause-did
-returns-in-Err-clause-did g c = stopped_did g.B.Asked.start c.end_of.result c.in-Err.stop _ _ _ _ _ c.end_of.ensures
+returns-in-Err-clause-did g c =
+    let e = g.E.Sink.seen c.args.err.now in
+    stopped_did g.B.Asked.start c.end_of.result c.in-Err.stop (used (g.S.Shelf.seen c.args.shelf.now) (g.S.Shelf.seen c.read_listed-done.new.shelf))
+    (g.C.Source.seen c.args.control.now).left (own_of c.args.seat.now.pass) (own_of c.read_listed-done.new.seat.pass) (used e e) c.end_of.ensures
