@@ -18,4 +18,6 @@ pub struct Closing {
     pub closed: i64,
     /// The scrape interval, in milliseconds.
     pub interval: i64,
+    /// Whether it has the three extra reports besides the five.
+    pub extra: bool,
 }

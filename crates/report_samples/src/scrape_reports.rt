@@ -1,8 +1,10 @@
-//! The report samples of a scrape ("Jobs and instances" of the Prometheus documentation, automatically generated labels and time series).
-ghost use Rattle.std.specs.Prelude.{◌≡◌, pos, ◌≤ℤ◌, [], ◌∷◌, IfOk};
+//! The report samples of a scrape ("Jobs and instances" of the Prometheus documentation, automatically generated labels and time series; "Feature flags",
+//! extra scrape metrics, for the last three).
+ghost use Rattle.std.specs.Prelude.{◌≡◌, pos, ◌≤ℤ◌, IfOk, IfSome};
+ghost use Rattle.std.specs.Fmt.{signed_decimal};
 ghost use Rattle.report_samples.specs.Reports as spec;
 
-use crate::entries::{Entry, EntryList};
+use crate::entries::EntryList;
 use crate::report_sets::ReportSets;
 use label_set::{LabelSet, NoMemory};
 use std::alloc::Global;
@@ -21,6 +23,23 @@ pub enum Report {
     Left,
     /// `scrape_series_added`: how many sets the last good scrape didn't have.
     Added,
+    /// `scrape_timeout_seconds`: the timeout of the job.
+    Timeout,
+    /// `scrape_sample_limit`: the job's limit of samples, 0 for none.
+    SampleLimit,
+    /// `scrape_body_size_bytes`: how long the body was, -1 where it was too long.
+    BodySize,
+}
+
+/// What the extra reports of a scrape say.
+#[derive(Clone, Copy, Debug, PartialEq, Eq)]
+pub struct ExtraCounts {
+    /// The timeout, in milliseconds.
+    pub timeout: i64,
+    /// The limit of samples (`sample_limit`), 0 for none.
+    pub limit: u64,
+    /// The length of a good body, -1 where it was too long, 0 for any other fault.
+    pub size: i64,
 }
 
 /// What the reports of a scrape say.
@@ -36,6 +55,8 @@ pub struct ReportCounts {
     pub left: u64,
     /// How many sets of the scrape the last good one didn't have.
     pub added: u64,
+    /// What the extra reports say, where the life has these.
+    pub extra: Option<ExtraCounts>,
 }
 
 /// A target's labels with a metric name as `__name__`.
@@ -58,6 +79,9 @@ fn report_name(report: Report) -> &'static str
         Report::Scraped => "scrape_samples_scraped",
         Report::Left => "scrape_samples_post_metric_relabeling",
         Report::Added => "scrape_series_added",
+        Report::Timeout => "scrape_timeout_seconds",
+        Report::SampleLimit => "scrape_sample_limit",
+        Report::BodySize => "scrape_body_size_bytes",
     }
 }
 
@@ -83,8 +107,21 @@ pub(crate) fn up_value(alloc: Global, up: bool) -> Result<ValueText, NoMemory>
     }
 }
 
-/// The five reports of a scrape of a life that started at a moment, in the order of `Report`. The fetch took 0 milliseconds or more;
-/// the duration is written in seconds with three decimals. A life of many scrapes keeps its `ReportSets`.
+/// The value of the size of a body.
+pub(crate) fn size_value(alloc: Global, size: i64) -> Result<ValueText, NoMemory>
+    ensures { IfOk result (λ v. v ≡ signed_decimal size) }
+{
+    let text = size.to_string(alloc)?;
+    // digits, with a sign or none, are a value, so only memory can be wanting
+    match ValueText::keep(alloc, text.as_bytes()) {
+        Ok(value) => Ok(value),
+        Err(_) => Err(NoMemory),
+    }
+}
+
+/// The reports of a scrape of a life that started at a moment, in the order of `Report`: five, and the three extra ones where there are counts for
+/// these. The fetch took 0 milliseconds or more, and so is the timeout; both are written in seconds with three decimals.
+/// A life of many scrapes keeps its `ReportSets`.
 ///
 /// # Errors
 ///
@@ -96,28 +133,10 @@ pub fn reports(
     moment: i64,
     counts: &ReportCounts,
 ) -> Result<EntryList, NoMemory>
-    requires { pos 0 ≤ℤ counts.now.took }
+    requires took { pos 0 ≤ℤ counts.now.took }
+    requires timeout { IfSome counts.now.extra (λ e. pos 0 ≤ℤ e.timeout) }
     ensures { IfOk result (λ l. l ≡ spec.report_entries life target.now moment counts.now) }
 {
-    let sets = ReportSets::of(alloc, target.copy()?)?;
+    let sets = ReportSets::of(alloc, target.copy()?, counts.extra.is_some())?;
     sets.reports(alloc, life, moment, counts)
-}
-
-pub(crate) fn five(
-    alloc: Global,
-    first: Entry,
-    second: Entry,
-    third: Entry,
-    fourth: Entry,
-    fifth: Entry,
-) -> Result<Vec<Entry>, NoMemory>
-    ensures { IfOk result (λ v. v.items ≡ first ∷ second ∷ third ∷ fourth ∷ fifth ∷ []) }
-{
-    let mut items = Vec::with_capacity(alloc, 5)?;
-    items.push_reserved(first);
-    items.push_reserved(second);
-    items.push_reserved(third);
-    items.push_reserved(fourth);
-    items.push_reserved(fifth);
-    Ok(items)
 }
