@@ -100,6 +100,8 @@ job_plain_field most key =
     else if bytes_eq key (codes "scheme") then text form.Scheme
     else if bytes_eq key (codes "honor_labels") then field.Plain kind.Truth
     else if bytes_eq key (codes "honor_timestamps") then field.Plain kind.Truth
+    else if bytes_eq key (codes "track_timestamps_staleness") then field.Plain kind.Truth
+    else if bytes_eq key (codes "extra_scrape_metrics") then field.Plain kind.Truth
     else if bytes_eq key (codes "params") then field.Params
     else if is_limit_key key then field.Plain kind.Limit
     else field.Unknown

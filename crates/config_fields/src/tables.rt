@@ -242,6 +242,10 @@ fn job_plain_field(most: i64, key: &str) -> Field
         Field::Plain(Kind::Truth)
     } else if key == "honor_timestamps" {
         Field::Plain(Kind::Truth)
+    } else if key == "track_timestamps_staleness" {
+        Field::Plain(Kind::Truth)
+    } else if key == "extra_scrape_metrics" {
+        Field::Plain(Kind::Truth)
     } else if key == "params" {
         Field::Params
     } else if is_limit_key(key) {
