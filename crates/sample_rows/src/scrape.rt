@@ -12,6 +12,10 @@ pub struct RowRules {
     pub honor_labels: bool,
     /// Whether a sample keeps the timestamp that its line exposes (`honor_timestamps`).
     pub honor_timestamps: bool,
+    /// Whether series whose own timestamps are honoured are tracked too (`track_timestamps_staleness`).
+    pub track_timestamps_staleness: bool,
+    /// Whether a scrape has the three extra reports (`extra_scrape_metrics`).
+    pub extra_scrape_metrics: bool,
     /// The scrape timeout in milliseconds (`scrape_timeout`).
     pub timeout: i64,
     pub limits: Limits,
@@ -25,6 +29,8 @@ pub struct Sample {
     pub value: ValueText,
     /// Its own timestamp in milliseconds, where its line has one and it is honoured.
     pub stamp: Option<i64>,
+    /// Whether the scrape tracks its series by it, so that a stale marker ends the series where the next scrape doesn't.
+    pub tracked: bool,
 }
 
 /// Samples in the order of the body, seen as their list.
