@@ -32,9 +32,10 @@ pub record IsInLimits (c : Closing) : Type 0 where
   pub interval_limits : (1 ≤ number c.interval) × (number c.interval ≤ 2 ^ 40)
   pub sets_rise : IsStrictlySortedBy set_cmp c.tracked
 
--- the entries of the ending of a closed life: where a scrape of it counted, a stale marker for each tracked set, sets rising, and then one for each report
+-- the entries of the ending of a closed life: where a scrape of it counted, a stale marker for each tracked set, sets rising, and then one for each of
+-- its reports
 abbrev pub ending_entries : Closing → List Entry
-ending_entries c = if c.scraped then map (stale_entry c.life (marker_moment c)) c.tracked ++ report_markers c.life c.target (marker_moment c) else []
+ending_entries c = if c.scraped then map (stale_entry c.life (marker_moment c)) c.tracked ++ report_markers c.life c.target c.extra (marker_moment c) else []
 
 -- what contracts see of an ending: the closed life, and whether it was taken
 pub record EndingView : Type 0 where

@@ -26,7 +26,7 @@ fn set_markers(
 }
 
 /// The entries of the ending of a closed life, at the moment of its markers. Where a scrape of it counted, a forced one too, they are a stale marker
-/// for each set that its last counted scrape tracked, sets rising, and then one for each of the five reports, in the order of `Report`.
+/// for each set that its last counted scrape tracked, sets rising, and then one for each of the reports that the life has, in the order of `Report`.
 /// Where none did, there are none.
 ///
 /// The source is "Staleness" of the Prometheus documentation.
@@ -50,10 +50,10 @@ pub fn ending_entries(alloc: Global, closing: &Closing) -> Result<EntryList, NoM
     Ok(EntryList { items })
 }
 
-/// The markers of the five reports.
+/// The markers of the reports.
 fn report_markers_of(alloc: Global, closing: &Closing, moment: i64) -> Result<EntryList, NoMemory>
-    ensures { IfOk result (λ l. l ≡ markers.report_markers closing.now.life closing.now.target moment) }
+    ensures { IfOk result (λ l. l ≡ markers.report_markers closing.now.life closing.now.target closing.now.extra moment) }
 {
-    let reports = ReportSets::of(alloc, closing.target.copy()?)?;
-    reports.markers(alloc, closing.life, moment)
+    let reports = ReportSets::of(alloc, closing.target.copy()?, closing.extra)?;
+    reports.markers(alloc, closing.life, moment, closing.extra)
 }
