@@ -1,7 +1,6 @@
 -- The intervals and timeouts of a configuration are in their bounds: a field's duration is, and so is what stands in its place.
-use Rattle.std.proofs.Common.{◌≡◌, ℕ, zero, suc, ◌^◌, ◌≤◌, ℤ, pos, Bool, true, false, List, refl, sym, subst, Option, None, Some, All, nat_le, ⊎_elim, arith, if◌then◌else◌}
-use Rattle.std.specs.Prelude.{◌==◌, unwrap_or, option_map, option_and_then, int_lt, ◌≤ℤ◌, codes}
-use Rattle.std.proofs.lemmas.Bool.{cases_Bool}
+use Rattle.std.proofs.Common.{◌≡◌, ℕ, ◌^◌, ℤ, pos, Bool, true, false, List, refl, Option, None, Some, All, nat_le, arith, if◌then◌else◌}
+use Rattle.std.specs.Prelude.{◌==◌, unwrap_or, option_map, option_and_then, int_lt, codes}
 use Rattle.std.proofs.lemmas.Bool.Decides.{nat_tests}
 use Rattle.std.proofs.lemmas.List.Elements.{All-nil, All-cons}
 use Rattle.serde_json.specs.Data.{Data, null, Items, no_items, item}

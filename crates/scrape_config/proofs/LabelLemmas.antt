@@ -1,5 +1,5 @@
 -- The labels of groups in which the walk finds no fault have different names, each of them a label name.
-use Rattle.std.proofs.Common.{◌≡◌, ℕ, ◌+◌, Bool, true, false, List, [], ◌∷◌, ◌++◌, map, refl, sym, ap, ◌∙◌, subst, Option, None, Some, All, codes, not}
+use Rattle.std.proofs.Common.{◌≡◌, ℕ, ◌+◌, Bool, true, false, List, [], ◌++◌, map, refl, sym, ◌∙◌, subst, Option, None, Some, All, codes}
 use Rattle.std.specs.Prelude.{unwrap_or, option_map, option_and_then, option_to_list}
 use Rattle.std.specs.List.{IsDistinct, AllByRecursion}
 use Rattle.std.specs.Str.{bytes_eq}
@@ -15,7 +15,7 @@ use Rattle.serde_json.specs.Data.{Data, Items, no_items, item, Members, no_membe
 use Rattle.serde_json.specs.Find.{get, as_str, as_array, as_object}
 use Rattle.config_fields.specs.Places.{field_place, item_place}
 use Rattle.config_fields.specs.Forms.{judged}
-use Rattle.config_fields.specs.Tables.{field_of, group_field, owed_by, job_field}
+use Rattle.config_fields.specs.Tables.{field_of, group_field, owed_by}
 use Rattle.config_fields.specs.Walks.{flaws, are_label_names, value_faults, labels_faults, field_faults, members_faults, object_faults}
 use Rattle.config_fields.specs.declared.tables.Field.TheVariants as field
 use Rattle.config_fields.specs.declared.tables.ListKind.{ListKind}
@@ -26,7 +26,6 @@ use Rattle.config_fields.proofs.CleanLemmas.{get-object, of_found, members-clean
 use Rattle.scrape_config.specs.Bounds.{HasLabelNames}
 use Rattle.scrape_config.specs.Lists.{object_in, crowd, objects_faults, list_faults}
 use Rattle.scrape_config.specs.Values.{members_under, pairs_of, group_of, groups_of}
-use Rattle.scrape_config.specs.declared.conf.Group.{Group}
 use Rattle.scrape_config.proofs.OrderLemmas.{IsFront, IsOrdered, AreOrdered, Rises, array_ordered, object_ordered, field_ordered}
 
 -- labels without a fault are an object under label names

@@ -1,6 +1,6 @@
 -- The first pattern that isn't one.
-use Rattle.std.proofs.Common.{◌≡◌, ℕ, List, Option, Some, None, refl, sym, ap, subst, ◌∙◌, codes}
-use Rattle.std.specs.Prelude.{option_map, Result, Ok, Err, IfErr, IfOk}
+use Rattle.std.proofs.Common.{◌≡◌, ℕ, List, Option, Some, None, refl, sym, ap, subst, codes}
+use Rattle.std.specs.Prelude.{option_map}
 use Rattle.std.specs.Option.{option_or}
 use Rattle.relabel.specs.Refusals.{first_bad_rule, first_bad_pattern, rules_fault}
 use Rattle.relabel.specs.declared.conf.RuleConf.{RuleConf}
@@ -8,10 +8,7 @@ use Rattle.relabel.specs.declared.conf.RuleField.{RuleField}
 use Rattle.relabel.specs.declared.conf.RuleFault.{RuleFault}
 use Rattle.relabel.specs.declared.conf.RuleFault.TheVariants.{BadRule, BadPattern}
 use Rattle.config_fields.specs.Places.{field_place, item_place}
-use Rattle.config_fields.specs.declared.fault.ConfFault.{ConfFault}
-use Rattle.config_fields.specs.declared.fault.ConfFault.TheVariants.{Rule}
-use Rattle.scrape_config.specs.Reading.{rules_pattern, jobs_pattern, with_patterns, unless_fault, IsPatternCause}
-use Rattle.scrape_config.specs.declared.conf.Conf.{Conf}
+use Rattle.scrape_config.specs.Reading.{rules_pattern, IsPatternCause}
 use Rattle.scrape_config.specs.declared.fault.ConfError.{ConfError}
 use Rattle.scrape_config.specs.declared.fault.ConfError.TheVariants.{Bad, NoMemory}
 

@@ -148,11 +148,14 @@ limits a b =
 reach : (a b : JobConf) → Decides (has_same_reach a b) (HasSameReach a b)
 unfolding has_same_reach
 reach a b =
-    Decides-like _ (λ h. (h.0, h.1.0, h.1.1.0, h.1.1.1.0, h.1.1.1.1)) (λ h. (h.0, (h.1, (h.2, (h.3, h.4)))))
+    Decides-like _ (λ h. (h.0, h.1.0, h.1.1.0, h.1.1.1.0, h.1.1.1.1.0, h.1.1.1.1.1.0, h.1.1.1.1.1.1))
+    (λ h. (h.0, (h.1, (h.2, (h.3, (h.4, (h.5, h.6)))))))
     (Decides-and _ _ (bytes_decides a.job_name b.job_name)
     (Decides-and _ _ (truths a.honor_labels b.honor_labels)
     (Decides-and _ _ (truths a.honor_timestamps b.honor_timestamps)
-    (Decides-and _ _ (bytes_decides a.metrics_path b.metrics_path) (schemes a.scheme b.scheme)))))
+    (Decides-and _ _ (truths a.track_timestamps_staleness b.track_timestamps_staleness)
+    (Decides-and _ _ (truths a.extra_scrape_metrics b.extra_scrape_metrics)
+    (Decides-and _ _ (bytes_decides a.metrics_path b.metrics_path) (schemes a.scheme b.scheme)))))))
 
 lists : (a b : JobConf) → Decides (has_same_lists a b) (HasSameLists a b)
 unfolding has_same_lists

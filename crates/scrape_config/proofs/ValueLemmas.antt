@@ -21,6 +21,8 @@ job_fields : (base : Base) (d : Data) →
       scheme = scheme_in d;
       honor_labels = unwrap_or (truth_under (codes "honor_labels") d) false;
       honor_timestamps = unwrap_or (truth_under (codes "honor_timestamps") d) true;
+      track_timestamps_staleness = unwrap_or (truth_under (codes "track_timestamps_staleness") d) false;
+      extra_scrape_metrics = unwrap_or (truth_under (codes "extra_scrape_metrics") d) false;
       params = params_of (members_under (codes "params") d);
       relabel = rules_of (list_under (codes "relabel_configs") d);
       metric_relabel = rules_of (list_under (codes "metric_relabel_configs") d);
@@ -32,11 +34,12 @@ unfolding job_of
 job_fields base d = refl
 
 -- what was computed for each field gives the job
-pub job_built : (base : Base) (d : Data) (name path : List ℕ) (interval timeout : ℤ) (scheme : Scheme) (labels stamps : Option Bool)
+pub job_built : (base : Base) (d : Data) (name path : List ℕ) (interval timeout : ℤ) (scheme : Scheme) (labels stamps tracks extra : Option Bool)
     (params : List Param) (relabel metric_relabel : List RuleConf) (limits : Limits) (groups : List Group) (files : List (List ℕ)) (rs ms gs fs : Items) →
     name ≡ text_or [] (codes "job_name") d → path ≡ text_or (codes "/metrics") (codes "metrics_path") d →
     interval ≡ interval_in base d → timeout ≡ timeout_in base d → scheme ≡ scheme_in d →
     labels ≡ truth_under (codes "honor_labels") d → stamps ≡ truth_under (codes "honor_timestamps") d →
+    tracks ≡ truth_under (codes "track_timestamps_staleness") d → extra ≡ truth_under (codes "extra_scrape_metrics") d →
     params ≡ params_of (members_under (codes "params") d) →
     rs ≡ list_under (codes "relabel_configs") d → ms ≡ list_under (codes "metric_relabel_configs") d →
     gs ≡ list_under (codes "static_configs") d → fs ≡ list_under (codes "file_sd_configs") d →
@@ -49,6 +52,8 @@ pub job_built : (base : Base) (d : Data) (name path : List ℕ) (interval timeou
       scheme = scheme;
       honor_labels = unwrap_or labels false;
       honor_timestamps = unwrap_or stamps true;
+      track_timestamps_staleness = unwrap_or tracks false;
+      extra_scrape_metrics = unwrap_or extra false;
       params = params;
       relabel = relabel;
       metric_relabel = metric_relabel;
@@ -56,8 +61,8 @@ pub job_built : (base : Base) (d : Data) (name path : List ℕ) (interval timeou
       groups = groups;
       files = files;
     } ≡ job_of base d
-job_built base d name path interval timeout scheme labels stamps params relabel metric_relabel limits groups files rs ms gs fs
-    name_is path_is interval_is timeout_is scheme_is labels_is stamps_is params_is rs_is ms_is gs_is fs_is relabel_is metric_is limits_is groups_is files_is =
+job_built base d name path interval timeout scheme labels stamps tracks extra params relabel metric_relabel limits groups files rs ms gs fs
+    name_is path_is interval_is timeout_is scheme_is labels_is stamps_is tracks_is extra_is params_is rs_is ms_is gs_is fs_is relabel_is metric_is limits_is groups_is files_is =
     rw (
       name_is,
       path_is,
@@ -66,6 +71,8 @@ job_built base d name path interval timeout scheme labels stamps params relabel 
       scheme_is,
       labels_is,
       stamps_is,
+      tracks_is,
+      extra_is,
       params_is,
       relabel_is,
       metric_is,

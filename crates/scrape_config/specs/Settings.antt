@@ -16,7 +16,8 @@ use Rattle.scrape_config.specs.declared.conf.JobConf.{JobConf}
 -- two jobs have the same names, flags and scheme
 abbrev pub HasSameReach : JobConf → JobConf → Type 0
 HasSameReach a b =
-    (a.job_name ≡ b.job_name) × (a.honor_labels ≡ b.honor_labels) × (a.honor_timestamps ≡ b.honor_timestamps) × (a.metrics_path ≡ b.metrics_path)
+    (a.job_name ≡ b.job_name) × (a.honor_labels ≡ b.honor_labels) × (a.honor_timestamps ≡ b.honor_timestamps)
+    × (a.track_timestamps_staleness ≡ b.track_timestamps_staleness) × (a.extra_scrape_metrics ≡ b.extra_scrape_metrics) × (a.metrics_path ≡ b.metrics_path)
     × (a.scheme ≡ b.scheme)
 
 -- two jobs have the same parameters and rules
@@ -80,7 +81,8 @@ are_same_limits a b =
 unfoldable pub has_same_reach : JobConf → JobConf → Bool
 has_same_reach a b =
     bytes_eq a.job_name b.job_name && (agree a.honor_labels b.honor_labels && (agree a.honor_timestamps b.honor_timestamps
-    && (bytes_eq a.metrics_path b.metrics_path && is_same_scheme a.scheme b.scheme)))
+    && (agree a.track_timestamps_staleness b.track_timestamps_staleness && (agree a.extra_scrape_metrics b.extra_scrape_metrics
+    && (bytes_eq a.metrics_path b.metrics_path && is_same_scheme a.scheme b.scheme)))))
 
 unfoldable pub has_same_lists : JobConf → JobConf → Bool
 has_same_lists a b =

@@ -88,6 +88,10 @@ pub struct JobConf {
     pub honor_labels: bool,
     /// Whether an exposed timestamp stands before the moment of the scrape.
     pub honor_timestamps: bool,
+    /// Whether series whose exposed timestamps stand are tracked too, so that they end with stale markers.
+    pub track_timestamps_staleness: bool,
+    /// Whether a scrape has three reports more: the timeout, the limit of samples and the size of the body.
+    pub extra_scrape_metrics: bool,
     pub params: ParamList,
     /// The rules for targets (`relabel_configs`).
     pub relabel: RuleList,

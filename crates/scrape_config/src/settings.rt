@@ -78,6 +78,8 @@ fn have_same_reach(a: &JobConf, b: &JobConf) -> bool
     is_same_text(&a.job_name, &b.job_name)
         && a.honor_labels == b.honor_labels
         && a.honor_timestamps == b.honor_timestamps
+        && a.track_timestamps_staleness == b.track_timestamps_staleness
+        && a.extra_scrape_metrics == b.extra_scrape_metrics
         && is_same_text(&a.metrics_path, &b.metrics_path)
         && a.scheme == b.scheme
 }

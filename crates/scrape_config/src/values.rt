@@ -206,6 +206,10 @@ pub fn job_of(alloc: Global, base: Base, value: &Value) -> Result<JobConf, NoMem
         scheme: scheme_in(value),
         honor_labels: truth_under("honor_labels", value).unwrap_or(false),
         honor_timestamps: truth_under("honor_timestamps", value).unwrap_or(true),
+        track_timestamps_staleness: truth_under("track_timestamps_staleness", value).unwrap_or(
+            false,
+        ),
+        extra_scrape_metrics: truth_under("extra_scrape_metrics", value).unwrap_or(false),
         params: params_in(alloc, value)?,
         relabel: rules_of(alloc, list_under("relabel_configs", value))?,
         metric_relabel: rules_of(alloc, list_under("metric_relabel_configs", value))?,
