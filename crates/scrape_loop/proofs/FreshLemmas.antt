@@ -1,7 +1,7 @@
 -- What the texts that a cache remembers have to do with the rows of a reply: those that weren't known are new, and after a good scrape just those
 -- of the rows are left.
 use Rattle.std.proofs.Common.{◌≡◌, ℕ, ℤ, zero, suc, ◌+◌, ◌-◌, ◌≤◌, Bool, true, false, cond, ◌&&◌, List, [], ◌∷◌, ◌++◌, length, map, take, Some, is_some, refl, sym, ap, ap₂, subst, ◌∙◌, arith, append_assoc, append-nil}
-use Rattle.std.specs.Prelude.{Result, Ok, Err, is_none, ◌||◌}
+use Rattle.std.specs.Prelude.{Result, Ok, Err, ◌||◌}
 use Rattle.std.specs.List.{list_any}
 use Rattle.std.specs.Str.{bytes_eq}
 use Rattle.std.proofs.lemmas.List.{length-map, length-append, map-append}
@@ -12,7 +12,7 @@ use Rattle.relabel.specs.declared.conf.RuleConf.{RuleConf}
 use Rattle.expo_reader.specs.declared.rows.BodyRow.{BodyRow}
 use Rattle.outside.specs.declared.replies.Reply.{Reply}
 use Rattle.sample_rows.specs.Outcomes.{rows_or_fault}
-use Rattle.sample_rows.specs.Rows.{row_series, own_stamp}
+use Rattle.sample_rows.specs.Rows.{row_series, is_tracked}
 use Rattle.sample_rows.specs.declared.fault.ScrapeFault.{ScrapeFault}
 use Rattle.sample_rows.specs.declared.scrape.RowRules.{RowRules}
 use Rattle.series_cache.specs.Caches.{CacheView, failed, find, renewed, shown_of, stamped, turned, undone, unshown}
@@ -49,7 +49,7 @@ module _ (rules : RowRules) (metric : List RuleConf) (target : List Pair) where
   row_more : (c : CacheView) (r : BodyRow) (rs : List BodyRow) →
       texts_in (shown_row rules metric target c r) ++ new_texts (texts_in (shown_row rules metric target c r)) rs ≡ texts_in c ++ new_texts (texts_in c) (r ∷ rs)
   row_more c r rs =
-      ap (λ xs. xs ++ new_texts xs rs) (stamp_texts r.raw (is_none (own_stamp rules r)) (noted rules metric target c r).texts)
+      ap (λ xs. xs ++ new_texts xs rs) (stamp_texts r.raw (is_tracked rules r) (noted rules metric target c r).texts)
       ∙ by (knows r.raw c) (has_text r.raw (texts_in c)) (knows_text r.raw c.texts)
     where
       by : (b q : Bool) → b ≡ q →
@@ -149,7 +149,7 @@ module _ (rules : RowRules) (metric : List RuleConf) (target : List Pair) (raw :
 
   row_shows : (c : CacheView) (r : BodyRow) → shows raw (shown_row rules metric target c r).texts ≡ (shows raw c.texts || bytes_eq raw r.raw)
   row_shows c r =
-      stamped_shows raw r.raw (is_none (own_stamp rules r)) (noted rules metric target c r).texts
+      stamped_shows raw r.raw (is_tracked rules r) (noted rules metric target c r).texts
       ∙ ap₂ (λ a b. a || (bytes_eq raw r.raw && b)) (noted_shows c r) (noted_known rules metric target c r)
       ∙ ap (λ b. shows raw c.texts || b) (and_all (bytes_eq raw r.raw))
 
@@ -185,7 +185,7 @@ module _ (rules : RowRules) (metric : List RuleConf) (target : List Pair) where
           omega (arith, n)
 
   pub row_length : (c : CacheView) (r : BodyRow) → length (shown_row rules metric target c r).texts ≡ length (noted rules metric target c r).texts
-  row_length c r = length-map (noted rules metric target c r).texts (stamped r.raw (is_none (own_stamp rules r)))
+  row_length c r = length-map (noted rules metric target c r).texts (stamped r.raw (is_tracked rules r))
 
   all_grows : (rows : List BodyRow) (c : CacheView) → length c.texts ≤ length (shown_all rules metric target c rows).texts
   all_grows [] c = omega arith
@@ -222,7 +222,7 @@ module _ (rules : RowRules) (metric : List RuleConf) (target : List Pair) where
 
   row_few : (c : CacheView) (r : BodyRow) → KeepsFew c → KeepsFew (shown_row rules metric target c r)
   row_few c r few =
-      let n = length-map (noted rules metric target c r).texts (stamped r.raw (is_none (own_stamp rules r))) in
+      let n = length-map (noted rules metric target c r).texts (stamped r.raw (is_tracked rules r)) in
       let k = kept_noted (knows r.raw c) in
       let m = noted_few c r few in
       omega (arith, n, k, m)
@@ -235,7 +235,7 @@ module _ (rules : RowRules) (metric : List RuleConf) (target : List Pair) where
   all_undone [] c few = refl
   all_undone (r ∷ rs) c few =
       all_undone rs (shown_row rules metric target c r) (row_few c r few)
-      ∙ stamp_undone r.raw (is_none (own_stamp rules r)) (noted rules metric target c r) ∙ noted_undone c r few
+      ∙ stamp_undone r.raw (is_tracked rules r) (noted rules metric target c r) ∙ noted_undone c r few
 
   pub reply_undone : (c : CacheView) (o : Result (List BodyRow) ScrapeFault) → KeepsFew c → undone (texts_by rules metric target c o) ≡ undone c
   reply_undone c (Ok rows) few = all_undone rows c few

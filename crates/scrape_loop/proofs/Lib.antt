@@ -8,3 +8,4 @@ pub mod SettleLemmas
 pub mod TextLemmas
 pub mod SharingLemmas
 pub mod RawLemmas
+mod SizeLemmas

@@ -1,6 +1,6 @@
 -- What is known of raw texts stays right.
 use Rattle.std.proofs.Common.{◌≡◌, ℕ, ℤ, ◌<◌, Bool, true, false, cond, List, [], ◌∷◌, length, take, get_or, Option, Some, None, refl, sym, ap, ap₂, subst}
-use Rattle.std.specs.Prelude.{All, Result, Ok, Err, is_none}
+use Rattle.std.specs.Prelude.{All, Result, Ok, Err}
 use Rattle.std.proofs.lemmas.List.Elements.{All-nil, All-head, All-tail, All-push, All-map, All-filter, All-take, All-weaker, All-get_or, All-from_get_or}
 use Rattle.label_set.specs.declared.texts.Pair.{Pair}
 use Rattle.label_conflict.specs.Merging.{merged}
@@ -12,7 +12,7 @@ use Rattle.expo_reader.specs.Laws.{AgreesWith}
 use Rattle.expo_reader.specs.declared.rows.BodyRow.{BodyRow}
 use Rattle.expo_reader.proofs.RawLemmas.{raw_texts_tell}
 use Rattle.sample_rows.specs.Outcomes.{body_of, or_line, rows_or_fault, unless_fault}
-use Rattle.sample_rows.specs.Rows.{joined_set, own_stamp, row_series, series_of}
+use Rattle.sample_rows.specs.Rows.{joined_set, is_tracked, row_series, series_of}
 use Rattle.sample_rows.specs.declared.fault.ScrapeFault.{ScrapeFault}
 use Rattle.sample_rows.specs.declared.scrape.RowRules.{RowRules}
 use Rattle.series_cache.specs.Caches.{CacheView, failed, renewed, shown_of, stamped, turned}
@@ -88,7 +88,7 @@ module _ (rules : RowRules) (metric : List RuleConf) (target : List Pair) where
   pub row_right : (c : CacheView) (r : BodyRow) → Tells rules.honor_labels metric target r → AreRight rules.honor_labels metric target c.texts →
       AreRight rules.honor_labels metric target (shown_row rules metric target c r).texts
   row_right c r tells h =
-      stamp_right rules.honor_labels metric target r.raw (is_none (own_stamp rules r)) (noted rules metric target c r) (noted_right c r tells h)
+      stamp_right rules.honor_labels metric target r.raw (is_tracked rules r) (noted rules metric target c r) (noted_right c r tells h)
 
   -- a row of a body that is read
   pub shown_right : (bytes : List ℕ) (rows : List BodyRow) (i : ℕ) (r : BodyRow) (c : CacheView) → reading bytes ≡ Ok rows → i < length rows → r ≡ get_or rows i r →

@@ -1,13 +1,14 @@
 -- What a scrape shows, and what it leaves for the next.
 use Rattle.std.proofs.Common.{◌≡◌, ℕ, ℤ, Bool, true, false, ◌||◌, if◌then◌else◌, List, [], length, take, Option, None, Some, is_some, refl, sym, ap, ap₂, subst, subst₂, ◌∙◌}
-use Rattle.std.specs.Prelude.{Result, Ok, Err, is_none}
+use Rattle.std.specs.Prelude.{Result, Ok, Err}
 use Rattle.label_set.specs.declared.texts.Pair.{Pair}
 use Rattle.outside.specs.declared.replies.Reply.{Reply}
 use Rattle.relabel.specs.declared.conf.RuleConf.{RuleConf}
 use Rattle.expo_reader.specs.Bodies.{reading}
 use Rattle.expo_reader.specs.declared.rows.BodyRow.{BodyRow}
+use Rattle.report_samples.specs.declared.scrape_reports.ExtraCounts.{ExtraCounts}
 use Rattle.sample_rows.specs.Outcomes.{body_of, judged, of_early, outcome, rows_or_fault}
-use Rattle.sample_rows.specs.Rows.{left_from, own_stamp, rows_fault, samples_of}
+use Rattle.sample_rows.specs.Rows.{left_from, is_tracked, rows_fault, samples_of}
 use Rattle.sample_rows.specs.declared.fault.ScrapeFault.{ScrapeFault}
 use Rattle.sample_rows.specs.declared.scrape.RowRules.{RowRules}
 use Rattle.sample_rows.specs.declared.scrape.Scrape.{Scrape}
@@ -50,7 +51,7 @@ module _ (rules : RowRules) (metric : List RuleConf) (target : List Pair) (c : C
       let tells = rows_tell rules.honor_labels metric target bytes rows e in
       record {
         tracked = λ x.
-            rows_have rules metric target (λ (k : Known). k.tracked) (λ (r : BodyRow). is_none (own_stamp rules r)) (λ r k. refl) (λ set. refl) x rows c (λ t is. is bytes rows e) tells right
+            rows_have rules metric target (λ (k : Known). k.tracked) (λ (r : BodyRow). is_tracked rules r) (λ r k. refl) (λ set. refl) x rows c (λ t is. is bytes rows e) tells right
             ∙ ap₂ (λ (a b : List (List Pair)). has x a || has x b) (none_tracked c rest) (tracked_left rules metric target 0 rows);
         all = λ x.
             rows_have rules metric target (λ (k : Known). k.shown) (λ (r : BodyRow). true) (λ r k. or_true k.shown) (λ set. refl) x rows c (λ t is. is bytes rows e) tells right
@@ -98,10 +99,10 @@ knows_after (Good rows scraped) c old shows e = ap rising (kept_turned true c) �
 knows_after (Bad f scraped left) c old shows e = ap rising (kept_turned false c ∙ sym (kept_undone c) ∙ ap kept_sets e)
 
 -- the entries go by what was tracked and known before
-pub entries_before : (life : ℕ) (target : List Pair) (c old : CacheView) (b : Bool) (s : Scrape) (m took : ℤ) → was_sets c.texts ≡ was_sets old.texts → undone c ≡ old →
-    entries_of (life_of life target c b) s m took ≡ entries_of (life_of life target old b) s m took
-entries_before life target c old b s m took was e =
-    ap₂ (λ (w k : List (List Pair)). entries_of (let l : LifeView = record { life = life; target = target; tracked = rising w; known = rising k; cache = old; scraped = b } in l) s m took)
+pub entries_before : (life : ℕ) (target : List Pair) (has : Bool) (c old : CacheView) (b : Bool) (extra : Option ExtraCounts) (s : Scrape) (m took : ℤ) → was_sets c.texts ≡ was_sets old.texts → undone c ≡ old →
+    entries_of (life_of life target has c b) extra s m took ≡ entries_of (life_of life target has old b) extra s m took
+entries_before life target has c old b extra s m took was e =
+    ap₂ (λ (w k : List (List Pair)). entries_of (let l : LifeView = record { life = life; target = target; extra = has; tracked = rising w; known = rising k; cache = old; scraped = b } in l) extra s m took)
     was (sym (kept_undone c) ∙ ap kept_sets e)
 
 -- a scrape is good where it has no fault

@@ -1,6 +1,6 @@
 -- The texts that rows show have the sets of the samples that are left of them.
 use Rattle.std.proofs.Common.{◌≡◌, ℕ, ◌+◌, Bool, true, false, cond, ◌||◌, ◌&&◌, if◌then◌else◌, List, [], ◌∷◌, ◌++◌, map, flat_map, Option, Some, None, is_some, refl, sym, ap, ap₂, ◌∙◌}
-use Rattle.std.specs.Prelude.{All, is_none}
+use Rattle.std.specs.Prelude.{All}
 use Rattle.std.specs.Option.{option_to_list}
 use Rattle.std.specs.Ordering.{is_eq}
 use Rattle.std.specs.Str.{bytes_eq}
@@ -11,7 +11,7 @@ use Rattle.label_set.specs.Sets.{set_cmp}
 use Rattle.label_set.specs.declared.texts.Pair.{Pair}
 use Rattle.relabel.specs.declared.conf.RuleConf.{RuleConf}
 use Rattle.expo_reader.specs.declared.rows.BodyRow.{BodyRow}
-use Rattle.sample_rows.specs.Rows.{left_from, left_row, own_stamp, row_series, samples_of}
+use Rattle.sample_rows.specs.Rows.{left_from, left_row, is_tracked, row_series, samples_of}
 use Rattle.sample_rows.specs.declared.scrape.RowRules.{RowRules}
 use Rattle.sample_rows.specs.declared.scrape.Sample.{Sample}
 use Rattle.series_cache.specs.Caches.{CacheView, find, set_if, stamped, was_sets}
@@ -87,7 +87,7 @@ module _ (counts : Known → Bool) (m tracked : Bool) (law : (k : Known) → cou
 
 -- rows, one after another
 module _ (rules : RowRules) (metric : List RuleConf) (target : List Pair) (counts : Known → Bool) (m : BodyRow → Bool)
-    (law : (r : BodyRow) (k : Known) → counts (marked (is_none (own_stamp rules r)) k) ≡ (counts k || m r)) (none : (set : Option (List Pair)) → counts (fresh set) ≡ false)
+    (law : (r : BodyRow) (k : Known) → counts (marked (is_tracked rules r) k) ≡ (counts k || m r)) (none : (set : Option (List Pair)) → counts (fresh set) ≡ false)
     (x : List Pair) where
   -- the series of a row
   abbrev series : BodyRow → Option (List Pair)
@@ -111,7 +111,7 @@ module _ (rules : RowRules) (metric : List RuleConf) (target : List Pair) (count
   row_has : (c : CacheView) (r : BodyRow) (rs : List BodyRow) → Fits (r ∷ rs) → Tells rules.honor_labels metric target r → AreRight rules.honor_labels metric target c.texts →
       has x (sets_by counts (shown_row rules metric target c r).texts) ≡ (has x (sets_by counts c.texts) || has x (set_if (m r) (series r)))
   row_has c r rs fits tells right =
-      stamped_has counts (m r) (is_none (own_stamp rules r)) (law r) r.raw (series r) (IsRight rules.honor_labels metric target)
+      stamped_has counts (m r) (is_tracked rules r) (law r) r.raw (series r) (IsRight rules.honor_labels metric target)
       (λ t is found. All-head (IsRightFor rules.honor_labels metric target t) r rs (fits t is) (sym ((bytes_eq-Decides r.raw t.0).0 found))) x
       (noted rules metric target c r).texts (noted_right rules metric target c r tells right)
       ∙ ap (λ (b : Bool). has x (sets_by counts (noted rules metric target c r).texts) || (b && has x (set_if (m r) (series r)))) (noted_known rules metric target c r)
@@ -147,14 +147,14 @@ module _ (rules : RowRules) (metric : List RuleConf) (target : List Pair) where
       by (Some set) rest = ap (λ (l : List (List Pair)). set ∷ l) rest
 
   pub tracked_left : (n : ℕ) (rs : List BodyRow) →
-      flat_map (λ (r : BodyRow). set_if (is_none (own_stamp rules r)) (row_series rules.honor_labels metric target r)) rs ≡ tracked_in (left_sets n rs)
+      flat_map (λ (r : BodyRow). set_if (is_tracked rules r) (row_series rules.honor_labels metric target r)) rs ≡ tracked_in (left_sets n rs)
   tracked_left n [] = refl
-  tracked_left n (r ∷ rs) = by (row_series rules.honor_labels metric target r) (is_none (own_stamp rules r)) refl (tracked_left (n + 1) rs)
+  tracked_left n (r ∷ rs) = by (row_series rules.honor_labels metric target r) (is_tracked rules r) refl (tracked_left (n + 1) rs)
     where
       more : List (List Pair)
-      more = flat_map (λ (r : BodyRow). set_if (is_none (own_stamp rules r)) (row_series rules.honor_labels metric target r)) rs
+      more = flat_map (λ (r : BodyRow). set_if (is_tracked rules r) (row_series rules.honor_labels metric target r)) rs
 
-      by : (o : Option (List Pair)) (b : Bool) → is_none (own_stamp rules r) ≡ b → more ≡ tracked_in (left_sets (n + 1) rs) →
+      by : (o : Option (List Pair)) (b : Bool) → is_tracked rules r ≡ b → more ≡ tracked_in (left_sets (n + 1) rs) →
           set_if b o ++ more ≡ tracked_in (samples_of (left_row rules n r o ++ left_from rules metric target (n + 1) rs))
       by None true e rest = rest
       by None false e rest = rest
@@ -162,7 +162,7 @@ module _ (rules : RowRules) (metric : List RuleConf) (target : List Pair) where
       by (Some set) false e rest = rw e rest
 
   was_row : (c : CacheView) (r : BodyRow) → was_sets (shown_row rules metric target c r).texts ≡ was_sets c.texts
-  was_row c r = was_stamped r.raw (is_none (own_stamp rules r)) (noted rules metric target c r).texts ∙ by (knows r.raw c)
+  was_row c r = was_stamped r.raw (is_tracked rules r) (noted rules metric target c r).texts ∙ by (knows r.raw c)
     where
       by : (b : Bool) → was_sets (cond b c (with_put r.raw (row_series rules.honor_labels metric target r) c)).texts ≡ was_sets c.texts
       by true = refl

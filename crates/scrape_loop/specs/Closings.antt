@@ -7,4 +7,13 @@ use Rattle.scrape_loop.specs.Tracked.{LifeView}
 -- and whether there was one
 abbrev pub closing_of : LifeView → ℤ → ℤ → ℤ → Closing
 closing_of l planned closed interval =
-    record { life = l.life; target = l.target; tracked = l.tracked; scraped = l.scraped; planned = planned; closed = closed; interval = interval }
+    record {
+      life = l.life;
+      target = l.target;
+      tracked = l.tracked;
+      scraped = l.scraped;
+      planned = planned;
+      closed = closed;
+      interval = interval;
+      extra = l.extra;
+    }

@@ -1,14 +1,14 @@
 -- What the rows of a body show of raw texts: each text that isn't known is put with its series, and each is stamped as shown.
 -- The rules for samples are run once for a text that isn't known ("Configuration" of the Prometheus documentation, scrape_config:
 -- metric_relabel_configs).
-use Rattle.std.specs.Prelude.{◌≡◌, ℕ, ℤ, Bool, All, List, [], ◌∷◌, ◌++◌, map, Option, is_none, is_some, Result, Ok, Err, if◌then◌else◌}
+use Rattle.std.specs.Prelude.{◌≡◌, ℕ, ℤ, Bool, All, List, [], ◌∷◌, ◌++◌, map, Option, is_some, Result, Ok, Err, if◌then◌else◌}
 use Rattle.label_set.specs.declared.texts.Pair.{Pair}
 use Rattle.relabel.specs.declared.conf.RuleConf.{RuleConf}
 use Rattle.expo_reader.specs.Bodies.{reading}
 use Rattle.expo_reader.specs.declared.rows.BodyRow.{BodyRow}
 use Rattle.outside.specs.declared.replies.Reply.{Reply}
 use Rattle.sample_rows.specs.Outcomes.{rows_or_fault}
-use Rattle.sample_rows.specs.Rows.{row_series, own_stamp}
+use Rattle.sample_rows.specs.Rows.{is_tracked, row_series}
 use Rattle.sample_rows.specs.declared.fault.ScrapeFault.{ScrapeFault}
 use Rattle.sample_rows.specs.declared.scrape.RowRules.{RowRules}
 use Rattle.scrape_loop.specs.declared.known_rows.Terms.{Terms}
@@ -43,9 +43,9 @@ IsAtRest c = undone c ≡ c
 abbrev pub noted : RowRules → List RuleConf → List Pair → CacheView → BodyRow → CacheView
 noted rules metric target c r = if knows r.raw c then c else with_put r.raw (row_series rules.honor_labels metric target r) c
 
--- and it is shown, as tracked where the row has no honoured timestamp of its own
+-- and it is shown, as tracked where the row tracks its series
 abbrev pub shown_row : RowRules → List RuleConf → List Pair → CacheView → BodyRow → CacheView
-shown_row rules metric target c r = with_stamp r.raw (is_none (own_stamp rules r)) (noted rules metric target c r)
+shown_row rules metric target c r = with_stamp r.raw (is_tracked rules r) (noted rules metric target c r)
 
 -- so for each row, in the order of the body
 abbrev pub shown_all : RowRules → List RuleConf → List Pair → CacheView → List BodyRow → CacheView

@@ -1,6 +1,7 @@
 -- The sets of a scrape, and what it leaves to the life that it is of ("Staleness" of the Prometheus documentation: a series that is no longer
--- present ends, and one whose samples have timestamps of their own isn't marked; "Configuration", scrape_config: honor_timestamps).
-use Rattle.std.specs.Prelude.{ℕ, ℤ, ◌-◌, Bool, true, false, List, [], map, filter, length, Option, Some, None, is_none}
+-- present ends, and one whose samples have timestamps of their own isn't marked, unless the job tracks it; "Configuration", scrape_config:
+-- honor_timestamps, track_timestamps_staleness).
+use Rattle.std.specs.Prelude.{ℕ, ℤ, ◌-◌, Bool, true, false, List, [], map, filter, length, Option, Some, None}
 use Rattle.label_set.specs.declared.texts.Pair.{Pair}
 use Rattle.outside.specs.declared.replies.Reply.{Reply}
 use Rattle.relabel.specs.declared.conf.RuleConf.{RuleConf}
@@ -14,11 +15,12 @@ use Rattle.series_cache.specs.Caches.{CacheView, kept_sets, turned, was_sets}
 use Rattle.series_cache.specs.Sets.{rising}
 use Rattle.scrape_loop.specs.Texts.{no_texts, texts_by}
 
--- what contracts see of a life's state: its number, its target's labels, the sets that its last counted scrape tracked,
+-- what contracts see of a life's state: its number, its target's labels, whether it has the extra reports, the sets that its last counted scrape tracked,
 -- all sets of its last good one, what is known of the raw texts of that one, and whether a scrape of it counted, a forced one too
 pub record LifeView : Type 0 where
   pub life : ℕ
   pub target : List Pair
+  pub extra : Bool
   pub tracked : List (List Pair)
   pub known : List (List Pair)
   pub cache : CacheView
@@ -53,15 +55,15 @@ left_of (Bad f scraped left) = left
 abbrev pub sets_in : List Sample → List (List Pair)
 sets_in samples = map (λ (r : Sample). r.set) samples
 
--- the sets of those that have no honoured timestamp of their own
+-- the sets of those by which their series are tracked
 abbrev pub tracked_in : List Sample → List (List Pair)
-tracked_in samples = sets_in (filter (λ (r : Sample). is_none r.stamp) samples)
+tracked_in samples = sets_in (filter (λ (r : Sample). r.tracked) samples)
 
 -- all sets of a scrape, each once, rising
 abbrev pub all_sets : Scrape → List (List Pair)
 all_sets s = rising (sets_in (samples_of s))
 
--- the sets that a scrape tracks: those of its samples without a timestamp of their own, each once, rising
+-- the sets that a scrape tracks: those of its samples by which their series are tracked, each once, rising
 abbrev pub tracked_sets : Scrape → List (List Pair)
 tracked_sets s = rising (tracked_in (samples_of s))
 
@@ -70,15 +72,23 @@ abbrev pub known_after : List (List Pair) → Scrape → List (List Pair)
 known_after known (Good rows scraped) = all_sets (Good rows scraped)
 known_after known (Bad f scraped left) = known
 
--- the state of a life by its number, its target's labels, what is known of raw texts, and whether a scrape of it counted: the texts tell
+-- the state of a life by its number, its target's labels, whether it has the extra reports, what is known of raw texts, and whether a scrape of it counted: the texts tell
 -- the sets that its last counted scrape tracked, and all sets of its last good one
-abbrev pub life_of : ℕ → List Pair → CacheView → Bool → LifeView
-life_of life target c scraped =
-    record { life = life; target = target; tracked = rising (was_sets c.texts); known = rising (kept_sets c); cache = c; scraped = scraped }
+abbrev pub life_of : ℕ → List Pair → Bool → CacheView → Bool → LifeView
+life_of life target extra c scraped =
+    record {
+      life = life;
+      target = target;
+      extra = extra;
+      tracked = rising (was_sets c.texts);
+      known = rising (kept_sets c);
+      cache = c;
+      scraped = scraped;
+    }
 
 -- the state of a life of which nothing was scraped yet
-abbrev pub fresh : ℕ → List Pair → LifeView
-fresh life target = record { life = life; target = target; tracked = []; known = []; cache = no_texts; scraped = false }
+abbrev pub fresh : ℕ → List Pair → Bool → LifeView
+fresh life target extra = record { life = life; target = target; extra = extra; tracked = []; known = []; cache = no_texts; scraped = false }
 
 -- the state of a life whose ending was taken: nothing is known of raw texts any more, and so of no sets; whether a scrape of it counted stays
 abbrev pub released : LifeView → LifeView

@@ -17,7 +17,7 @@ use expo_reader::{ReadBody, SampleRow};
 use label_conflict::{LentTarget, labels_in};
 use label_set::{LabelSet, NoMemory, Steps};
 use relabel::{Rules, Runner};
-use sample_rows::{RowRules, Scrape, ScrapeFault, Sifted, failed, judged, own_stamp, row_set};
+use sample_rows::{RowRules, Scrape, ScrapeFault, Sifted, failed, is_tracked, judged, row_set};
 use series_cache::{SeriesCache, shared};
 use std::alloc::Global;
 use std::sync::ledger::Ledger;
@@ -91,7 +91,7 @@ fn put_shown<L: Ledger>(
     ensures at_most { steps.new ≤ steps.old + 1 }
 {
     let series = put_series(alloc, rules, metric, target, row, cache, steps)?;
-    cache.stamp(row.raw(), own_stamp(rules, row).is_none());
+    cache.stamp(row.raw(), is_tracked(rules, row));
     Ok(series)
 }
 
@@ -118,7 +118,7 @@ fn show_row<L: Ledger>(
     ensures at_least { steps.old ≤ steps.new }
     ensures at_most { steps.new + length cache.old.texts ≤ steps.old + length (spec.shown_row rules.now metric.old target.now cache.old row.now).texts }
 {
-    match cache.show(row.raw(), hint, own_stamp(rules, row).is_none())? {
+    match cache.show(row.raw(), hint, is_tracked(rules, row))? {
         Some(series) => Ok(series),
         None => put_shown(alloc, rules, metric, target, row, cache, steps),
     }

@@ -1,5 +1,5 @@
 //! The scrapes of one life of a target: what each appends to the book, and what it leaves for the next.
-//! A series that a scrape tracks and the next one doesn't ends with a stale marker; the five reports of each scrape stand behind its samples and markers.
+//! A series that a scrape tracks and the next one doesn't ends with a stale marker; the reports of each scrape stand behind its samples and markers.
 //! A raw text that the last good scrape showed costs no relabelling: its series is known.
 //! A scrape is counted by its reply, whose body is read before.
 //! Contracts see a life's state as the record of its number, its target's labels, the sets that its last counted scrape tracked, all sets of its last

@@ -1,11 +1,11 @@
 //! What the scrapes of one life leave for the next.
-ghost use Rattle.std.specs.Prelude.{◌≡◌, ◌≤◌, ◌+◌, List, [], ◌++◌, length, pos, ◌≤ℤ◌, Bool, false, true, IfOk, OnOk, OnErr};
+ghost use Rattle.std.specs.Prelude.{◌≡◌, ◌≤◌, ◌+◌, List, [], ◌++◌, length, pos, ◌≤ℤ◌, Bool, false, true, IfOk, IfSome, OnOk, OnErr};
 ghost use Rattle.label_conflict.specs.Merging.{bears};
 ghost use Rattle.label_set.specs.SetText.{metric_label};
 ghost use Rattle.relabel.specs.declared.conf.RuleConf.{RuleConf};
 ghost use Rattle.sample_rows.specs.Outcomes.{forced};
 ghost use Rattle.scrape_loop.specs.Closings.{closing_of};
-ghost use Rattle.scrape_loop.specs.Entries.{entries_of, forced_entries};
+ghost use Rattle.scrape_loop.specs.Entries.{entries_by, entries_of, extra_of, forced_entries};
 ghost use Rattle.scrape_loop.specs.Fresh.{FreshLaw, KnownLaw};
 ghost use Rattle.scrape_loop.specs.Shown.{Shows};
 ghost use Rattle.scrape_loop.specs.Texts.{AreRight};
@@ -16,14 +16,14 @@ ghost use Rattle.series_cache.specs.Sets.{IsRising};
 use crate::known_rows::{Settled, Terms, shown_rows};
 use crate::past::Past;
 use crate::read_reply::ReadReply;
-use crate::scrape_parts::fault_in;
+use crate::scrape_parts::{extra_in, fault_in, size_in};
 use crate::target_labels::TargetLabels;
 use appender_book::Book;
 use expo_reader::RawTexts;
 use label_set::{LabelSet, NoMemory, Steps};
 use outside::Reply;
 use relabel::Rules;
-use report_samples::{Closing, EntryList};
+use report_samples::{Closing, EntryList, ExtraCounts};
 use sample_rows::{RowRules, Scrape, ScrapeFault};
 use series_cache::SeriesCache;
 use std::alloc::Global;
@@ -56,7 +56,7 @@ impl Model for LifeState {
 
     ghost Value = { LifeView };
 
-    ghost view = { λ s. life_of s.past.life s.past.target s.cache s.past.scraped };
+    ghost view = { λ s. life_of s.past.life s.past.target s.past.extra s.cache s.past.scraped };
 
     ghost invariant = { λ s. IsAtRest s.cache × AreRaw s.cache };
 }
@@ -82,41 +82,51 @@ fn seed(cache: &mut SeriesCache, alloc: Global, hasher: DefaultHasher)
     }
 }
 
-/// Appends the entries of a scrape that started at a moment and took so many milliseconds, where the cache shows its sets.
+/// Appends the entries of a scrape that started at a moment and took so many milliseconds, where the cache shows its sets; the extra reports where it is
+/// told what they say.
 fn append(
     alloc: Global,
     past: &Past,
     cache: &SeriesCache,
     scrape: Scrape,
+    extra: Option<ExtraCounts>,
     moment: i64,
     took: i64,
     book: &mut Book,
 ) -> Result<(), NoMemory>
     requires shows { Shows cache.now scrape }
     requires took { pos 0 ≤ℤ took }
-    ensures entries { OnOk result (book.new.entries ≡ book.old.entries ++ entries_of (spec.life_of past.now.life past.now.target cache.now past.now.scraped) scrape moment took) }
-    ensures spare { OnOk result (book.old.spare ≤ book.new.spare + length (entries_of (spec.life_of past.now.life past.now.target cache.now past.now.scraped) scrape moment took)) }
+    requires timeout { IfSome extra (λ e. pos 0 ≤ℤ e.timeout) }
+    ensures entries { OnOk result (book.new.entries ≡ book.old.entries ++ entries_of (spec.life_of past.now.life past.now.target past.now.extra cache.now past.now.scraped) extra scrape moment took) }
+    ensures spare { OnOk result (book.old.spare ≤ book.new.spare + length (entries_of (spec.life_of past.now.life past.now.target past.now.extra cache.now past.now.scraped) extra scrape moment took)) }
     ensures err { OnErr result (book.new ≡ book.old) }
 {
-    let entries = past.entries_of(alloc, cache, scrape, moment, took)?;
+    let entries = past.entries_of(alloc, cache, scrape, extra, moment, took)?;
     book.append_all(entries)
 }
 
 impl LifeState {
-    /// The state of life number `life` of a target with these labels, `__name__` not among them, of which nothing was scraped yet.
+    /// The state of life number `life` of a target with these labels, `__name__` not among them, of which nothing was scraped yet. It has the three extra
+    /// reports where `extra` says so, as its job's `extra_scrape_metrics` does.
     ///
     /// # Errors
     ///
     /// Only want of memory refuses.
-    pub fn new(alloc: Global, life: u64, target: LabelSet) -> Result<LifeState, NoMemory>
+    pub fn new(
+        alloc: Global,
+        life: u64,
+        target: LabelSet,
+        extra: bool,
+    ) -> Result<LifeState, NoMemory>
         requires nameless { bears target metric_label ≡ false }
-        ensures state { IfOk result (λ s. s ≡ spec.fresh life target) }
+        ensures state { IfOk result (λ s. s ≡ spec.fresh life target extra) }
         ensures right { IfOk result (λ s. (honor : Bool) (metric : List RuleConf) → AreRight honor metric target s.cache.texts) }
     {
         Ok(LifeState {
             past: Past {
                 life,
-                target: TargetLabels::of(alloc, target)?,
+                target: TargetLabels::of(alloc, target, extra)?,
+                extra,
                 scraped: false,
             },
             cache: SeriesCache::new(alloc)?,
@@ -178,6 +188,7 @@ impl LifeState {
             planned,
             closed,
             interval,
+            extra: self.past.extra,
         })
     }
 
@@ -185,9 +196,10 @@ impl LifeState {
     /// The answer is its fault, if it isn't good, and how often the rules for samples were run.
     ///
     /// The entries are, in this order: a sample for each row that is left, at its own honoured timestamp or at the moment; a stale marker at the
-    /// moment for each series that the scrape before tracked and this one doesn't, sets rising; the five reports at the moment.
-    /// A sample with an own honoured timestamp isn't tracked, and a scrape that isn't good tracks nothing.
-    /// The fetch took `took` milliseconds, 0 or more. The body of the reply is read already.
+    /// moment for each series that the scrape before tracked and this one doesn't, sets rising; its reports at the moment, the
+    /// extra ones where the rules have `extra_scrape_metrics`, as the life's job has.
+    /// A sample with an own honoured timestamp is tracked where the rules have `track_timestamps_staleness` alone, and a scrape that isn't good tracks nothing.
+    /// The fetch took `took` milliseconds, 0 or more, and so is the timeout. The body of the reply is read already.
     ///
     /// The rules for samples are run once for each raw text that the last good scrape didn't show (`fresh`), which takes one step; the next scrape
     /// knows just the texts of this one's rows where it is good, and those of before where it isn't (`known`). So what is known of a text has to be
@@ -210,12 +222,13 @@ impl LifeState {
         steps: &mut Steps<L>,
     ) -> Result<Counted, NoMemory>
         requires took { pos 0 ≤ℤ took }
+        requires timeout { pos 0 ≤ℤ rules.now.timeout }
         requires right { AreRight rules.now.honor_labels metric.now self.old.target self.old.cache.texts }
         ensures fault { IfOk result (λ c. c.fault ≡ spec.fault_of (spec.outcome_for self.old rules.now metric.now reply.now took)) }
         ensures runs { IfOk result (λ c. c.runs ≡ spec.runs_for self.old rules.now metric.now reply.now took) }
-        ensures entries { OnOk result (book.new.entries ≡ book.old.entries ++ entries_of self.old (spec.outcome_for self.old rules.now metric.now reply.now took) moment took) }
+        ensures entries { OnOk result (book.new.entries ≡ book.old.entries ++ entries_by self.old rules.now metric.now reply.now moment took) }
         ensures state { OnOk result (self.new ≡ spec.after_reply self.old rules.now metric.now reply.now took) }
-        ensures spare { OnOk result (book.old.spare ≤ book.new.spare + length (entries_of self.old (spec.outcome_for self.old rules.now metric.now reply.now took) moment took)) }
+        ensures spare { OnOk result (book.old.spare ≤ book.new.spare + length (entries_by self.old rules.now metric.now reply.now moment took)) }
         ensures err_state { OnErr result (self.new ≡ self.old) }
         ensures err_book { OnErr result (book.new ≡ book.old) }
         ensures steps { OnOk result (steps.new ≡ steps.old + spec.runs_for self.old rules.now metric.now reply.now took) }
@@ -241,7 +254,17 @@ impl LifeState {
             steps,
         )?;
         let fault = fault_in(&scrape);
-        match append(alloc, &self.past, &self.cache, scrape, moment, took, book) {
+        let extra = extra_in(rules, size_in(&scrape, reply.size()));
+        match append(
+            alloc,
+            &self.past,
+            &self.cache,
+            scrape,
+            extra,
+            moment,
+            took,
+            book,
+        ) {
             Err(e) => {
                 self.cache.undo();
                 Err(e)
@@ -255,22 +278,31 @@ impl LifeState {
     }
 
     /// The entries of a forced scrape at a moment, one that is not made, since the job has more targets than its `target_limit`:
-    /// a stale marker for each series that the last counted scrape tracked, sets rising, and five reports that say 0. Nothing changes.
+    /// a stale marker for each series that the last counted scrape tracked, sets rising, and reports that say 0 but for the timeout and the limit of samples,
+    /// where the rules have these. Nothing changes.
     ///
     /// # Errors
     ///
     /// Only want of memory refuses.
     #[tactic(auto, using(crate::proofs::ForcedLemmas::gone_all))]
-    pub fn force_entries(&self, alloc: Global, moment: i64) -> Result<EntryList, NoMemory>
-        ensures entries { IfOk result (λ l. l ≡ entries_of self.now forced moment (pos 0)) }
-        ensures all_end { IfOk result (λ l. l ≡ forced_entries self.now moment) }
+    pub fn force_entries(
+        &self,
+        alloc: Global,
+        rules: &RowRules,
+        moment: i64,
+    ) -> Result<EntryList, NoMemory>
+        requires { pos 0 ≤ℤ rules.now.timeout }
+        ensures entries { IfOk result (λ l. l ≡ entries_of self.now (extra_of rules.now (pos 0)) forced moment (pos 0)) }
+        ensures all_end { IfOk result (λ l. l ≡ forced_entries self.now rules.now moment) }
     {
         let scrape = Scrape::Bad {
             fault: ScrapeFault::TargetLimit,
             scraped: 0,
             left: 0,
         };
-        self.past.entries_of(alloc, &self.cache, scrape, moment, 0)
+        let extra = extra_in(rules, 0);
+        self.past
+            .entries_of(alloc, &self.cache, scrape, extra, moment, 0)
     }
 
     /// Makes a forced scrape the last counted one: it tracks nothing, and what the last good scrape showed stays known. It takes no memory.

@@ -1,5 +1,5 @@
 //! A life of a target, and the entries of its scrapes.
-ghost use Rattle.std.specs.Prelude.{◌≡◌, ◌≤ℤ◌, pos, IfOk};
+ghost use Rattle.std.specs.Prelude.{◌≡◌, ◌≤ℤ◌, pos, IfOk, IfSome};
 ghost use Rattle.scrape_loop.specs.Entries as spec;
 ghost use Rattle.scrape_loop.specs.Shown.{Shows};
 ghost use Rattle.scrape_loop.specs.Tracked.{life_of};
@@ -7,35 +7,40 @@ ghost use Rattle.scrape_loop.specs.Tracked.{life_of};
 use crate::scrape_entries::{counts_of, samples_and_markers};
 use crate::target_labels::TargetLabels;
 use label_set::NoMemory;
-use report_samples::EntryList;
+use report_samples::{EntryList, ExtraCounts};
 use sample_rows::Scrape;
 use series_cache::SeriesCache;
 use std::alloc::Global;
 
-/// The number of a life, the labels of its target, and whether a scrape of it counted.
+/// The number of a life, the labels of its target, whether it has the extra reports, and whether a scrape of it counted.
 #[derive(Debug, Drop)]
 pub struct Past {
     pub(crate) life: u64,
     pub(crate) target: TargetLabels,
+    /// Whether it has the three extra reports besides the five.
+    pub(crate) extra: bool,
     /// Whether a scrape of it counted, a forced one too.
     pub(crate) scraped: bool,
 }
 
 impl Past {
-    /// The entries of a scrape that started at a moment and took so many milliseconds, where the cache shows its sets.
+    /// The entries of a scrape that started at a moment and took so many milliseconds, where the cache shows its sets; the extra reports where it is told
+    /// what they say.
     pub fn entries_of(
         &self,
         alloc: Global,
         cache: &SeriesCache,
         scrape: Scrape,
+        extra: Option<ExtraCounts>,
         moment: i64,
         took: i64,
     ) -> Result<EntryList, NoMemory>
         requires shows { Shows cache.now scrape }
         requires took { pos 0 ≤ℤ took }
-        ensures { IfOk result (λ l. l ≡ spec.entries_of (life_of self.now.life self.now.target cache.now self.now.scraped) scrape moment took) }
+        requires timeout { IfSome extra (λ e. pos 0 ≤ℤ e.timeout) }
+        ensures { IfOk result (λ l. l ≡ spec.entries_of (life_of self.now.life self.now.target self.now.extra cache.now self.now.scraped) extra scrape moment took) }
     {
-        let counts = counts_of(alloc, cache, &scrape, took)?;
+        let counts = counts_of(alloc, cache, &scrape, extra, took)?;
         let mut items = samples_and_markers(alloc, self.life, moment, cache, scrape)?;
         let sets_of_reports = self.target.report_sets();
         let mut last = sets_of_reports.reports(alloc, self.life, moment, &counts)?;

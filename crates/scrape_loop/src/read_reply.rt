@@ -1,5 +1,5 @@
 //! The reply of a fetch, whose body is read.
-ghost use Rattle.std.specs.Prelude.{◌≡◌, false, length, None, true, IfOk};
+ghost use Rattle.std.specs.Prelude.{◌≡◌, ◌<◌, ◌^◌, false, length, None, true, IfOk};
 ghost use Rattle.expo_reader.specs.Bodies.{CauseIs, reading};
 ghost use Rattle.outside.specs.declared.replies.Reply.TheVariants.{Body};
 ghost use Rattle.sample_rows.specs.Outcomes as spec;
@@ -8,7 +8,7 @@ ghost use Rattle.scrape_loop.specs.Replies.{IsRead, is_page, reply_of};
 use expo_reader::{BodyCause, LikeBody, NoTexts, RawTexts, ReadBody, Unread, read_like};
 use label_set::{Blob, NoMemory};
 use outside::Reply;
-use sample_rows::{RowRules, ScrapeFault, early_fault, early_read_fault};
+use sample_rows::{RowRules, ScrapeFault, body_of, early_fault, early_read_fault};
 use std::alloc::Global;
 use std::marker::Model;
 
@@ -180,6 +180,26 @@ impl ReadReply {
         ensures read { IsRead result.now }
     {
         &self.page
+    }
+
+    /// How many bytes its body has; one without a body has none.
+    pub(crate) fn size(&self) -> usize
+        ensures value { result ≡ length (spec.body_of self.now) }
+        ensures within { result < 2 ^ 63 }
+    {
+        match &self.page {
+            Page::Rows {
+                status: _,
+                body,
+                places: _,
+            } => body.bytes().len(),
+            Page::Faulty {
+                status: _,
+                bytes,
+                line: _,
+            } => bytes.as_slice().len(),
+            Page::Passed(reply) => body_of(reply).len(),
+        }
     }
 
     /// The fault for which none of its rows is looked at, by its time in milliseconds, its status and its size.

@@ -9,7 +9,7 @@ ghost use Rattle.series_cache.specs.Sets.{gone, rising};
 
 use crate::scrape_parts::into_samples;
 use label_set::{LabelSet, NoMemory, SetList};
-use report_samples::{Entry, Kind, ReportCounts, stale_entry};
+use report_samples::{Entry, ExtraCounts, Kind, ReportCounts, stale_entry};
 use sample_rows::{Sample, Scrape};
 use series_cache::SeriesCache;
 use std::alloc::Global;
@@ -98,15 +98,16 @@ fn added(alloc: Global, cache: &SeriesCache, scrape: &Scrape) -> Result<u64, NoM
     Ok(count as u64)
 }
 
-/// What the reports of a scrape say, where the cache shows its sets.
+/// What the reports of a scrape say, where the cache shows its sets and this is what the extra ones say.
 pub fn counts_of(
     alloc: Global,
     cache: &SeriesCache,
     scrape: &Scrape,
+    extra: Option<ExtraCounts>,
     took: i64,
 ) -> Result<ReportCounts, NoMemory>
     requires shows { Shows cache.now scrape.now }
-    ensures { IfOk result (λ r. r ≡ spec.counts_of (rising (kept_sets cache.now)) scrape.now took) }
+    ensures { IfOk result (λ r. r ≡ spec.counts_of (rising (kept_sets cache.now)) extra scrape.now took) }
 {
     let added = added(alloc, cache, scrape)?;
     Ok(match scrape {
@@ -116,6 +117,7 @@ pub fn counts_of(
             scraped: *scraped,
             left: rows.items.len() as u64,
             added,
+            extra,
         },
         Scrape::Bad {
             fault: _,
@@ -127,6 +129,7 @@ pub fn counts_of(
             scraped: *scraped,
             left: *left,
             added,
+            extra,
         },
     })
 }

@@ -28,13 +28,13 @@ impl Model for TargetLabels {
 }
 
 impl TargetLabels {
-    /// The labels of a set without `__name__`.
-    pub fn of(alloc: Global, set: LabelSet) -> Result<TargetLabels, NoMemory>
+    /// The labels of a set without `__name__`, and whether the extra reports are wanted.
+    pub fn of(alloc: Global, set: LabelSet, extra: bool) -> Result<TargetLabels, NoMemory>
         requires { bears set metric_label ≡ false }
         ensures { IfOk result (λ t. t ≡ set) }
     {
         Ok(TargetLabels {
-            sets: ReportSets::of(alloc, set)?,
+            sets: ReportSets::of(alloc, set, extra)?,
         })
     }
 

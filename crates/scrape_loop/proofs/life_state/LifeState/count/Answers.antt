@@ -1,7 +1,9 @@
-use Rattle.std.proofs.Common.{◌≡◌, ◌≤◌, ◌+◌, ◌++◌, ◌∙◌, List, length, is_some, ap, subst, sym, to_z, of_z, w64}
+use Rattle.std.proofs.Common.{SFits, rules, Option, ◌≡◌, ◌≤◌, ◌+◌, ◌++◌, ◌∙◌, List, length, is_some, ap, subst, sym, to_z, of_z, w64}
 use Rattle.std.proofs.lemmas.Int.{to_z-of_z}
 use Rattle.report_samples.specs.declared.entries.Entry.{Entry}
-use Rattle.scrape_loop.specs.Entries.{entries_of}
+use Rattle.report_samples.specs.declared.scrape_reports.ExtraCounts.{ExtraCounts}
+use Rattle.sample_rows.specs.Outcomes.{body_of}
+use Rattle.scrape_loop.specs.Entries.{entries_of, extra_for, extra_of, size_of}
 use Rattle.scrape_loop.specs.Fresh.{KnownLaw}
 use Rattle.scrape_loop.specs.Raw.{AreRaw}
 use Rattle.scrape_loop.specs.Texts.{AreRight, IsAtRest}
@@ -18,7 +20,7 @@ returns-in-Ok-clause-state g c =
     let p = c.self.inside.past in
     let took : to_z w64 (of_z w64 c.args.took) ≡ c.args.took = to_z-of_z w64 c.args.took c.ranges.took in
     let s = c.in_ok-scrape in
-    reply_state p.life p.target c.set-target.result.now p.scraped c.self.inside.cache c.seed.new.cache c.shown_rows.new.cache c.args.rules.now c.args.metric.now c.args.reply.now
+    reply_state p.life p.target c.set-target.result.now p.extra p.scraped c.self.inside.cache c.seed.new.cache c.shown_rows.new.cache c.args.rules.now c.args.metric.now c.args.reply.now
     c.args.took (to_z w64 (of_z w64 c.args.took)) s.field-0.scrape c.args.self.now c.self.view_is c.set-target.ensures.value c.seed.ensures.same took s.ensures.outcome s.ensures.undone c.is_none.result
     c.turn.new.self (sym (ap is_some c.fault_in-fault.ensures) ∙ c.is_none.ensures) s.ensures.shows s.ensures.cache c.turn.ensures.turned c.turn.ensures.was
 
@@ -35,15 +37,21 @@ invariant_of-self-in-Ok g c = (
 )
 
 entries : (g : _) (c : goal.After-turn g) →
-    entries_of (life_of c.self.inside.past.life c.self.inside.past.target c.shown_rows.new.cache c.self.inside.past.scraped) c.in_ok-scrape.field-0.scrape (to_z w64 (of_z w64 c.args.moment))
+    entries_of (life_of c.self.inside.past.life c.self.inside.past.target c.self.inside.past.extra c.shown_rows.new.cache c.self.inside.past.scraped) c.extra_in-extra.result c.in_ok-scrape.field-0.scrape (to_z w64 (of_z w64 c.args.moment))
     (to_z w64 (of_z w64 c.args.took))
-    ≡ entries_of c.args.self.now (outcome_for c.args.self.now c.args.rules.now c.args.metric.now c.args.reply.now c.args.took) c.args.moment c.args.took
+    ≡ entries_of c.args.self.now (extra_for c.args.rules.now (outcome_for c.args.self.now c.args.rules.now c.args.metric.now c.args.reply.now c.args.took) c.args.reply.now) (outcome_for c.args.self.now c.args.rules.now c.args.metric.now c.args.reply.now c.args.took) c.args.moment c.args.took
 entries g c =
     let p = c.self.inside.past in
     let took : to_z w64 (of_z w64 c.args.took) ≡ c.args.took = to_z-of_z w64 c.args.took c.ranges.took in
     let moment : to_z w64 (of_z w64 c.args.moment) ≡ c.args.moment = to_z-of_z w64 c.args.moment c.ranges.moment in
     let s = c.in_ok-scrape in
-    reply_entries p.life p.target c.set-target.result.now p.scraped c.self.inside.cache c.seed.new.cache c.shown_rows.new.cache c.args.rules.now c.args.metric.now c.args.reply.now
+    let fits : SFits w64 c.size_in.result = search rules in
+    let size : to_z w64 (of_z w64 c.size_in.result) ≡ size_of s.field-0.scrape (length (body_of c.args.reply.now)) =
+    to_z-of_z w64 c.size_in.result fits ∙ c.size_in.ensures ∙ ap (size_of s.field-0.scrape) c.size.ensures.value in
+    let extra : c.extra_in-extra.result ≡ extra_for c.args.rules.now s.field-0.scrape c.args.reply.now =
+    c.extra_in-extra.ensures.value ∙ ap (extra_of c.args.rules.now) size in
+    ap (λ (e : Option ExtraCounts). entries_of (life_of p.life p.target p.extra c.shown_rows.new.cache p.scraped) e s.field-0.scrape (to_z w64 (of_z w64 c.args.moment)) (to_z w64 (of_z w64 c.args.took))) extra
+    ∙ reply_entries p.life p.target c.set-target.result.now p.extra p.scraped c.self.inside.cache c.seed.new.cache c.shown_rows.new.cache c.args.rules.now c.args.metric.now c.args.reply.now
     c.args.took (to_z w64 (of_z w64 c.args.took)) s.field-0.scrape c.args.self.now c.self.view_is c.set-target.ensures.value c.seed.ensures.same took s.ensures.outcome s.ensures.undone c.args.moment
     (to_z w64 (of_z w64 c.args.moment)) moment s.ensures.was
 

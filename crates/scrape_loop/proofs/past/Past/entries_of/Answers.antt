@@ -16,12 +16,12 @@ returns c =
     let cache = c.args.cache.now in
     let ended = gone (rising (was_sets cache.texts)) (tracked_sets s) in
     let moment : to_z w64 (of_z w64 c.args.moment) ≡ c.args.moment = to_z-of_z w64 c.args.moment c.ranges.moment in
-    let counts : c.in_ok-counts.counts ≡ counts_of (rising (kept_sets cache)) s c.args.took =
-    c.in_ok-counts.ensures ∙ ap (λ (t : ℤ). counts_of (rising (kept_sets cache)) s t) (to_z-of_z w64 c.args.took c.ranges.took) in
-    let last : c.last.inside.items.items ≡ report_entries life c.args.self.now.target c.args.moment (counts_of (rising (kept_sets cache)) s c.args.took) =
+    let counts : c.in_ok-counts.counts ≡ counts_of (rising (kept_sets cache)) c.args.extra s c.args.took =
+    c.in_ok-counts.ensures ∙ ap (λ (t : ℤ). counts_of (rising (kept_sets cache)) c.args.extra s t) (to_z-of_z w64 c.args.took c.ranges.took) in
+    let last : c.last.inside.items.items ≡ report_entries life c.args.self.now.target c.args.moment (counts_of (rising (kept_sets cache)) c.args.extra s c.args.took) =
     c.last.view_is ∙ c.in_ok-last.ensures ∙ λ i. report_entries life (c.report_sets-sets_of_reports.ensures i) (moment i) (counts i) in
     let both : c.in_ok-items.items.items ≡ map (sample_entry life c.args.moment) (samples_of s) ++ map (stale_entry life c.args.moment) ended =
     c.in_ok-items.ensures ∙ ap (λ (m : ℤ). map (sample_entry life m) (samples_of s) ++ map (stale_entry life m) ended) moment in
     c.in_ok-append.ensures.items ∙ ap₂ (λ (front back : List Entry). front ++ back) both last
     ∙ append_assoc (map (sample_entry life c.args.moment) (samples_of s)) (map (stale_entry life c.args.moment) ended)
-    (report_entries life c.args.self.now.target c.args.moment (counts_of (rising (kept_sets cache)) s c.args.took))
+    (report_entries life c.args.self.now.target c.args.moment (counts_of (rising (kept_sets cache)) c.args.extra s c.args.took))
