@@ -594,4 +594,58 @@ $ check s
 -- err
 scrape: config Value /scrape_configs/0/job_name
 -- status 4
+
+== taken_track_timestamps_staleness
+$ check s
+-- file s
+{"scrape_configs":[{"job_name":"j","track_timestamps_staleness":true}]}
+\
+-- out
+ok 1
+-- status 0
+
+== taken_extra_scrape_metrics
+$ check s
+-- file s
+{"scrape_configs":[{"job_name":"j","extra_scrape_metrics":true}]}
+\
+-- out
+ok 1
+-- status 0
+
+== shape_track_timestamps_staleness
+$ check s
+-- file s
+{"scrape_configs":[{"job_name":"j","track_timestamps_staleness":1}]}
+\
+-- err
+scrape: config Shape /scrape_configs/0/track_timestamps_staleness
+-- status 4
+
+== shape_extra_scrape_metrics
+$ check s
+-- file s
+{"scrape_configs":[{"job_name":"j","extra_scrape_metrics":"true"}]}
+\
+-- err
+scrape: config Shape /scrape_configs/0/extra_scrape_metrics
+-- status 4
+
+== unknown_global_track_timestamps_staleness
+$ check s
+-- file s
+{"global":{"track_timestamps_staleness":true}}
+\
+-- err
+scrape: config Unknown /global/track_timestamps_staleness
+-- status 4
+
+== unknown_global_extra_scrape_metrics
+$ check s
+-- file s
+{"global":{"extra_scrape_metrics":true}}
+\
+-- err
+scrape: config Unknown /global/extra_scrape_metrics
+-- status 4
 "#;

@@ -21,6 +21,7 @@ pub mod selectors;
 pub mod synths;
 pub mod targets;
 pub mod texts;
+pub mod tracked;
 pub mod updates;
 pub mod verdicts;
 pub mod words;

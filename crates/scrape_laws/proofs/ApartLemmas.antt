@@ -8,20 +8,22 @@ use Rattle.journal_text.specs.Lines.{number}
 use Rattle.sample_rows.specs.Outcomes.{forced}
 use Rattle.sample_rows.specs.declared.scrape.Scrape.{Scrape}
 use Rattle.report_samples.specs.declared.closing.Closing.{Closing}
+use Rattle.outside.specs.declared.replies.Reply.{Reply}
 use Rattle.report_samples.specs.declared.entries.Entry.{Entry}
+use Rattle.report_samples.specs.declared.scrape_reports.ExtraCounts.{ExtraCounts}
 use Rattle.report_samples.specs.Markers.{stale_entry, report_markers}
 use Rattle.report_samples.specs.Reports.{report_entries}
 use Rattle.end_of_run.specs.Endings.{ending_entries, marker_moment}
 use Rattle.series_cache.specs.Sets.{gone}
 use Rattle.scrape_loop.specs.Texts.{no_texts}
 use Rattle.scrape_loop.specs.Tracked.{LifeView, after_forced, samples_of, tracked_sets}
-use Rattle.scrape_loop.specs.Entries.{sample_entry, counts_of, entries_of}
+use Rattle.scrape_loop.specs.Entries.{sample_entry, counts_of, entries_of, extra_for, extra_of}
 use Rattle.life_roll.specs.Schedules as schedule
 use Rattle.life_roll.specs.declared.schedule.InFlight.{InFlight}
 use Rattle.scrape_machine.specs.declared.lives.Life.{Life}
 use Rattle.scrape_machine.specs.declared.lives.Local.{Local}
 use Rattle.scrape_machine.specs.declared.lives.Local.TheVariants.{Nothing, Scan, Answered, Change, Close}
-use Rattle.scrape_machine.specs.Lives.{forces, ends_at, closing_at, outcome_for, scanned_life, with_ending, life_after, scan_entries, counting_entries, life_gives}
+use Rattle.scrape_machine.specs.Lives.{forces, ends_at, closing_at, outcome_for, rules_of, scanned_life, with_ending, life_after, scan_entries, counting_entries, life_gives}
 use Rattle.scrape_machine.specs.Machine.{World, local, step, gives, world_of}
 use Rattle.scrape_laws.specs.Undisturbed.{is_entry_of}
 use Rattle.scrape_laws.specs.Apart.{without_ticket, bare, bare_local, renumbered, GoAlike, ApartLaw}
@@ -43,27 +45,28 @@ remap : {A : Type 0} (n : ℕ) (f g : A → Entry) (xs : List A) → ((x : A) �
 remap n f g [] h = refl
 remap n f g (x ∷ xs) h = ap₂ ◌∷◌ (h x) (remap n f g xs h)
 
-scrape_numbered : (n : ℕ) (st : LifeView) (s : Scrape) (m took : ℤ) → map (renumbered n) (entries_of st s m took) ≡ entries_of (record st { life = n }) s m took
-scrape_numbered n st s m took =
+scrape_numbered : (n : ℕ) (st : LifeView) (extra : Option ExtraCounts) (s : Scrape) (m took : ℤ) →
+    map (renumbered n) (entries_of st extra s m took) ≡ entries_of (record st { life = n }) extra s m took
+scrape_numbered n st extra s m took =
     map-append (renumbered n) (map (sample_entry st.life m) (samples_of s)) _
     ∙ ap₂ ◌++◌ (remap n (sample_entry st.life m) (sample_entry n m) (samples_of s) (λ r. refl))
-    (map-append (renumbered n) (map (stale_entry st.life m) (gone st.tracked (tracked_sets s))) (report_entries st.life st.target m (counts_of st.known s took))
-    ∙ ap (λ zs. zs ++ report_entries n st.target m (counts_of st.known s took))
+    (map-append (renumbered n) (map (stale_entry st.life m) (gone st.tracked (tracked_sets s))) (report_entries st.life st.target m (counts_of st.known extra s took))
+    ∙ ap (λ zs. zs ++ report_entries n st.target m (counts_of st.known extra s took))
     (remap n (stale_entry st.life m) (stale_entry n m) (gone st.tracked (tracked_sets s)) (λ y. refl)))
 
 ending_numbered : (n : ℕ) (c : Closing) (b : Bool) →
-    map (renumbered n) (cond b (map (stale_entry c.life (marker_moment c)) c.tracked ++ report_markers c.life c.target (marker_moment c)) [])
-    ≡ cond b (map (stale_entry n (marker_moment c)) c.tracked ++ report_markers n c.target (marker_moment c)) []
+    map (renumbered n) (cond b (map (stale_entry c.life (marker_moment c)) c.tracked ++ report_markers c.life c.target c.extra (marker_moment c)) [])
+    ≡ cond b (map (stale_entry n (marker_moment c)) c.tracked ++ report_markers n c.target c.extra (marker_moment c)) []
 ending_numbered n c false = refl
 ending_numbered n c true =
-    map-append (renumbered n) (map (stale_entry c.life (marker_moment c)) c.tracked) (report_markers c.life c.target (marker_moment c))
-    ∙ ap (λ zs. zs ++ report_markers n c.target (marker_moment c)) (remap n (stale_entry c.life (marker_moment c)) (stale_entry n (marker_moment c)) c.tracked (λ y. refl))
+    map-append (renumbered n) (map (stale_entry c.life (marker_moment c)) c.tracked) (report_markers c.life c.target c.extra (marker_moment c))
+    ∙ ap (λ zs. zs ++ report_markers n c.target c.extra (marker_moment c)) (remap n (stale_entry c.life (marker_moment c)) (stale_entry n (marker_moment c)) c.tracked (λ y. refl))
 
 scan_numbered : (n : ℕ) (m : ℤ) (over : Bool) (l : Life) (o : Option ℤ) → map (renumbered n) (scan_entries m over l o) ≡ scan_entries m over (numbered n l) o
 scan_numbered n m over l None = by (forces (number m) over l)
   where
-    by : (b : Bool) → map (renumbered n) (cond b (entries_of l.state forced m (pos 0)) []) ≡ cond b (entries_of (numbered n l).state forced m (pos 0)) []
-    by true = scrape_numbered n l.state forced m (pos 0)
+    by : (b : Bool) → map (renumbered n) (cond b (entries_of l.state (extra_of (rules_of l.settings) (pos 0)) forced m (pos 0)) []) ≡ cond b (entries_of (numbered n l).state (extra_of (rules_of l.settings) (pos 0)) forced m (pos 0)) []
+    by true = scrape_numbered n l.state (extra_of (rules_of l.settings) (pos 0)) forced m (pos 0)
     by false = refl
 scan_numbered n m over l (Some c) = by (ends_at (number m) c l)
   where
@@ -71,15 +74,15 @@ scan_numbered n m over l (Some c) = by (ends_at (number m) c l)
     by true = ending_numbered n (closing_at c l) (closing_at c l).scraped
     by false = refl
 
-counting_numbered : (n : ℕ) (l : Life) (took : ℤ) (s : Scrape) (o : Option InFlight) → map (renumbered n) (counting_entries l took s o) ≡ counting_entries (numbered n l) took s o
-counting_numbered n l took s None = refl
-counting_numbered n l took s (Some f) = scrape_numbered n l.state s f.moment took
+counting_numbered : (n : ℕ) (l : Life) (took : ℤ) (r : Reply) (s : Scrape) (o : Option InFlight) → map (renumbered n) (counting_entries l took r s o) ≡ counting_entries (numbered n l) took r s o
+counting_numbered n l took r s None = refl
+counting_numbered n l took r s (Some f) = scrape_numbered n l.state (extra_for (rules_of l.settings) s r) s f.moment took
 
 gives_numbered : (n : ℕ) (loc : Local) (l : Life) → map (renumbered n) (life_gives loc l) ≡ life_gives loc (numbered n l)
 unfolding outcome_for
 gives_numbered n Nothing l = refl
 gives_numbered n (Scan m t over) l = scan_numbered n m over l l.schedule.closed
-gives_numbered n (Answered took r) l = counting_numbered n l took (outcome_for l took r) l.schedule.flight
+gives_numbered n (Answered took r) l = counting_numbered n l took r (outcome_for l took r) l.schedule.flight
 gives_numbered n (Change m s) l = refl
 gives_numbered n (Close m) l = refl
 
@@ -94,19 +97,19 @@ same_due m l = ap (λ z. schedule.is_open l.schedule && (not z && not (nat_lt m 
 same_forces : (m : ℕ) (over : Bool) (l : Life) → forces m over (ticketless l) ≡ forces m over l
 same_forces m over l = ap (λ z. z && over) (same_due m l)
 
-counting_ticketless : (l : Life) (took : ℤ) (s : Scrape) (o : Option InFlight) → counting_entries l took s o ≡ counting_entries (ticketless l) took s (without_ticket o)
-counting_ticketless l took s None = refl
-counting_ticketless l took s (Some f) = refl
+counting_ticketless : (l : Life) (took : ℤ) (r : Reply) (s : Scrape) (o : Option InFlight) → counting_entries l took r s o ≡ counting_entries (ticketless l) took r s (without_ticket o)
+counting_ticketless l took r s None = refl
+counting_ticketless l took r s (Some f) = refl
 
 scan_ticketless : (m : ℤ) (over : Bool) (l : Life) (o : Option ℤ) → scan_entries m over l o ≡ scan_entries m over (ticketless l) o
-scan_ticketless m over l None = ap (λ b. cond b (entries_of l.state forced m (pos 0)) []) (sym (same_forces (number m) over l))
+scan_ticketless m over l None = ap (λ b. cond b (entries_of l.state (extra_of (rules_of l.settings) (pos 0)) forced m (pos 0)) []) (sym (same_forces (number m) over l))
 scan_ticketless m over l (Some c) = refl
 
 gives_ticketless : (loc : Local) (l : Life) → life_gives loc l ≡ life_gives (bare_local loc) (ticketless l)
 unfolding outcome_for
 gives_ticketless Nothing l = refl
 gives_ticketless (Scan m t over) l = scan_ticketless m over l l.schedule.closed
-gives_ticketless (Answered took r) l = counting_ticketless l took (outcome_for l took r) l.schedule.flight
+gives_ticketless (Answered took r) l = counting_ticketless l took r (outcome_for l took r) l.schedule.flight
 gives_ticketless (Change m s) l = refl
 gives_ticketless (Close m) l = refl
 
@@ -115,15 +118,15 @@ scan_textless : (m : ℤ) (over : Bool) (l : Life) (o : Option ℤ) → scan_ent
 scan_textless m over l None = refl
 scan_textless m over l (Some c) = refl
 
-counting_textless : (l : Life) (took : ℤ) (s : Scrape) (o : Option InFlight) → counting_entries l took s o ≡ counting_entries (textless l) took s o
-counting_textless l took s None = refl
-counting_textless l took s (Some f) = refl
+counting_textless : (l : Life) (took : ℤ) (r : Reply) (s : Scrape) (o : Option InFlight) → counting_entries l took r s o ≡ counting_entries (textless l) took r s o
+counting_textless l took r s None = refl
+counting_textless l took r s (Some f) = refl
 
 gives_textless : (loc : Local) (l : Life) → life_gives loc l ≡ life_gives loc (textless l)
 unfolding outcome_for
 gives_textless Nothing l = refl
 gives_textless (Scan m t over) l = scan_textless m over l l.schedule.closed
-gives_textless (Answered took r) l = counting_textless l took (outcome_for l took r) l.schedule.flight
+gives_textless (Answered took r) l = counting_textless l took r (outcome_for l took r) l.schedule.flight
 gives_textless (Change m s) l = refl
 gives_textless (Close m) l = refl
 

@@ -127,15 +127,16 @@ of_names before (j ∷ js) e =
 pub each_of_name : (jobs : List InForce) → AreSettled (jobs_in jobs) → All (IsOfName jobs) jobs
 each_of_name jobs h = of_names [] jobs h.names
 
--- two jobs judge rows alike: the labels of targets and rows are joined alike, and the rules for samples are the same
+-- two jobs judge rows alike: the labels of targets and rows are joined alike, and the rules for samples are the same; and both have the extra
+-- reports or none
 abbrev pub JudgeAlike : Job → Job → Type 0
-JudgeAlike a b = (a.conf.honor_labels ≡ b.conf.honor_labels) × (a.metric_rules ≡ b.metric_rules)
+JudgeAlike a b = (a.conf.honor_labels ≡ b.conf.honor_labels) × (a.metric_rules ≡ b.metric_rules) × (a.conf.extra_scrape_metrics ≡ b.conf.extra_scrape_metrics)
 
 pub compatible_alike : (a b : Job) → IsBuilt a → IsBuilt b → is_compatible a.conf b.conf ≡ true → JudgeAlike a b
 unfolding Compatible
 compatible_alike a b p q e =
     let same = (compatible_is_decided a.conf b.conf).0 e in
-    (same.0.1, p ∙ (same.1.2 ∙ sym q))
+    (same.0.1, p ∙ (same.1.2 ∙ sym q), same.0.4)
 
 pub alike_then : (a b c : Job) → JudgeAlike a b → JudgeAlike b c → JudgeAlike a c
-alike_then a b c p q = (p.0 ∙ q.0, p.1 ∙ q.1)
+alike_then a b c p q = (p.0 ∙ q.0, p.1 ∙ q.1, p.2 ∙ q.2)

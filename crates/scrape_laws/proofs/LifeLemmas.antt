@@ -8,30 +8,36 @@ use Rattle.outside.specs.declared.replies.Reply.{Reply}
 use Rattle.sample_rows.specs.Outcomes.{forced}
 use Rattle.sample_rows.specs.declared.scrape.Scrape.{Scrape}
 use Rattle.report_samples.specs.declared.entries.Entry.{Entry}
+use Rattle.report_samples.specs.declared.scrape_reports.ExtraCounts.{ExtraCounts}
 use Rattle.end_of_run.specs.Endings.{ending_entries, marker_moment}
 use Rattle.scrape_loop.specs.Tracked.{LifeView, after_forced, after_scrape, known_after}
-use Rattle.scrape_loop.specs.Entries.{entries_of}
+use Rattle.scrape_loop.specs.Entries.{entries_of, extra_for, extra_of}
 use Rattle.life_roll.specs.Schedules as schedule
 use Rattle.life_roll.specs.declared.schedule.InFlight.{InFlight}
 use Rattle.life_roll.specs.declared.schedule.Schedule.{Schedule}
 use Rattle.scrape_machine.specs.declared.lives.Life.{Life}
 use Rattle.scrape_machine.specs.declared.lives.Local.{Local}
 use Rattle.scrape_machine.specs.declared.lives.Local.TheVariants.{Nothing, Scan, Answered, Change, Close}
-use Rattle.scrape_machine.specs.Lives.{is_open, forces, ends_at, closing_at, outcome_for, scanned_life, with_ending, counted, changed, closed, life_after, scan_entries, counting_entries, life_gives}
+use Rattle.scrape_machine.specs.Lives.{is_open, forces, ends_at, closing_at, outcome_for, rules_of, scanned_life, with_ending, counted, changed, closed, life_after, scan_entries, counting_entries, life_gives}
 use Rattle.scrape_laws.specs.Scrapes.{LifeScrape, tracks}
-use Rattle.scrape_laws.specs.Markers.{told, is_of, ending_of, reports_at, ending_reports, is_report_marker_of}
+use Rattle.scrape_laws.specs.Markers.{told, is_of, ending_of, reports_at, is_report_marker_of}
 use Rattle.scrape_laws.specs.Past.{tracked_by, known_by}
 use Rattle.scrape_laws.specs.Runs.{is_any}
 use Rattle.scrape_laws.proofs.SetLemmas.{copies, one_if, tracked_copies}
 use Rattle.scrape_laws.proofs.ToldLemmas.{ends_with, ends_with_push, any_push, tracked_push, known_push, told_more, told_ended}
 use Rattle.scrape_laws.proofs.EntryLemmas.{Skips, other_scrape, other_ending, own_scrape, own_ending, no_reports, own_reports}
 
+-- the report markers of a life by its state
+abbrev pub state_reports : ℕ → Option Life → List LifeScrape → List Entry
+state_reports n None ss = []
+state_reports n (Some l) ss = reports_at n l.state.target l.state.extra (ending_of (Some l)) ss
+
 -- entries of another life
 other_scan : (p : Entry → Bool) (m : ℤ) (over : Bool) (l : Life) (o : Option ℤ) → Skips p l.state.life → filter p (scan_entries m over l o) ≡ []
 other_scan p m over l None e = by (forces (number m) over l)
   where
-    by : (b : Bool) → filter p (cond b (entries_of l.state forced m (pos 0)) []) ≡ []
-    by true = other_scrape p l.state forced m (pos 0) e
+    by : (b : Bool) → filter p (cond b (entries_of l.state (extra_of (rules_of l.settings) (pos 0)) forced m (pos 0)) []) ≡ []
+    by true = other_scrape p l.state (extra_of (rules_of l.settings) (pos 0)) forced m (pos 0) e
     by false = refl
 other_scan p m over l (Some c) e = by (ends_at (number m) c l)
   where
@@ -39,14 +45,14 @@ other_scan p m over l (Some c) e = by (ends_at (number m) c l)
     by true = other_ending p (closing_at c l) e
     by false = refl
 
-other_counting : (p : Entry → Bool) (l : Life) (took : ℤ) (s : Scrape) (o : Option InFlight) → Skips p l.state.life → filter p (counting_entries l took s o) ≡ []
-other_counting p l took s None e = refl
-other_counting p l took s (Some f) e = other_scrape p l.state s f.moment took e
+other_counting : (p : Entry → Bool) (l : Life) (took : ℤ) (r : Reply) (s : Scrape) (o : Option InFlight) → Skips p l.state.life → filter p (counting_entries l took r s o) ≡ []
+other_counting p l took r s None e = refl
+other_counting p l took r s (Some f) e = other_scrape p l.state (extra_for (rules_of l.settings) s r) s f.moment took e
 
 pub other_life : (p : Entry → Bool) (loc : Local) (l : Life) → Skips p l.state.life → filter p (life_gives loc l) ≡ []
 other_life p Nothing l e = refl
 other_life p (Scan m k over) l e = other_scan p m over l l.schedule.closed e
-other_life p (Answered took r) l e = other_counting p l took (outcome_for l took r) l.schedule.flight e
+other_life p (Answered took r) l e = other_counting p l took r (outcome_for l took r) l.schedule.flight e
 other_life p (Change m s) l e = refl
 other_life p (Close m) l e = refl
 
@@ -84,7 +90,7 @@ act_scrape (Close m) l = []
 pub record Goes (n : ℕ) (x : List Pair) (ss ts : List LifeScrape) (l k : Life) (es : List Entry) : Type 0 where
   pub knows : Knows n x ts k
   pub tells : told n x (ending_of (Some k)) false ts ≡ told n x (ending_of (Some l)) false ss ++ filter (is_of n x) es
-  pub reports : ending_reports n (Some k) ts ≡ ending_reports n (Some l) ss ++ filter (is_report_marker_of n) es
+  pub reports : state_reports n (Some k) ts ≡ state_reports n (Some l) ss ++ filter (is_report_marker_of n) es
 
 pub no_ending : (l : Life) → l.ended ≡ false → ending_of (Some l) ≡ None
 no_ending l e = ap (λ b. cond b (option_map (λ c. marker_moment (closing_at c l)) l.schedule.closed) None) e
@@ -113,8 +119,8 @@ pub closed_forces : (m : ℕ) (over : Bool) (l : Life) → is_open l ≡ false �
 closed_forces m over l e = ap (λ b. (b && (not (is_some l.schedule.flight) && not (nat_lt m l.schedule.planned))) && over) e
 
 module _ (n : ℕ) (x : List Pair) (ss : List LifeScrape) (l : Life) where
-  no_reports_yet : (ts : List LifeScrape) → l.ended ≡ false → ending_reports n (Some l) ts ≡ []
-  no_reports_yet ts e = ap (λ z. reports_at n l.state.target z ts) (no_ending l e)
+  no_reports_yet : (ts : List LifeScrape) → l.ended ≡ false → state_reports n (Some l) ts ≡ []
+  no_reports_yet ts e = ap (λ z. reports_at n l.state.target l.state.extra z ts) (no_ending l e)
 
   -- nothing comes of it
   still_goes : Knows n x ss l → Goes n x ss ss l l []
@@ -135,13 +141,13 @@ module _ (n : ℕ) (x : List Pair) (ss : List LifeScrape) (l : Life) where
           ended = λ h. en ∙ d;
         };
         tells = ap (λ z. told n x z false ss) (no_ending k (en ∙ d) ∙ sym (no_ending l d)) ∙ sym (append-nil _);
-        reports = ap (λ z. reports_at n k.state.target z ss) (no_ending k (en ∙ d)) ∙ sym (append-nil _ ∙ no_reports_yet ss d);
+        reports = ap (λ z. reports_at n k.state.target k.state.extra z ss) (no_ending k (en ∙ d)) ∙ sym (append-nil _ ∙ no_reports_yet ss d);
       }
 
   -- a scrape counts, whatever is known of raw texts then
-  scrape_goes : (k : Life) (s : LifeScrape) (took : ℤ) → record k.state { cache = l.state.cache } ≡ after_scrape l.state s.outcome → k.ended ≡ l.ended → is_open k ≡ true → is_open l ≡ true → Knows n x ss l →
-      Goes n x ss (ss ++ s ∷ []) l k (entries_of l.state s.outcome s.moment took)
-  scrape_goes k s took at en p o w =
+  scrape_goes : (k : Life) (extra : Option ExtraCounts) (s : LifeScrape) (took : ℤ) → record k.state { cache = l.state.cache } ≡ after_scrape l.state s.outcome → k.ended ≡ l.ended → is_open k ≡ true → is_open l ≡ true → Knows n x ss l →
+      Goes n x ss (ss ++ s ∷ []) l k (entries_of l.state extra s.outcome s.moment took)
+  scrape_goes k extra s took at en p o w =
       let d = w.ended o in
       record {
         knows = record {
@@ -155,20 +161,20 @@ module _ (n : ℕ) (x : List Pair) (ss : List LifeScrape) (l : Life) where
         };
         tells = ap (λ z. told n x z false (ss ++ s ∷ [])) (no_ending k (en ∙ d))
             ∙ (told_more n x false ss s
-            ∙ ap₂ ◌++◌ (ap (λ z. told n x z false ss) (sym (no_ending l d))) (sym (own_scrape n x l.state s took (ends_with (tracks x) false ss) w.named (w.tracked d))));
-        reports = ap (λ z. reports_at n k.state.target z (ss ++ s ∷ [])) (no_ending k (en ∙ d))
-            ∙ sym (ap₂ ◌++◌ (no_reports_yet ss d) (no_reports n l.state s.outcome s.moment took));
+            ∙ ap₂ ◌++◌ (ap (λ z. told n x z false ss) (sym (no_ending l d))) (sym (own_scrape n x l.state extra s took (ends_with (tracks x) false ss) w.named (w.tracked d))));
+        reports = ap (λ z. reports_at n k.state.target k.state.extra z (ss ++ s ∷ [])) (no_ending k (en ∙ d))
+            ∙ sym (ap₂ ◌++◌ (no_reports_yet ss d) (no_reports n l.state extra s.outcome s.moment took));
       }
 
   -- a scan of an open life
   scan_open : (m : ℤ) (k : ℕ) (over b : Bool) → l.schedule.closed ≡ None → Knows n x ss l →
       Goes n x ss (ss ++ cond b (record { moment = m; outcome = forced } ∷ []) []) l
       (cond b (record l { state = after_forced l.state; schedule = schedule.scanned m k over l.schedule }) (record l { schedule = schedule.scanned m k over l.schedule }))
-      (cond b (entries_of l.state forced m (pos 0)) [])
+      (cond b (entries_of l.state (extra_of (rules_of l.settings) (pos 0)) forced m (pos 0)) [])
   scan_open m k over true e w =
       let o : is_open l ≡ true = ap (λ z. not (is_some z)) e in
       let p : not (is_some (schedule.scanned m k over l.schedule).closed) ≡ true = ap (λ z. not (is_some z)) (scanned_closed m k over l.schedule ∙ e) in
-      scrape_goes (record l { state = after_forced l.state; schedule = schedule.scanned m k over l.schedule }) (record { moment = m; outcome = forced })
+      scrape_goes (record l { state = after_forced l.state; schedule = schedule.scanned m k over l.schedule }) (extra_of (rules_of l.settings) (pos 0)) (record { moment = m; outcome = forced })
       (pos 0) refl refl p o w
   scan_open m k over false e w =
       let o : is_open l ≡ true = ap (λ z. not (is_some z)) e in
@@ -196,7 +202,7 @@ module _ (n : ℕ) (x : List Pair) (ss : List LifeScrape) (l : Life) where
             ∙ (told_ended n x (marker_moment (closing_at c l)) false ss
             ∙ ap₂ ◌++◌ (ap (λ z. told n x z false ss) (sym (no_ending l d)))
             (sym (own_ending n x (closing_at c l) (ends_with (tracks x) false ss) w.named (w.tracked d) (λ h. w.scraped ∙ any_ends (tracks x) ss h))));
-        reports = ap (λ z. reports_at n l.state.target z ss) q
+        reports = ap (λ z. reports_at n l.state.target l.state.extra z ss) q
             ∙ (sym (own_reports n (closing_at c l) ss w.named w.scraped)
             ∙ ap (λ zs. zs ++ filter (is_report_marker_of n) (ending_entries (closing_at c l))) (sym (no_reports_yet ss d)));
       }
@@ -216,10 +222,10 @@ module _ (n : ℕ) (x : List Pair) (ss : List LifeScrape) (l : Life) where
 
   -- the scrape in flight has its finish
   answered_goes : (took : ℤ) (r : Reply) (o : Option InFlight) → is_some o ≡ true → is_open l ≡ true → Knows n x ss l →
-      Goes n x ss (ss ++ flight_scrape (outcome_for l took r) o) l (counted l took r) (counting_entries l took (outcome_for l took r) o)
+      Goes n x ss (ss ++ flight_scrape (outcome_for l took r) o) l (counted l took r) (counting_entries l took r (outcome_for l took r) o)
   unfolding outcome_for
   answered_goes took r None e q w = absurd (false≢true e)
-  answered_goes took r (Some f) e q w = scrape_goes (counted l took r) (record { moment = f.moment; outcome = outcome_for l took r }) took refl refl q q w
+  answered_goes took r (Some f) e q w = scrape_goes (counted l took r) (extra_for (rules_of l.settings) (outcome_for l took r) r) (record { moment = f.moment; outcome = outcome_for l took r }) took refl refl q q w
 
   pub life_goes : (loc : Local) → Fits loc l → Knows n x ss l → Goes n x ss (ss ++ act_scrape loc l) l (life_after loc l) (life_gives loc l)
   life_goes Nothing f w = subst (λ ts. Goes n x ss ts l l []) (sym (append-nil ss)) (still_goes w)

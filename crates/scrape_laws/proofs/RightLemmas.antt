@@ -34,28 +34,36 @@ abbrev AlikeJob : Job → Option InForce → Type 0
 AlikeJob s None = Unit {0}
 AlikeJob s (Some j) = JudgeAlike s j.job
 
--- what is known is right, and the settings of an open life judge rows as its job in force
+-- the life has the extra reports where its job has them
+abbrev pub HasExtra : Life → Type 0
+HasExtra l = l.state.extra ≡ l.settings.conf.extra_scrape_metrics
+
+-- what is known is right, the life has the reports of its job, and the settings of an open life judge rows as its job in force
 record IsSound (jobs : List InForce) (l : Life) : Type 0 where
   pub right : IsRightLife l
+  pub extra : HasExtra l
   pub alike : is_open l ≡ true → AlikeJob l.settings (job_named (job_name l) jobs)
 
-closed_sound : (m : ℤ) (jobs : List InForce) (l : Life) → IsRightLife l → IsSound jobs (closed m l)
-closed_sound m jobs l h = record { right = h; alike = λ o. absurd (false≢true o) }
+closed_sound : (m : ℤ) (jobs : List InForce) (l : Life) → IsRightLife l → HasExtra l → IsSound jobs (closed m l)
+closed_sound m jobs l h has = record { right = h; extra = has; alike = λ o. absurd (false≢true o) }
 
 -- a life whose settings stay, and which is open where it was
-stays_sound : (jobs : List InForce) (l k : Life) → IsRightLife k → k.settings ≡ l.settings → k.schedule.closed ≡ l.schedule.closed → IsSound jobs l → IsSound jobs k
-stays_sound jobs l k right same still s = record {
+stays_sound : (jobs : List InForce) (l k : Life) → IsRightLife k → k.state.extra ≡ l.state.extra → k.settings ≡ l.settings → k.schedule.closed ≡ l.schedule.closed →
+    IsSound jobs l → IsSound jobs k
+stays_sound jobs l k right has same still s = record {
   right = right;
+  extra = has ∙ s.extra ∙ ap (λ (z : Job). z.conf.extra_scrape_metrics) (sym same);
   alike = λ o. subst (λ (z : Job). AlikeJob z (job_named z.conf.job_name jobs)) (sym same) (s.alike (sym (ap (λ z. not (is_some z)) still) ∙ o));
 }
 
 -- a life whose settings become those of its job
-changed_sound : (m : ℤ) (news : List InForce) (l : Life) (j : InForce) → IsRightLife l → JudgeAlike l.settings j.job → job_named (name_of j) news ≡ Some j →
+changed_sound : (m : ℤ) (news : List InForce) (l : Life) (j : InForce) → IsRightLife l → HasExtra l → JudgeAlike l.settings j.job → job_named (name_of j) news ≡ Some j →
     IsSound news (changed m (settings_of j.job) l)
-changed_sound m news l j right same is = record {
+changed_sound m news l j right has same is = record {
   right = subst (λ honor. AreRight honor j.job.metric_rules l.state.target l.state.cache.texts) same.0
       (subst (λ metric. AreRight l.settings.conf.honor_labels metric l.state.target l.state.cache.texts) same.1 right);
-  alike = λ o. subst (AlikeJob (settings_of j.job)) (sym is) (refl, refl);
+  extra = has ∙ same.2;
+  alike = λ o. subst (AlikeJob (settings_of j.job)) (sym is) (refl, refl, refl);
 }
 
 -- a load or an update at m
@@ -75,9 +83,9 @@ module _ (m : ℤ) (jobs news : List InForce) (before : AreSettled (jobs_in jobs
 
       by : (b c : Bool) → is_compatible old.job.conf new.job.conf ≡ b →
           IsSound news (life_after (verdict_local m (cond b (cond c Same (Other (settings_of new.job))) Apart)) l)
-      by true true e = record { right = s.right; alike = λ h. subst (AlikeJob l.settings) (sym is) (as_new e) }
-      by true false e = changed_sound m news l new s.right (as_new e) (ap (λ (n : List ℕ). job_named n news) (sym q.0) ∙ is)
-      by false c e = closed_sound m news l s.right
+      by true true e = record { right = s.right; extra = s.extra; alike = λ h. subst (AlikeJob l.settings) (sym is) (as_new e) }
+      by true false e = changed_sound m news l new s.right s.extra (as_new e) (ap (λ (n : List ℕ). job_named n news) (sym q.0) ∙ is)
+      by false c e = closed_sound m news l s.right s.extra
 
   verdict_sound : (new : InForce) → job_named (job_name l) news ≡ Some new → IsSound news (life_after (verdict_local m (verdict jobs new)) l)
   verdict_sound new is =
@@ -85,16 +93,16 @@ module _ (m : ℤ) (jobs news : List InForce) (before : AreSettled (jobs_in jobs
       (by (job_named (job_name l) jobs) refl)
     where
       by : (p : Option InForce) → job_named (job_name l) jobs ≡ p → IsSound news (life_after (verdict_local m (verdict_on new p)) l)
-      by None was = closed_sound m news l s.right
+      by None was = closed_sound m news l s.right s.extra
       by (Some old) was = compared_sound old new was is
 
   job_sound : (p : Option InForce) → job_named (job_name l) news ≡ p → IsSound news (life_after (job_local m jobs l p) l)
-  job_sound None is = closed_sound m news l s.right
+  job_sound None is = closed_sound m news l s.right s.extra
   job_sound (Some new) is = by (has_target l.identity new)
     where
       by : (b : Bool) → IsSound news (life_after (cond b (verdict_local m (verdict jobs new)) (Close m)) l)
       by true = verdict_sound new is
-      by false = closed_sound m news l s.right
+      by false = closed_sound m news l s.right s.extra
 
 reload_sound : (m : ℤ) (jobs : List InForce) (p : Option (List InForce)) (l : Life) → AreSettled (jobs_in jobs) → AreSettled (jobs_in (or_else p jobs)) → IsSound jobs l →
     IsSound (or_else p jobs) (life_after (reload_local m jobs p l) l)
@@ -103,7 +111,7 @@ reload_sound m jobs (Some news) l before now s = by (is_open l) refl
   where
     by : (b : Bool) → is_open l ≡ b → IsSound news (life_after (cond b (job_local m jobs l (job_named (job_name l) news)) Nothing) l)
     by true o = job_sound m jobs news before now l s o (job_named (job_name l) news) refl
-    by false o = record { right = s.right; alike = λ h. absurd (false≢true (sym o ∙ h)) }
+    by false o = record { right = s.right; extra = s.extra; alike = λ h. absurd (false≢true (sym o ∙ h)) }
 
 -- a scan
 scan_sound : (jobs : List InForce) (m : ℤ) (k : ℕ) (over : Bool) (l : Life) (p : Option ℤ) → IsSound jobs l → IsSound jobs (scanned_life m k over l p)
@@ -112,12 +120,12 @@ scan_sound jobs m k over l None s = by (forces (number m) over l)
     by : (b : Bool) → IsSound jobs (cond b (record l { state = after_forced l.state; schedule = schedule.scanned m k over l.schedule }) (record l { schedule = schedule.scanned m k over l.schedule }))
     by true =
         stays_sound jobs l (record l { state = after_forced l.state; schedule = schedule.scanned m k over l.schedule })
-        (forced_right l.settings.conf.honor_labels l.settings.metric_rules l.state.target l.state s.right) refl (scanned_closed m k over l.schedule) s
-    by false = stays_sound jobs l (record l { schedule = schedule.scanned m k over l.schedule }) s.right refl (scanned_closed m k over l.schedule) s
+        (forced_right l.settings.conf.honor_labels l.settings.metric_rules l.state.target l.state s.right) refl refl (scanned_closed m k over l.schedule) s
+    by false = stays_sound jobs l (record l { schedule = schedule.scanned m k over l.schedule }) s.right refl refl (scanned_closed m k over l.schedule) s
 scan_sound jobs m k over l (Some c) s = by (ends_at (number m) c l)
   where
     by : (b : Bool) → IsSound jobs (cond b (with_ending l) l)
-    by true = stays_sound jobs l (with_ending l) (All-nil (IsRight l.settings.conf.honor_labels l.settings.metric_rules l.state.target)) refl refl s
+    by true = stays_sound jobs l (with_ending l) (All-nil (IsRight l.settings.conf.honor_labels l.settings.metric_rules l.state.target)) refl refl refl s
     by false = s
 
 -- a finish
@@ -127,7 +135,7 @@ finish_sound jobs n took r Cancelled l s = s
 finish_sound jobs n took r (Counts k m) l s = by (eqb k n)
   where
     by : (b : Bool) → IsSound jobs (life_after (cond b (Answered took r) Nothing) l)
-    by true = stays_sound jobs l (counted l took r) (reply_right l.state (rules_of l.settings) l.settings.metric_rules r took s.right) refl refl s
+    by true = stays_sound jobs l (counted l took r) (reply_right l.state (rules_of l.settings) l.settings.metric_rules r took s.right) refl refl refl s
     by false = s
 
 tick_sound : (jobs : List InForce) (m : ℤ) (k : ℕ) (over : Bool) (l : Life) (b : Bool) → IsSound jobs l → IsSound jobs (life_after (cond b (Scan m k over) Nothing) l)
@@ -150,7 +158,8 @@ born_sound : (news : List InForce) (m n : ℕ) (j : InForce) (t : Target) → Is
 unfolding born
 born_sound news m n j t is = record {
   right = All-nil (IsRight j.job.conf.honor_labels j.job.metric_rules t.labels);
-  alike = λ o. subst (AlikeJob (settings_of j.job)) (sym is) (refl, refl);
+  extra = refl;
+  alike = λ o. subst (AlikeJob (settings_of j.job)) (sym is) (refl, refl, refl);
 }
 
 born_all_sound : (news : List InForce) (m n : ℕ) (j : InForce) (ts : List Target) → IsOfName news j → All (IsSound news) (born_all m n j ts)
@@ -212,4 +221,10 @@ run_sound (e ∷ es) w s = run_sound es (step w e) (step_sound w e s)
 pub lives_right : (es : List Event) → All IsRightLife (world_of es).lives
 lives_right es =
     All-weaker (IsSound (world_of es).jobs) IsRightLife (λ (l : Life) (s : IsSound (world_of es).jobs l). s.right) (world_of es).lives
+    (run_sound es beginning (record { jobs = none_settled; lives = All-nil (IsSound []) })).lives
+
+-- each life has the reports of its job
+pub lives_extra : (es : List Event) → All HasExtra (world_of es).lives
+lives_extra es =
+    All-weaker (IsSound (world_of es).jobs) HasExtra (λ (l : Life) (s : IsSound (world_of es).jobs l). s.extra) (world_of es).lives
     (run_sound es beginning (record { jobs = none_settled; lives = All-nil (IsSound []) })).lives

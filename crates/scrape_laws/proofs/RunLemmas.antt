@@ -1,8 +1,9 @@
 -- Whole runs, and the markers of each run of a series.
-use Rattle.std.proofs.Common.{◌≡◌, ℕ, ℤ, suc, Bool, true, false, not, ◌&&◌, cond, List, [], ◌∷◌, ◌++◌, map, length, Option, Some, None, is_some, slice_get, refl, sym, ap, ap₂, subst, ◌∙◌, append_assoc, append-nil, one-add, eqb, eq-eqb, ne_eqb}
+use Rattle.std.proofs.Common.{◌≡◌, ℕ, ℤ, zero, suc, Bool, true, false, not, ◌&&◌, cond, List, [], ◌∷◌, ◌++◌, map, length, Option, Some, None, is_some, slice_get, refl, sym, ap, ap₂, subst, ◌∙◌, append_assoc, append-nil, one-add, eqb, eq-eqb, ne_eqb}
 use Rattle.std.specs.List.{filter, flat_map}
 use Rattle.std.proofs.lemmas.Bool.{true≢false, and_left, and_right}
-use Rattle.std.proofs.lemmas.List.Elements.{filter-append}
+use Rattle.std.specs.Prelude.{All}
+use Rattle.std.proofs.lemmas.List.Elements.{All-head, All-tail, filter-append}
 use Rattle.std.proofs.lemmas.List.Concat.{flat_map-append}
 use Rattle.label_set.specs.declared.texts.Pair.{Pair}
 use Rattle.journal_text.specs.declared.events.Event.{Event}
@@ -17,13 +18,14 @@ use Rattle.scrape_machine.specs.declared.lives.Life.{Life}
 use Rattle.scrape_machine.specs.Lives.{born, life_after}
 use Rattle.scrape_machine.specs.Machine.{World, beginning, local, step, gives, run, book_from, world_of, book_of}
 use Rattle.scrape_laws.specs.Scrapes.{LifeScrape, same_series, is_sample_of, tracks, scrape_at, scrapes_from, scrapes_of}
-use Rattle.scrape_laws.specs.Markers.{samples, mark_if, last_mark, told, ending_of, is_sample_or_marker, is_of, MarkerLaw, ending_reports, is_report_marker, is_report_marker_of, ReportMarkerLaw}
+use Rattle.scrape_laws.specs.Markers.{samples, mark_if, last_mark, told, ending_of, is_sample_or_marker, is_of, MarkerLaw, ending_reports, reports_at, is_report_marker, is_report_marker_of, ReportMarkerLaw}
 use Rattle.scrape_laws.specs.Runs.{Run, run_of, runs_from, runs, closing_moment, is_closed, one_marker, run_marker, loose, closing_entries, run_entries, is_marker, is_marker_of, is_scraped, is_scraped_of, ClosedRunsLaw, is_any}
 use Rattle.scrape_laws.specs.Past.{PastLaw}
 use Rattle.scrape_laws.proofs.SetLemmas.{same_itself}
 use Rattle.scrape_laws.proofs.ToldLemmas.{any_push}
 use Rattle.scrape_laws.proofs.EntryLemmas.{filter_map_none, filter_map_some}
-use Rattle.scrape_laws.proofs.LifeLemmas.{Knows, life_goes}
+use Rattle.scrape_laws.proofs.LifeLemmas.{Knows, life_goes, state_reports}
+use Rattle.scrape_laws.proofs.RightLemmas.{HasExtra, lives_extra}
 use Rattle.scrape_laws.proofs.WorldLemmas.{suits, IsFresh, AreNumbered, step_numbered, at_gives, Only, gives_at, after_local, Stays, follows}
 
 -- what the scrapes say of the life, if any
@@ -35,7 +37,7 @@ KnowsAt n x ss (Some l) = Knows n x ss l
 pub record GoesAt (n : ℕ) (x : List Pair) (ss ts : List LifeScrape) (w : World) (e : Event) (o p : Option Life) : Type 0 where
   pub knows : KnowsAt n x ts p
   pub tells : told n x (ending_of p) false ts ≡ told n x (ending_of o) false ss ++ at_gives w e n (is_of n x) o
-  pub reports : ending_reports n p ts ≡ ending_reports n o ss ++ at_gives w e n (is_report_marker_of n) o
+  pub reports : state_reports n p ts ≡ state_reports n o ss ++ at_gives w e n (is_report_marker_of n) o
 
 fresh_goes : (n : ℕ) (x : List Pair) (w : World) (e : Event) (l : Life) → IsFresh n l → GoesAt n x [] [] w e None (Some l)
 unfolding born
@@ -84,20 +86,20 @@ pub record RunGoes (n : ℕ) (x : List Pair) (es : List Event) (w : World) (ss :
       told n x (ending_of (slice_get (run w es).lives n)) false (ss ++ scrapes_from w n es)
       ≡ told n x (ending_of (slice_get w.lives n)) false ss ++ filter (is_of n x) (book_from w es)
   pub reports :
-      ending_reports n (slice_get (run w es).lives n) (ss ++ scrapes_from w n es)
-      ≡ ending_reports n (slice_get w.lives n) ss ++ filter (is_report_marker_of n) (book_from w es)
+      state_reports n (slice_get (run w es).lives n) (ss ++ scrapes_from w n es)
+      ≡ state_reports n (slice_get w.lives n) ss ++ filter (is_report_marker_of n) (book_from w es)
 
 run_goes : (n : ℕ) (x : List Pair) (es : List Event) (w : World) (ss : List LifeScrape) → AreNumbered 0 w.lives → KnowsAt n x ss (slice_get w.lives n) → RunGoes n x es w ss
 run_goes n x [] w ss h k = record {
   tells = ap (told n x (ending_of (slice_get w.lives n)) false) (append-nil ss) ∙ sym (append-nil _);
-  reports = ap (ending_reports n (slice_get w.lives n)) (append-nil ss) ∙ sym (append-nil _);
+  reports = ap (state_reports n (slice_get w.lives n)) (append-nil ss) ∙ sym (append-nil _);
 }
 run_goes n x (e ∷ es) w ss h k =
     let g = goes_at n x ss w e (slice_get w.lives n) (slice_get (step w e).lives n) refl (follows w e n) k in
     let r = run_goes n x es (step w e) (ss ++ scrape_at w e n (slice_get w.lives n)) (step_numbered w e h) g.knows in
     record {
       tells = one_on n (is_of n x) (is_of_only n x) (λ o ts. told n x (ending_of o) false ts) w e es ss h g.tells r.tells;
-      reports = one_on n (is_report_marker_of n) (report_only n) (ending_reports n) w e es ss h g.reports r.reports;
+      reports = one_on n (is_report_marker_of n) (report_only n) (state_reports n) w e es ss h g.reports r.reports;
     }
 
 run_knows : (n : ℕ) (x : List Pair) (es : List Event) (w : World) (ss : List LifeScrape) → KnowsAt n x ss (slice_get w.lives n) →
@@ -117,8 +119,15 @@ past_law journal n l at =
 pub marker_law : (journal : List Event) → MarkerLaw journal
 marker_law journal n x = sym ((run_goes n x journal beginning [] tt refl).tells)
 
+-- a life has the reports of its job
+as_settled : (n : ℕ) (ss : List LifeScrape) (ls : List Life) (i : ℕ) → All HasExtra ls → state_reports n (slice_get ls i) ss ≡ ending_reports n (slice_get ls i) ss
+as_settled n ss [] i h = refl
+as_settled n ss (l ∷ ls) zero h = ap (λ b. reports_at n l.state.target b (ending_of (Some l)) ss) (All-head HasExtra l ls h)
+as_settled n ss (l ∷ ls) (suc i) h = as_settled n ss ls i (All-tail HasExtra l ls h)
+
 pub report_marker_law : (journal : List Event) → ReportMarkerLaw journal
-report_marker_law journal n = sym ((run_goes n [] journal beginning [] tt refl).reports)
+report_marker_law journal n =
+    sym ((run_goes n [] journal beginning [] tt refl).reports) ∙ as_settled n (scrapes_of n journal) (world_of journal).lives n (lives_extra journal)
 
 -- a test that takes less
 module _ (p q : Entry → Bool) (less : (y : Entry) → q y ≡ true → p y ≡ true) where

@@ -1,6 +1,5 @@
 -- How often a key stands among rising ones, and which sets a scrape tracks.
 use Rattle.std.proofs.Common.{◌≡◌, Bool, true, false, not, ◌||◌, ◌&&◌, cond, List, [], ◌∷◌, refl, sym, ap, ap₂, subst, ◌∙◌}
-use Rattle.std.specs.Prelude.{is_none}
 use Rattle.std.specs.List.{filter, list_any, AllByRecursion}
 use Rattle.std.specs.Ordering.{is_eq, ordering_reverse, match_ordering}
 use Rattle.std.specs.declared.cmp.Ordering.{Ordering}
@@ -140,13 +139,13 @@ rising_has : (x : List Pair) (xs : List (List Pair)) → has x (rising xs) ≡ h
 rising_has x [] = refl
 rising_has x (y ∷ ys) = any_insert set_cmp sets_total exact_sets x y (rising ys) ∙ ap (λ b. same_series x y || b) (rising_has x ys)
 
-tracked_any : (x : List Pair) (rs : List Sample) → has x (tracked_in rs) ≡ list_any (λ (r : Sample). is_none r.stamp && is_sample_of x r) rs
+tracked_any : (x : List Pair) (rs : List Sample) → has x (tracked_in rs) ≡ list_any (λ (r : Sample). r.tracked && is_sample_of x r) rs
 tracked_any x [] = refl
-tracked_any x (r ∷ rs) = by (is_none r.stamp) (tracked_any x rs)
+tracked_any x (r ∷ rs) = by (r.tracked) (tracked_any x rs)
   where
-    by : (b : Bool) → has x (tracked_in rs) ≡ list_any (λ (r : Sample). is_none r.stamp && is_sample_of x r) rs →
-        has x (sets_in (cond b (r ∷ filter (λ (r : Sample). is_none r.stamp) rs) (filter (λ (r : Sample). is_none r.stamp) rs)))
-        ≡ ((b && is_sample_of x r) || list_any (λ (r : Sample). is_none r.stamp && is_sample_of x r) rs)
+    by : (b : Bool) → has x (tracked_in rs) ≡ list_any (λ (r : Sample). r.tracked && is_sample_of x r) rs →
+        has x (sets_in (cond b (r ∷ filter (λ (r : Sample). r.tracked) rs) (filter (λ (r : Sample). r.tracked) rs)))
+        ≡ ((b && is_sample_of x r) || list_any (λ (r : Sample). r.tracked && is_sample_of x r) rs)
     by true h = ap (λ b. same_series x r.set || b) h
     by false h = h
 

@@ -8,12 +8,12 @@ use Rattle.journal_text.specs.Lines.{number}
 use Rattle.sample_rows.specs.Outcomes.{forced}
 use Rattle.end_of_run.specs.Endings.{ending_entries}
 use Rattle.scrape_loop.specs.Tracked.{after_forced}
-use Rattle.scrape_loop.specs.Entries.{entries_of}
+use Rattle.scrape_loop.specs.Entries.{entries_of, extra_of}
 use Rattle.life_roll.specs.Schedules as schedule
 use Rattle.scrape_machine.specs.declared.lives.Life.{Life}
 use Rattle.scrape_machine.specs.declared.lives.Local.{Local}
 use Rattle.scrape_machine.specs.declared.lives.Local.TheVariants.{Nothing, Scan}
-use Rattle.scrape_machine.specs.Lives.{is_open, closing_at, closed_ends, ends, scanned_life, with_ending, scan_entries, life_after, life_gives}
+use Rattle.scrape_machine.specs.Lives.{is_open, closing_at, closed_ends, ends, rules_of, scanned_life, with_ending, scan_entries, life_after, life_gives}
 use Rattle.scrape_machine.specs.Machine.{World, beginning, is_over, ticket_in_sweep, live_local, local, step, run, world_of}
 use Rattle.scrape_laws.specs.Undisturbed.{NothingLaw, is_entry_of, IsUndisturbed, UndisturbedLaw, is_idle_scan, IdleLaw}
 use Rattle.scrape_laws.proofs.WorldLemmas.{AreNumbered, step_numbered, at_gives, Only, gives_at, after_local, Stays, follows}
@@ -58,7 +58,7 @@ module _ (m : ℤ) (t : ℕ) (over : Bool) (l : Life) where
   idle_open false d h = (
     ap (λ b. cond (b && over) (record l { state = after_forced l.state; schedule = cond b (cond over (schedule.moved m l.schedule) (schedule.started m t l.schedule)) l.schedule })
         (record l { schedule = cond b (cond over (schedule.moved m l.schedule) (schedule.started m t l.schedule)) l.schedule })) d,
-    ap (λ b. cond (b && over) (entries_of l.state forced m (pos 0)) []) d,
+    ap (λ b. cond (b && over) (entries_of l.state (extra_of (rules_of l.settings) (pos 0)) forced m (pos 0)) []) d,
   )
 
   idle_by : (o : Option ℤ) → schedule.is_due (number m) l.schedule ≡ false → closed_ends (number m) l o ≡ false →

@@ -1,5 +1,6 @@
 -- The marker law: where the samples and the stale markers of a series stand ("Staleness" of the Prometheus documentation: a series that a scrape
--- doesn't return any more, or whose target goes, is marked as stale; one whose samples have timestamps of their own is not).
+-- doesn't return any more, or whose target goes, is marked as stale; one whose samples have timestamps of their own is not,
+-- unless its job tracks it).
 use Rattle.std.specs.Prelude.{◌≡◌, ℕ, ℤ, Bool, true, false, not, ◌&&◌, List, [], ◌∷◌, ◌++◌, map, filter, slice_get, ◌==◌, Option, Some, None, option_map, if◌then◌else◌}
 use Rattle.label_set.specs.declared.texts.Pair.{Pair}
 use Rattle.journal_text.specs.declared.events.Event.{Event}
@@ -55,16 +56,17 @@ abbrev pub MarkerLaw : List Event → Type 0
 MarkerLaw journal = (n : ℕ) (x : List Pair) →
     filter (is_of n x) (book_of journal) ≡ told n x (ending_of (slice_get (world_of journal).lives n)) false (scrapes_of n journal)
 
--- the five report markers at the moment of an ending, where that was taken, of a life with these scrapes; none where it has no scrape
-abbrev pub reports_at : ℕ → List Pair → Option ℤ → List LifeScrape → List Entry
-reports_at n target None ss = []
-reports_at n target (Some m) [] = []
-reports_at n target (Some m) (s ∷ ss) = report_markers n target m
+-- the report markers at the moment of an ending, where that was taken, of a life with these scrapes: one for each report of the life, the five and,
+-- where its job has the extra ones, three more; none where it has no scrape
+abbrev pub reports_at : ℕ → List Pair → Bool → Option ℤ → List LifeScrape → List Entry
+reports_at n target extra None ss = []
+reports_at n target extra (Some m) [] = []
+reports_at n target extra (Some m) (s ∷ ss) = report_markers n target extra m
 
 -- those of a life, if it has begun
 abbrev pub ending_reports : ℕ → Option Life → List LifeScrape → List Entry
 ending_reports n None ss = []
-ending_reports n (Some l) ss = reports_at n l.state.target (ending_of (Some l)) ss
+ending_reports n (Some l) ss = reports_at n l.state.target l.settings.conf.extra_scrape_metrics (ending_of (Some l)) ss
 
 -- an entry is a stale marker of a report
 abbrev pub is_report_marker : Kind → Bool
@@ -77,7 +79,7 @@ is_report_marker kind.ReportStale = true
 abbrev pub is_report_marker_of : ℕ → Entry → Bool
 is_report_marker_of n e = is_report_marker e.kind && (e.life == n)
 
--- in the book of a journal the report markers of each life are the five of its ending, where that was taken and a scrape of the life counted, and no others
+-- in the book of a journal the report markers of each life are those of its reports at its ending, where that was taken and a scrape of the life counted, and no others
 abbrev pub ReportMarkerLaw : List Event → Type 0
 ReportMarkerLaw journal = (n : ℕ) →
     filter (is_report_marker_of n) (book_of journal) ≡ ending_reports n (slice_get (world_of journal).lives n) (scrapes_of n journal)

@@ -1,6 +1,6 @@
 -- The scrapes of a life: those that count, in the order of their events. A scrape counts by the finish of its fetch; one that a scan forces,
 -- since its job has more targets than its limit, counts at once and has no samples.
-use Rattle.std.specs.Prelude.{ℕ, ℤ, Bool, ◌&&◌, List, [], ◌∷◌, ◌++◌, slice_get, ◌==◌, is_none, Option, Some, None, if◌then◌else◌}
+use Rattle.std.specs.Prelude.{ℕ, ℤ, Bool, ◌&&◌, List, [], ◌∷◌, ◌++◌, slice_get, ◌==◌, Option, Some, None, if◌then◌else◌}
 use Rattle.std.specs.List.{list_any}
 use Rattle.std.specs.Ordering.{is_eq}
 use Rattle.label_set.specs.Sets.{set_cmp}
@@ -33,9 +33,10 @@ same_series x y = is_eq (set_cmp x y)
 abbrev pub is_sample_of : List Pair → Sample → Bool
 is_sample_of x r = same_series x r.set
 
--- a scrape tracks a series: it has a sample of it without a timestamp of its own
+-- a scrape tracks a series: it has a sample by which the series is tracked, one without an honoured timestamp of its own or, where the job tracks
+-- those that have, any
 abbrev pub tracks : List Pair → LifeScrape → Bool
-tracks x s = list_any (λ (r : Sample). is_none r.stamp && is_sample_of x r) (samples_of s.outcome)
+tracks x s = list_any (λ (r : Sample). r.tracked && is_sample_of x r) (samples_of s.outcome)
 
 -- the scrape of life n that a finish makes count, by what it finds: the one that the life has in flight, at the moment of its start
 abbrev pub counting : ℕ → Life → ℤ → Reply → Found → List LifeScrape

@@ -29,7 +29,8 @@ pub fn stretches()
     ensures { (x : List Pair) (scrapes : List LifeScrape) → RunsLaw x scrapes }
 {}
 
-/// The report markers of a life are the five of its ending, where that was taken and a scrape of the life counted.
+/// The report markers of a life are those of its ending, where that was taken and a scrape of the life counted: one for each of its reports, which are
+/// five, and three more where its job has the extra ones.
 pub fn report_markers()
     ensures { (journal : List Event) → ReportMarkerLaw journal }
 {}

@@ -14,7 +14,7 @@ use Rattle.end_of_run.specs.Endings.{due_at, ending_entries}
 use Rattle.scrape_loop.specs.Texts.{AreRight}
 use Rattle.scrape_loop.specs.Tracked.{after_forced, after_reply, fresh, released}
 use Rattle.scrape_loop.specs.Closings.{closing_of}
-use Rattle.scrape_loop.specs.Entries.{entries_of}
+use Rattle.scrape_loop.specs.Entries.{entries_of, extra_for, extra_of}
 use Rattle.target_set.specs.declared.targets.Target.{Target}
 use Rattle.life_roll.specs.Schedules as schedule
 use Rattle.life_roll.specs.declared.schedule.InFlight.{InFlight}
@@ -32,7 +32,7 @@ interval_of s = number s.conf.scrape_interval
 -- life number n, of a target of a job, that begins at m: its first scrape is planned then
 unfoldable pub born : ℕ → ℕ → Job → Target → Life
 born m n s t =
-    record { state = fresh n t.labels; identity = t.identity; settings = s; schedule = schedule.begun_at m (interval_of s); ended = false }
+    record { state = fresh n t.labels s.conf.extra_scrape_metrics; identity = t.identity; settings = s; schedule = schedule.begun_at m (interval_of s); ended = false }
 
 -- a scan at m makes a scrape of the life: it starts one, or forces one where its job is over its limit of targets
 abbrev pub starts : ℕ → Bool → Life → Bool
@@ -62,6 +62,8 @@ rules_of s =
     record {
       honor_labels = s.conf.honor_labels;
       honor_timestamps = s.conf.honor_timestamps;
+      track_timestamps_staleness = s.conf.track_timestamps_staleness;
+      extra_scrape_metrics = s.conf.extra_scrape_metrics;
       timeout = s.conf.scrape_timeout;
       limits = s.conf.limits;
     }
@@ -107,18 +109,22 @@ life_after (Close m) l = closed m l
 
 -- the entries of a scan at m: those of a scrape that it forces, or of the ending that it takes
 abbrev pub scan_entries : ℤ → Bool → Life → Option ℤ → List Entry
-scan_entries m over l None = if forces (number m) over l then entries_of l.state forced m (pos 0) else []
+scan_entries m over l None = if forces (number m) over l then entries_of l.state (extra_of (rules_of l.settings) (pos 0)) forced m (pos 0) else []
 scan_entries m over l (Some c) = if ends_at (number m) c l then ending_entries (closing_at c l) else []
 
+-- the entries of a scrape of the life that started at m, took so long and got this reply
+abbrev pub counted_entries : Life → ℤ → Reply → ℤ → List Entry
+counted_entries l took r m = entries_of l.state (extra_for (rules_of l.settings) (outcome_for l took r) r) (outcome_for l took r) m took
+
 -- the entries of a scrape that counts, by the scrape in flight
-abbrev pub counting_entries : Life → ℤ → Scrape → Option InFlight → List Entry
-counting_entries l took s None = []
-counting_entries l took s (Some f) = entries_of l.state s f.moment took
+abbrev pub counting_entries : Life → ℤ → Reply → Scrape → Option InFlight → List Entry
+counting_entries l took r s None = []
+counting_entries l took r s (Some f) = entries_of l.state (extra_for (rules_of l.settings) s r) s f.moment took
 
 -- the entries of the life, by what an event is to it
 abbrev pub life_gives : Local → Life → List Entry
 life_gives Nothing l = []
 life_gives (Scan m k over) l = scan_entries m over l l.schedule.closed
-life_gives (Answered took r) l = counting_entries l took (outcome_for l took r) l.schedule.flight
+life_gives (Answered took r) l = counting_entries l took r (outcome_for l took r) l.schedule.flight
 life_gives (Change m s) l = []
 life_gives (Close m) l = []

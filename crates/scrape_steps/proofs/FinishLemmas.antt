@@ -5,7 +5,6 @@ use Rattle.std.proofs.lemmas.Bool.{eq-eqb, ne_eqb}
 use Rattle.std.proofs.lemmas.Option.{get_or_from_slice_get}
 use Rattle.outside.specs.declared.replies.Reply.{Reply}
 use Rattle.journal_text.specs.declared.events.Event.TheVariants.{Finish}
-use Rattle.scrape_loop.specs.Entries.{entries_of}
 use Rattle.scrape_loop.specs.Tracked.{fault_of}
 use Rattle.life_roll.specs.declared.schedule.InFlight.{InFlight}
 use Rattle.scrape_machine.specs.declared.answers.Answer.{Answer}
@@ -16,7 +15,7 @@ use Rattle.scrape_machine.specs.declared.lives.Start.{Start}
 use Rattle.scrape_machine.specs.declared.lives.Found.{Found}
 use Rattle.scrape_machine.specs.declared.lives.Found.TheVariants.{NotStarted, Cancelled, Counts}
 use Rattle.scrape_machine.specs.declared.lives.Local.TheVariants.{Nothing, Answered}
-use Rattle.scrape_machine.specs.Lives.{life_after, life_gives, outcome_for, counted, counting_entries}
+use Rattle.scrape_machine.specs.Lives.{life_after, life_gives, outcome_for, counted, counted_entries, counting_entries}
 use Rattle.scrape_machine.specs.Machine.{world, local, finish_local, finish_answer, fault_at, found, found_flight, found_life, found_start, finished, step, gives, answer}
 use Rattle.scrape_steps.specs.Scans.{IsMissed}
 use Rattle.scrape_machine.specs.Runs.{runs, finish_runs, life_runs, scrape_runs}
@@ -110,16 +109,16 @@ module _ (jobs : List InForce) (ls : List Life) (ss : List Start) (k : ℕ) (too
         (sym (append-nil _ ∙ one_life (world jobs ls ss) (Finish k took r) j other ls q.life lt at ∙ ap (λ p. set ls j (life_after p q.life)) (here q.life)))
 
     pub counted_book : (d : Life) → j < length ls →
-        gives (world jobs ls ss) (Finish k took r) ≡ entries_of (get_or ls j d).state (outcome_for (get_or ls j d) took r) m took
+        gives (world jobs ls ss) (Finish k took r) ≡ counted_entries (get_or ls j d) took r m
     unfolding gives
     counted_book d lt =
         let q = start_found ls k j m (slice_get ss k) e in
         let at : q.life ≡ get_or ls j q.life = sym (get_or_from_slice_get ls j q.life q.life q.is) in
         one_life_gives (world jobs ls ss) (Finish k took r) j other ls q.life lt at
         ∙ ap (λ p. life_gives p q.life) (here q.life)
-        ∙ ap (counting_entries q.life took (outcome_for q.life took r)) q.flies
-        ∙ ap (λ i. entries_of q.life.state (outcome_for q.life took r) i took) q.since
-        ∙ ap (λ l. entries_of l.state (outcome_for l took r) m took) (sym (get_or_from_slice_get ls j q.life d q.is))
+        ∙ ap (counting_entries q.life took r (outcome_for q.life took r)) q.flies
+        ∙ ap (λ i. counted_entries q.life took r i) q.since
+        ∙ ap (λ l. counted_entries l took r m) (sym (get_or_from_slice_get ls j q.life d q.is))
 
     pub counted_answer : (d : Life) → answer (world jobs ls ss) (Finish k took r) ≡ Counted (fault_of (outcome_for (get_or ls j d) took r))
     unfolding answer

@@ -8,6 +8,7 @@ ghost use Rattle.scrape_machine.specs.Machine.{closes};
 ghost use Rattle.scrape_steps.specs.Plans as plan;
 ghost use Rattle.scrape_steps.specs.Concerned as concerned;
 
+use crate::finishes::rules_of;
 use end_of_run::{due_at, ending_entries};
 use jobs_in_force::jobs::Settings;
 use label_set::NoMemory;
@@ -189,7 +190,9 @@ fn push_forced(
     ensures { OnOk result (entries.new.items ≡ entries.old.items ++ spec.scan_entries moment over life.now None) }
 {
     if forces(moment, over, life) {
-        let mut more = life.state.force_entries(alloc, moment.ms())?;
+        let mut more = life
+            .state
+            .force_entries(alloc, &rules_of(life.settings.job()), moment.ms())?;
         entries.append(&mut more.items)?;
     }
     Ok(())

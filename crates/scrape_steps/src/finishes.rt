@@ -5,7 +5,6 @@ ghost use Rattle.scrape_machine.specs.Lives as lives_of;
 ghost use Rattle.scrape_machine.specs.Machine as spec;
 ghost use Rattle.scrape_steps.specs.Scans as scanned;
 ghost use Rattle.scrape_machine.specs.Runs.{scrape_runs};
-ghost use Rattle.scrape_loop.specs.Entries.{entries_of};
 ghost use Rattle.scrape_loop.specs.Tracked.{fault_of};
 
 use appender_book::Book;
@@ -79,12 +78,14 @@ pub fn finish(started: &mut [Start], ticket: u64)
 }
 
 /// The settings that rows are judged by.
-fn rules_of(job: &Job) -> RowRules
+pub fn rules_of(job: &Job) -> RowRules
     ensures { result ≡ lives_of.rules_of job.now }
 {
     RowRules {
         honor_labels: job.conf.honor_labels,
         honor_timestamps: job.conf.honor_timestamps,
+        track_timestamps_staleness: job.conf.track_timestamps_staleness,
+        extra_scrape_metrics: job.conf.extra_scrape_metrics,
         timeout: job.conf.scrape_timeout,
         limits: job.conf.limits,
     }
@@ -107,7 +108,7 @@ pub fn count<L: Ledger>(
     ensures fault { IfOk result (λ c. c.fault ≡ fault_of (lives_of.outcome_for life.old took reply.now)) }
     ensures runs { IfOk result (λ c. c.runs ≡ scrape_runs took reply.now life.old) }
     ensures life { OnOk result (life.new ≡ lives_of.counted life.old took reply.now) }
-    ensures book { OnOk result (book.new.entries ≡ book.old.entries ++ entries_of life.old.state (lives_of.outcome_for life.old took reply.now) moment took) }
+    ensures book { OnOk result (book.new.entries ≡ book.old.entries ++ lives_of.counted_entries life.old took reply.now moment) }
     ensures err_life { OnErr result (life.new ≡ life.old) }
     ensures err_book { OnErr result (book.new.entries ≡ book.old.entries) }
     ensures steps { OnOk result (steps.new ≡ steps.old + scrape_runs took reply.now life.old) }

@@ -255,8 +255,9 @@ fn born(
 {
     let settings = Settings::of(&job.job)?;
     let schedule = Schedule::begun(moment, settings.interval());
+    let extra = job.job.job().conf.extra_scrape_metrics;
     Ok(Life {
-        state: LifeState::new(alloc, life, target.labels.copy()?)?,
+        state: LifeState::new(alloc, life, target.labels.copy()?, extra)?,
         identity: target.identity.copy()?,
         settings,
         schedule,

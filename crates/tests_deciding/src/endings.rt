@@ -34,6 +34,7 @@ fn closing(alloc: Global) -> Result<Closing, NoMemory>
         planned: 2500,
         closed: 2000,
         interval: 1009,
+        extra: false,
     })
 }
 

@@ -15,9 +15,9 @@
 //! | `SeriesCache::{vanished, undo, tracked_list}` | `caches::what_vanishes_is_told` |
 //! | `SeriesCache::{added, put_count}` | `caches::what_is_new_is_counted` |
 //! | `SeriesCache::{hashed, hash_of}` | `scrapes::texts_are_hashed_with_the_seed_of_the_book` |
-//! | `reports`, `ReportSets::{of, reports}` | `reports::each_scrape_has_five_reports`; `scripts` |
-//! | `report_set` | `reports::each_scrape_has_five_reports` |
-//! | `stale_entry`, `ReportSets::{target, markers}` | `reports::each_scrape_has_five_reports` |
+//! | `reports`, `ReportSets::{of, reports}` | `reports::each_scrape_has_its_reports`; `scripts` |
+//! | `report_set` | `reports::each_scrape_has_its_reports` |
+//! | `stale_entry`, `ReportSets::{target, markers}` | `reports::each_scrape_has_its_reports` |
 //! | `marker_at`, `due_at` | `endings::an_ending_is_due_and_taken_once` |
 //! | `ending_entries` | `endings::an_ending_is_due_and_taken_once` |
 //! | `Endings::{new, reserve, add, due, entries, take}` | `endings::an_ending_is_due_and_taken_once`; cases: `endings` |

@@ -22,6 +22,8 @@ const FIELDS: &str =
 const RULES: RowRules = RowRules {
     honor_labels: false,
     honor_timestamps: true,
+    track_timestamps_staleness: false,
+    extra_scrape_metrics: false,
     timeout: 10_000,
     limits: Limits {
         sample: 2,

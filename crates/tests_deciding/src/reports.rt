@@ -2,11 +2,13 @@
 use crate::shared::{push_entries, push_entry, set_of};
 use label_set::sets::LabelError;
 use label_set::{LabelSet, NoMemory};
-use report_samples::{Report, ReportCounts, ReportSets, report_set, reports, stale_entry};
+use report_samples::{
+    ExtraCounts, Report, ReportCounts, ReportSets, report_set, reports, stale_entry,
+};
 use std::alloc::Global;
 use std::test::Fail;
 
-/// The reports of a good scrape, and of one that wasn't made.
+/// The reports of a good scrape, of one that wasn't made, and of one with extra reports.
 const REPORTS: &str = r#"9 3 Report up{instance="a:1",job="j"} 1
 9 3 Report scrape_duration_seconds{instance="a:1",job="j"} 61.500
 9 3 Report scrape_samples_scraped{instance="a:1",job="j"} 3
@@ -17,15 +19,31 @@ const REPORTS: &str = r#"9 3 Report up{instance="a:1",job="j"} 1
 -5 4 Report scrape_samples_scraped{instance="a:1",job="j"} 0
 -5 4 Report scrape_samples_post_metric_relabeling{instance="a:1",job="j"} 0
 -5 4 Report scrape_series_added{instance="a:1",job="j"} 0
+20 5 Report up{instance="a:1",job="j"} 0
+20 5 Report scrape_duration_seconds{instance="a:1",job="j"} 0.015
+20 5 Report scrape_samples_scraped{instance="a:1",job="j"} 0
+20 5 Report scrape_samples_post_metric_relabeling{instance="a:1",job="j"} 0
+20 5 Report scrape_series_added{instance="a:1",job="j"} 0
+20 5 Report scrape_timeout_seconds{instance="a:1",job="j"} 10.000
+20 5 Report scrape_sample_limit{instance="a:1",job="j"} 7
+20 5 Report scrape_body_size_bytes{instance="a:1",job="j"} -1
 "#;
 
-/// The stale markers of the series of the labels alone, and of the reports.
+/// The stale markers of the series of the labels alone, of the five reports, and of all eight.
 const MARKERS: &str = r#"12 7 Stale {instance="a:1",job="j"}
 12 7 ReportStale up{instance="a:1",job="j"}
 12 7 ReportStale scrape_duration_seconds{instance="a:1",job="j"}
 12 7 ReportStale scrape_samples_scraped{instance="a:1",job="j"}
 12 7 ReportStale scrape_samples_post_metric_relabeling{instance="a:1",job="j"}
 12 7 ReportStale scrape_series_added{instance="a:1",job="j"}
+13 8 ReportStale up{instance="a:1",job="j"}
+13 8 ReportStale scrape_duration_seconds{instance="a:1",job="j"}
+13 8 ReportStale scrape_samples_scraped{instance="a:1",job="j"}
+13 8 ReportStale scrape_samples_post_metric_relabeling{instance="a:1",job="j"}
+13 8 ReportStale scrape_series_added{instance="a:1",job="j"}
+13 8 ReportStale scrape_timeout_seconds{instance="a:1",job="j"}
+13 8 ReportStale scrape_sample_limit{instance="a:1",job="j"}
+13 8 ReportStale scrape_body_size_bytes{instance="a:1",job="j"}
 "#;
 
 /// The labels of the target `a:1` of a job `j`.
@@ -39,6 +57,7 @@ const GOOD: ReportCounts = ReportCounts {
     scraped: 3,
     left: 2,
     added: 1,
+    extra: None,
 };
 
 const FORCED: ReportCounts = ReportCounts {
@@ -47,13 +66,29 @@ const FORCED: ReportCounts = ReportCounts {
     scraped: 0,
     left: 0,
     added: 0,
+    extra: None,
 };
 
-/// The reports of both.
-fn both_reports(alloc: Global, target: &LabelSet) -> Result<Vec<u8>, NoMemory> {
+/// A scrape whose body was too long, with what the extra reports say.
+const TOO_LONG: ReportCounts = ReportCounts {
+    up: false,
+    took: 15,
+    scraped: 0,
+    left: 0,
+    added: 0,
+    extra: Some(ExtraCounts {
+        timeout: 10_000,
+        limit: 7,
+        size: -1,
+    }),
+};
+
+/// The reports of all three.
+fn all_reports(alloc: Global, target: &LabelSet) -> Result<Vec<u8>, NoMemory> {
     let mut text = Vec::new(alloc);
     push_entries(alloc, &mut text, &reports(alloc, 3, target, 9, &GOOD)?)?;
     push_entries(alloc, &mut text, &reports(alloc, 4, target, -5, &FORCED)?)?;
+    push_entries(alloc, &mut text, &reports(alloc, 5, target, 20, &TOO_LONG)?)?;
     Ok(text)
 }
 
@@ -61,15 +96,16 @@ fn both_reports(alloc: Global, target: &LabelSet) -> Result<Vec<u8>, NoMemory> {
 fn markers(alloc: Global, sets: &ReportSets) -> Result<Vec<u8>, NoMemory> {
     let mut text = Vec::new(alloc);
     push_entry(alloc, &mut text, &stale_entry(7, 12, sets.target())?)?;
-    push_entries(alloc, &mut text, &sets.markers(alloc, 7, 12)?)?;
+    push_entries(alloc, &mut text, &sets.markers(alloc, 7, 12, false)?)?;
+    push_entries(alloc, &mut text, &sets.markers(alloc, 8, 13, true)?)?;
     Ok(text)
 }
 
 #[test]
-fn each_scrape_has_five_reports(rt: HostRuntime) -> Result<(), Fail> {
+fn each_scrape_has_its_reports(rt: HostRuntime) -> Result<(), Fail> {
     {
         let target = target(rt.alloc())?;
-        let text = both_reports(rt.alloc(), &target)?;
+        let text = all_reports(rt.alloc(), &target)?;
         assert!(rt; text.as_slice() == REPORTS.as_bytes());
     }
     {
@@ -82,7 +118,7 @@ fn each_scrape_has_five_reports(rt: HostRuntime) -> Result<(), Fail> {
         }
     }
     {
-        let sets = ReportSets::of(rt.alloc(), target(rt.alloc())?)?;
+        let sets = ReportSets::of(rt.alloc(), target(rt.alloc())?, true)?;
         let text = markers(rt.alloc(), &sets)?;
         assert!(rt; text.as_slice() == MARKERS.as_bytes());
     }

@@ -21,6 +21,8 @@ use std::test::Fail;
 const RULES: RowRules = RowRules {
     honor_labels: false,
     honor_timestamps: true,
+    track_timestamps_staleness: false,
+    extra_scrape_metrics: false,
     timeout: 10_000,
     limits: Limits {
         sample: 0,
@@ -49,7 +51,7 @@ fn counted<L: Ledger>(
         return Err(NoMemory);
     }
     let mut steps = Steps::<L>::open(blank);
-    let mut life = LifeState::new(alloc, 3, target)?;
+    let mut life = LifeState::new(alloc, 3, target, false)?;
     let rules = &job.metric_rules;
     let said = life.count(alloc, &RULES, rules, 1000, reply, 15, book, &mut steps)?;
     if said.fault.is_some() || said.runs != 2 {
@@ -116,7 +118,7 @@ fn shown_book(alloc: Global, book: &Book) -> Result<Vec<u8>, NoMemory> {
 
 fn shown_forced(alloc: Global, life: &LifeState) -> Result<Vec<u8>, NoMemory> {
     let mut text = Vec::new(alloc);
-    push_entries(alloc, &mut text, &life.force_entries(alloc, 2000)?)?;
+    push_entries(alloc, &mut text, &life.force_entries(alloc, &RULES, 2000)?)?;
     Ok(text)
 }
 
@@ -203,7 +205,7 @@ fn lost<L: Ledger>(
     requires some { 0 < blank.parts }
 {
     let mut steps = Steps::<L>::open(blank);
-    let mut life = LifeState::new(alloc, 4, LabelSet::empty())?;
+    let mut life = LifeState::new(alloc, 4, LabelSet::empty(), false)?;
     let rules = &job.metric_rules;
     let reply = ReadReply::of(alloc, Reply::Lost)?;
     let said = life.count(alloc, &RULES, rules, 1000, &reply, 15, book, &mut steps)?;

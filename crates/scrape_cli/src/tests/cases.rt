@@ -14,8 +14,8 @@ use label_set::{Blob, Name, NoMemory};
 use outside::{FileList, StoredFile, SureShelf};
 use scrape_cases::{
     bodies, broken, checked, conflicts, conversions, cuts, endings, fields, flags, instants,
-    limits, relabelling, reloads, scripts, selectors, synths, targets, texts, updates, verdicts,
-    words,
+    limits, relabelling, reloads, scripts, selectors, synths, targets, texts, tracked, updates,
+    verdicts, words,
 };
 use scrape_core::Means;
 use std::alloc::{AllocError, Global};
@@ -24,7 +24,7 @@ use std::str;
 use std::test::Fail;
 
 /// All cases, by subject.
-const TEXTS: [&str; 21] = [
+const TEXTS: [&str; 22] = [
     words::CASES,
     flags::CASES,
     scripts::CASES,
@@ -40,6 +40,7 @@ const TEXTS: [&str; 21] = [
     verdicts::CASES,
     bodies::CASES,
     texts::CASES,
+    tracked::CASES,
     targets::CASES,
     conflicts::CASES,
     relabelling::CASES,

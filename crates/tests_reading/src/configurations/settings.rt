@@ -55,6 +55,12 @@ fn push_plain(text: &mut String, job: &JobConf) -> Result<(), AllocError> {
     if job.honor_timestamps {
         text.push_str(" honor_timestamps")?;
     }
+    if job.track_timestamps_staleness {
+        text.push_str(" track_timestamps_staleness")?;
+    }
+    if job.extra_scrape_metrics {
+        text.push_str(" extra_scrape_metrics")?;
+    }
     Ok(())
 }
 
@@ -144,6 +150,11 @@ const SAID: &[(Part, &str, &str)] = &[
         Part::Plain,
         r#"{"scrape_configs":[{"job_name":"web"}]}"#,
         "web /metrics http honor_timestamps",
+    ),
+    (
+        Part::Plain,
+        r#"{"scrape_configs":[{"job_name":"web","track_timestamps_staleness":true,"extra_scrape_metrics":true}]}"#,
+        "web /metrics http honor_timestamps track_timestamps_staleness extra_scrape_metrics",
     ),
     (
         Part::Durations,
@@ -309,6 +320,16 @@ const COMPARED: &[(&str, (bool, bool))] = &[
     (
         r#"{"scrape_configs":[{"job_name":"web","params":{"a":["1"]},
         "relabel_configs":[{"target_label":"t"}],"honor_timestamps":false}]}"#,
+        (false, false),
+    ),
+    (
+        r#"{"scrape_configs":[{"job_name":"web","params":{"a":["1"]},
+        "relabel_configs":[{"target_label":"t"}],"track_timestamps_staleness":true}]}"#,
+        (false, false),
+    ),
+    (
+        r#"{"scrape_configs":[{"job_name":"web","params":{"a":["1"]},
+        "relabel_configs":[{"target_label":"t"}],"extra_scrape_metrics":true}]}"#,
         (false, false),
     ),
     (

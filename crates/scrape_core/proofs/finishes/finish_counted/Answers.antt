@@ -4,12 +4,11 @@ use Rattle.std.proofs.lemmas.List.{with_items_is}
 use Rattle.std.proofs.lemmas.List.Elements.{All-get_or}
 use Rattle.std.specs.Prelude.{slice_get}
 use Rattle.report_samples.specs.declared.entries.Entry.{Entry}
-use Rattle.scrape_loop.specs.Entries.{entries_of}
 use Rattle.scrape_loop.specs.Tracked.{fault_of}
 use Rattle.scrape_machine.specs.declared.answers.Answer.TheVariants.{Counted}
 use Rattle.scrape_machine.specs.declared.lives.Life.{Life}
 use Rattle.scrape_machine.specs.declared.lives.Start.{Start}
-use Rattle.scrape_machine.specs.Lives.{is_open, counted, outcome_for, IsRightLife}
+use Rattle.scrape_machine.specs.Lives.{is_open, counted, counted_entries, outcome_for, IsRightLife}
 use Rattle.scrape_machine.specs.Machine.{world, finished}
 use Rattle.scrape_machine.specs.Runs.{scrape_runs}
 use Rattle.scrape_steps.proofs.FinishLemmas.{counted_answer, counted_world, counted_book, counted_runs}
@@ -54,8 +53,8 @@ returns-clause-book g c =
     let life = get_or s.lives.items c.args.life d in
     let fits : SFits w64 c.ms.result = search rules in
     c.in_ok-counted.ensures.book ∙ ap (λ (es : List Entry). c.args.book.now.entries ++ es)
-    (ap₂ (λ (y : Life) z. entries_of y.state (outcome_for y z c.args.reply.now) (to_z w64 (of_z w64 c.ms.result)) z) c.index_mut-one.ensures.value t
-    ∙ ap (λ m. entries_of life.state (outcome_for life c.args.took c.args.reply.now) m c.args.took) (to_z-of_z w64 c.ms.result fits ∙ c.ms.ensures.value)
+    (ap₂ (λ (y : Life) z. counted_entries y z c.args.reply.now (to_z w64 (of_z w64 c.ms.result))) c.index_mut-one.ensures.value t
+    ∙ ap (λ m. counted_entries life c.args.took c.args.reply.now m) (to_z-of_z w64 c.ms.result fits ∙ c.ms.ensures.value)
     ∙ sym (counted_book s.jobs.items s.lives.items s.started.items c.args.ticket c.args.took c.args.reply.now c.args.life c.args.moment c.requires.found d c.requires.within))
 
 pub returns-clause-runs : goal.returns-clause-runs
