@@ -96,7 +96,8 @@ fn tool_live<
 ) -> Finished<C, K, F>
     requires fetchers { (0 < vec_len fetchers) × (vec_len fetchers ≤ 1000) }
     ensures live { EndedLive result.status live.now (touched (used (S.seen shelf.old) (S.seen shelf.new)) (used (O.seen out.old) (O.seen out.new))
-        (used (E.seen err.old) (E.seen err.new)) (used (R.seen trail.old) (R.seen trail.new)) (C.seen control).left (used (map F.seen fetchers.items) (map F.seen result.fetchers.items)))
+        (used (E.seen err.old) (E.seen err.new)) (used (R.seen trail.old) (R.seen trail.new))
+        (C.seen control).left (used (map F.seen fetchers.items) (map F.seen result.fetchers.items)))
         ((result.control ≡ Some control) × IfSome result.clock (λ k. IsReadOnce (used (K.seen clock) (K.seen k))) × (result.fetchers ≡ fetchers)) }
     ensures back { IsTrue (is_some result.control) × IsTrue (is_some result.clock) × (vec_len result.fetchers ≡ vec_len fetchers) }
 {
