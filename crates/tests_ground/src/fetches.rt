@@ -5,16 +5,18 @@ ghost use Rattle.outside.specs.Replies.{IsReplyToGive};
 ghost use Rattle.outside.specs.Sizes.{most_body_bytes};
 
 use crate::files::calls;
+use crate::inputs::clock_of_two;
+use crate::shared::holds;
 use label_set::{Blob, Name, NoMemory};
 use os_streams::TcpLink;
 use outside::{
-    Clock, Fetch, Fetched, FetchedList, MemClock, MemFetch, MomentList, Reply, Request, Scheme,
-    SureFetch, SystemClock, is_scheme, scheme_of, scheme_text,
+    Clock, Fetch, Fetched, FetchedList, MemFetch, Reply, Request, Scheme, SureFetch, SystemClock,
+    is_scheme, scheme_of, scheme_text,
 };
 use std::alloc::Global;
 use std::process::Abort;
 use std::test::Fail;
-use std::thread;
+use std::thread::{self, Threads};
 
 fn request(alloc: Global, scheme: Scheme) -> Result<Request, NoMemory>
     ensures limit { IfOk result (λ r. r.limit ≤ most_body_bytes) }
@@ -53,120 +55,122 @@ fn replies(alloc: Global) -> Result<FetchedList, NoMemory>
     })
 }
 
-fn sure_fetch(alloc: Global) -> Result<SureFetch, NoMemory> {
-    SureFetch::new(alloc, replies(alloc)?)
-}
-
 /// What fails at these calls.
 fn failing_fetch(alloc: Global, fails: &[u64]) -> Result<MemFetch, NoMemory> {
     let fails = calls(alloc, fails)?;
     MemFetch::new(alloc, replies(alloc)?, fails)
 }
 
-/// How long a reply took, and what it is.
-fn show(alloc: Global, fetched: &Fetched) -> Result<String, NoMemory> {
-    let took = fetched.took;
-    match &fetched.reply {
-        Reply::Body { status, bytes } => {
-            let text = String::from_utf8_lossy(alloc, bytes.as_slice())?;
-            Ok(format!(in alloc; "{took} {status} [{text}]")?)
-        }
-        Reply::Lost => Ok(format!(in alloc; "{took} lost")?),
-        Reply::Garbled => Ok(format!(in alloc; "{took} garbled")?),
-        Reply::Unsent => Ok(format!(in alloc; "{took} unsent")?),
-        Reply::Oversize => Ok(format!(in alloc; "{took} oversize")?),
+/// A scheme, how long its reply took, what the reply is, and its body.
+type Answer = (Scheme, i64, &'static str, &'static [u8]);
+
+/// What replies that never fail answer.
+const SURE: &[Answer] = &[
+    (Scheme::Https, 0, "unsent", b""),
+    (Scheme::Http, 15, "200", b"x 1\n"),
+    (Scheme::Http, 7, "garbled", b""),
+    (Scheme::Http, 0, "garbled", b""),
+];
+
+/// The same where none is left at the end.
+const LOST: &[Answer] = &[
+    (Scheme::Https, 0, "unsent", b""),
+    (Scheme::Http, 15, "200", b"x 1\n"),
+    (Scheme::Http, 7, "garbled", b""),
+    (Scheme::Http, 0, "lost", b""),
+];
+
+/// The same where the first two calls fail.
+const FAILING: &[Answer] = &[
+    (Scheme::Https, 0, "unsent", b""),
+    (Scheme::Http, 0, "lost", b""),
+    (Scheme::Http, 15, "200", b"x 1\n"),
+];
+
+/// What a reply is, and its body.
+fn parts_of(reply: &Reply) -> (&'static str, &[u8]) {
+    match reply {
+        Reply::Body { status: 200, bytes } => ("200", bytes.as_slice()),
+        Reply::Body { .. } => ("another status", b""),
+        Reply::Lost => ("lost", b""),
+        Reply::Garbled => ("garbled", b""),
+        Reply::Unsent => ("unsent", b""),
+        Reply::Oversize => ("oversize", b""),
     }
 }
 
-/// What is answered for a scheme.
-fn answer<F: Fetch>(alloc: Global, fetch: &mut F, scheme: Scheme) -> Result<String, NoMemory> {
+/// What comes for a scheme.
+fn fetched<F: Fetch>(alloc: Global, fetch: &mut F, scheme: Scheme) -> Result<Fetched, NoMemory> {
     let asked = request(alloc, scheme)?;
-    let fetched = fetch.fetch(alloc, &asked)?;
-    show(alloc, &fetched)
+    fetch.fetch(alloc, &asked)
 }
 
-/// What is answered for one scheme after another.
-fn answers_are<F: Fetch>(
+fn is_answer(fetched: &Fetched, answer: Answer) -> bool {
+    let (word, body) = parts_of(&fetched.reply);
+    fetched.took == answer.1 && word == answer.2 && body == answer.3
+}
+
+/// Ends the test where something else is answered.
+fn answers<F: Fetch>(
     rt: &impl Abort,
     alloc: Global,
     fetch: &mut F,
-    answers: &[(Scheme, &str)],
+    answers: &[Answer],
 ) -> Result<(), NoMemory> {
-    for (scheme, want) in answers {
-        assert_eq!(rt; answer(alloc, fetch, *scheme)?.as_str(), *want);
+    for &answer in answers {
+        let fetched = fetched(alloc, fetch, answer.0)?;
+        holds(rt, is_answer(&fetched, answer), answer.2);
     }
     Ok(())
 }
 
+fn replies_are_given(rt: &impl Abort, alloc: Global) -> Result<(), NoMemory> {
+    let mut sure = SureFetch::new(alloc, replies(alloc)?)?;
+    answers(rt, alloc, &mut sure, SURE)?;
+    drop(sure);
+    answers(rt, alloc, &mut failing_fetch(alloc, &[])?, LOST)?;
+    answers(rt, alloc, &mut failing_fetch(alloc, &[0, 1])?, FAILING)
+}
+
+fn schemes_are_read(rt: &impl Abort) {
+    for scheme in [Scheme::Http, Scheme::Https] {
+        let text = scheme_text(scheme);
+        holds(rt, scheme_of(text) == Some(scheme), text);
+    }
+    holds(rt, is_scheme("http"), "http");
+    holds(rt, is_scheme("https"), "https");
+}
+
+fn other_schemes_are_refused(rt: &impl Abort) {
+    for text in ["", "htt", "HTTP", "httpss", "ftp"] {
+        holds(rt, !is_scheme(text), text);
+    }
+}
+
 #[test]
-fn fetches_give_their_replies(rt: HostRuntime) -> Result<(), Fail> {
-    {
-        let mut sure = sure_fetch(rt.alloc())?;
-        let answers = [
-            (Scheme::Https, "0 unsent"),
-            (Scheme::Http, "15 200 [x 1\n]"),
-            (Scheme::Http, "7 garbled"),
-            (Scheme::Http, "0 garbled"),
-        ];
-        answers_are(&rt, rt.alloc(), &mut sure, &answers)?;
-    }
-    {
-        let mut fetch = failing_fetch(rt.alloc(), &[])?;
-        let answers = [
-            (Scheme::Https, "0 unsent"),
-            (Scheme::Http, "15 200 [x 1\n]"),
-            (Scheme::Http, "7 garbled"),
-            (Scheme::Http, "0 lost"),
-        ];
-        answers_are(&rt, rt.alloc(), &mut fetch, &answers)?;
-    }
-    {
-        let mut fetch = failing_fetch(rt.alloc(), &[0, 1])?;
-        let answers = [
-            (Scheme::Https, "0 unsent"),
-            (Scheme::Http, "0 lost"),
-            (Scheme::Http, "15 200 [x 1\n]"),
-        ];
-        answers_are(&rt, rt.alloc(), &mut fetch, &answers)?;
-    }
+fn replies_are_given_and_schemes_read(rt: HostRuntime) -> Result<(), Fail> {
+    replies_are_given(&rt, rt.alloc())?;
+    schemes_are_read(&rt);
+    other_schemes_are_refused(&rt);
     Ok(())
+}
+
+/// Lets go of a value in another thread.
+fn goes_to_a_thread<T: Send + Drop + 'static>(rt: &(impl Threads + Abort), value: T) {
+    let Ok(child) = thread::spawn(rt, move || drop(value)) else {
+        panic!(rt; "no thread");
+    };
+    child.join(rt);
 }
 
 #[test]
 fn fetches_clocks_and_links_go_to_threads(rt: HostRuntime) -> Result<(), Fail> {
-    {
-        let fetch = failing_fetch(rt.alloc(), &[])?;
-        let child = thread::spawn(&rt, move || drop(fetch))?;
-        child.join(&rt);
-        let sure = sure_fetch(rt.alloc())?;
-        let child = thread::spawn(&rt, move || drop(sure))?;
-        child.join(&rt);
-    }
-    {
-        let mut clock = MemClock::new(MomentList {
-            items: vec![in rt.alloc(); 3]?,
-        })?;
-        let child = thread::spawn(&rt, move || clock.now())?;
-        assert_eq!(rt; child.join(&rt), 3);
-    }
-    {
-        let system = SystemClock::new(rt.clone()?);
-        let child = thread::spawn(&rt, move || drop(system))?;
-        child.join(&rt);
-        let link = TcpLink::new(rt.clone()?);
-        let child = thread::spawn(&rt, move || drop(link))?;
-        child.join(&rt);
-    }
+    goes_to_a_thread(&rt, failing_fetch(rt.alloc(), &[])?);
+    goes_to_a_thread(&rt, SureFetch::new(rt.alloc(), replies(rt.alloc())?)?);
+    goes_to_a_thread(&rt, SystemClock::new(rt.clone()?));
+    goes_to_a_thread(&rt, TcpLink::new(rt.clone()?));
+    let mut clock = clock_of_two(rt.alloc())?;
+    let child = thread::spawn(&rt, move || clock.now())?;
+    holds(&rt, child.join(&rt) == 3, "the moment");
     Ok(())
-}
-
-#[test]
-fn schemes_are_read_as_they_are_written(rt: HostRuntime) {
-    for scheme in [Scheme::Http, Scheme::Https] {
-        assert_eq!(rt; scheme_of(scheme_text(scheme)), Some(scheme));
-    }
-    for text in ["", "htt", "HTTP", "httpss", "ftp"] {
-        assert!(rt; !is_scheme(text));
-    }
-    assert!(rt; is_scheme("http") && is_scheme("https"));
 }

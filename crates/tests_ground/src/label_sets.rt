@@ -1,12 +1,14 @@
 //! Texts and bytes, labels, and sets of labels: their copies, what stands in them, their order and their printed text.
 
+use crate::shared::{are_bytes, holds};
 use label_set::sets::{LabelError, LabelSet};
 use label_set::{
     Blob, Label, Name, NameList, NoMemory, Pair, PairList, SetList, is_label_name, is_metric_name,
     lent,
 };
-use std::alloc::{AllocError, Global};
+use std::alloc::Global;
 use std::hash::{DefaultHasher, Hash, Hasher};
+use std::process::Abort;
 use std::test::Fail;
 
 /// The set that labels make, put in one after another.
@@ -47,41 +49,40 @@ fn set_of_lent(alloc: Global, labels: &[(&str, &str)]) -> Result<LabelSet, NoMem
     LabelSet::of(alloc, lent(alloc, pairs.as_slice())?.as_slice())
 }
 
-/// The names and values of a set, one behind the other.
-fn texts_of(alloc: Global, set: &LabelSet) -> Result<String, AllocError> {
-    let mut text = String::new(alloc);
-    for label in set.labels() {
-        text.push_str(label.name)?;
-        text.push_str(label.value)?;
+/// Whether a set has these labels, in this order.
+fn has_labels(set: &LabelSet, wanted: &[(&str, &str)]) -> bool {
+    let mut labels = set.labels();
+    for &(name, value) in wanted {
+        match labels.next() {
+            Some(label) if label.name == name && label.value == value => {}
+            _ => return false,
+        }
     }
-    Ok(text)
+    labels.next().is_none()
 }
 
-fn is_shared_by_threads<T: Send + Sync>(_value: &T) -> bool {
-    true
-}
-
-fn hash_of(set: &LabelSet) -> u64 {
-    let mut state = DefaultHasher::new();
-    set.hash(&mut state);
-    state.finish()
-}
-
-#[test]
-fn texts_bytes_and_labels_are_copied(rt: HostRuntime) -> Result<(), Fail> {
-    let name = Name::from_str(rt.alloc(), "job")?.copy(rt.alloc())?;
-    assert_eq!(rt; name.as_str(), "job");
+fn texts_and_bytes_are_copied(rt: &impl Abort, alloc: Global) -> Result<(), NoMemory> {
+    let blob = Blob::from_slice(alloc, b"\x00a")?;
+    are_bytes(rt, blob.copy(alloc)?.as_slice(), b"\x00a");
+    drop(blob);
+    let name = Name::from_str(alloc, "job")?.copy(alloc)?;
+    are_bytes(rt, name.as_str().as_bytes(), b"job");
     let names = NameList {
-        items: vec![in rt.alloc(); name]?,
+        items: vec![in alloc; name]?,
     };
-    assert_eq!(rt; names.as_slice().len(), 1);
-    let blob = Blob::from_slice(rt.alloc(), b"\x00a")?.copy(rt.alloc())?;
-    assert_eq!(rt; blob.as_slice(), b"\x00a".as_slice());
-    let pair = Pair::from_strs(rt.alloc(), "a", "b")?.copy(rt.alloc())?;
+    holds(rt, names.as_slice().len() == 1, "one name");
+    Ok(())
+}
+
+fn labels_are_copied(rt: &impl Abort, alloc: Global) -> Result<(), NoMemory> {
     let pairs = PairList {
-        items: vec![in rt.alloc(); pair]?,
+        items: pairs_of(alloc, &[("a", "b")])?,
     };
-    assert_eq!(rt; pairs.as_slice()[0].value.as_str(), "b");
+    for pair in pairs.as_slice() {
+        let copy = pair.copy(alloc)?;
+        are_bytes(rt, copy.value.as_str().as_bytes(), b"b");
+    }
+    holds(rt, pairs.as_slice().len() == 1, "one label");
     Ok(())
 }
 
@@ -97,11 +98,10 @@ const NAMES: &[(&str, bool, bool)] = &[
     ("é", false, false),
 ];
 
-#[test]
-fn names_are_told_apart(rt: HostRuntime) {
+fn names_are_told_apart(rt: &impl Abort) {
     for &(text, label, metric) in NAMES {
-        assert_eq!(rt; is_label_name(text), label, "label {text}");
-        assert_eq!(rt; is_metric_name(text), metric, "metric {text}");
+        holds(rt, is_label_name(text) == label, text);
+        holds(rt, is_metric_name(text) == metric, text);
     }
 }
 
@@ -117,24 +117,50 @@ const UNLOOKED: &[Label<'_>] = &[
     },
 ];
 
-#[test]
-fn labels_come_and_go(rt: HostRuntime) -> Result<(), Fail> {
-    let set = two_labels(rt.alloc())?;
-    assert!(rt; set.len() == 2 && set.get("job") == Some("y") && set.get("b") == None);
-    assert!(rt; set.at(0) == Some(("a", "1")) && set.at(2) == None);
-    let refused = set.with(rt.alloc(), "a-b", "1");
-    assert!(rt; matches!(refused, Err(LabelError::BadName)));
-    let changed = set.with_all(rt.alloc(), UNLOOKED)?;
-    assert_eq!(rt; texts_of(rt.alloc(), &changed)?.as_str(), "b-c2joby");
-    let less = set.without(rt.alloc(), "a")?;
-    assert!(rt; less.len() == 1 && less.cmp(&set).is_gt() && LabelSet::empty().is_empty());
+fn labels_are_found(rt: &impl Abort, alloc: Global) -> Result<(), LabelError> {
+    let set = two_labels(alloc)?;
+    holds(rt, set.len() == 2, "two labels");
+    holds(rt, set.get("job") == Some("y"), "the label job");
+    holds(rt, set.get("b").is_none(), "no label b");
+    holds(rt, set.at(0) == Some(("a", "1")), "the first label");
+    holds(rt, set.at(2).is_none(), "no third label");
+    let refused = set.with(alloc, "a-b", "1").err();
+    holds(rt, refused == Some(LabelError::BadName), "no label a-b");
+    Ok(())
+}
+
+fn labels_come_and_go(rt: &impl Abort, alloc: Global) -> Result<(), LabelError> {
+    let set = two_labels(alloc)?;
+    let changed = set.with_all(alloc, UNLOOKED)?;
+    let is_so = has_labels(&changed, &[("b-c", "2"), ("job", "y")]);
+    holds(rt, is_so, "a label less, and one more");
+    drop(changed);
+    let less = set.without(alloc, "a")?;
+    holds(rt, less.len() == 1, "a label less");
+    holds(rt, less.cmp(&set).is_gt(), "the order of sets");
+    Ok(())
+}
+
+fn is_shared_by_threads<T: Send + Sync>(_value: &T) -> bool {
+    true
+}
+
+fn copies_are_the_same(rt: &impl Abort, alloc: Global) -> Result<(), LabelError> {
+    let set = two_labels(alloc)?;
     let copy = set.copy()?;
-    assert!(rt; copy == set && copy.is_same(&set) && is_shared_by_threads(&copy));
-    let made = LabelSet::from_labels(rt.alloc(), &[])?;
+    holds(rt, copy == set, "an equal copy");
+    holds(rt, copy.is_same(&set), "the same copy");
+    holds(rt, is_shared_by_threads(&copy), "threads");
+    Ok(())
+}
+
+fn sets_make_a_list(rt: &impl Abort, alloc: Global) -> Result<(), NoMemory> {
+    let made = LabelSet::from_labels(alloc, &[])?;
+    holds(rt, LabelSet::empty().is_empty(), "no label");
     let sets = SetList {
-        items: vec![in rt.alloc(); made, less]?,
+        items: vec![in alloc; made, LabelSet::empty()]?,
     };
-    assert_eq!(rt; sets.as_slice().len(), 2);
+    holds(rt, sets.as_slice().len() == 2, "two sets");
     Ok(())
 }
 
@@ -148,16 +174,30 @@ const ANY_ORDER: &[(&str, &str)] = &[
     ("b", ""),
 ];
 
-#[test]
-fn labels_come_in_any_order(rt: HostRuntime) -> Result<(), Fail> {
-    let set = set_of_lent(rt.alloc(), ANY_ORDER)?;
-    assert_eq!(rt; texts_of(rt.alloc(), &set)?.as_str(), "a1jobyéü");
-    let none = set_of_lent(rt.alloc(), &[("b", "2"), ("b", "")])?;
-    assert!(rt; none == LabelSet::empty());
-    let rising = set_of(rt.alloc(), &[("a", "1"), ("job", "y")])?;
-    assert!(rt; !(rising == set) && rising.cmp(&set).is_lt());
-    let falling = set_of(rt.alloc(), &[("job", "y"), ("a", "1")])?;
-    assert_eq!(rt; hash_of(&rising), hash_of(&falling));
+fn labels_come_in_any_order(rt: &impl Abort, alloc: Global) -> Result<(), NoMemory> {
+    let set = set_of_lent(alloc, ANY_ORDER)?;
+    let is_so = has_labels(&set, &[("a", "1"), ("job", "y"), ("é", "ü")]);
+    holds(rt, is_so, "labels in order");
+    drop(set);
+    let none = set_of_lent(alloc, &[("b", "2"), ("b", "")])?;
+    holds(rt, none == LabelSet::empty(), "a label that goes");
+    Ok(())
+}
+
+fn hash_of(set: &LabelSet) -> u64 {
+    let mut state = DefaultHasher::new();
+    set.hash(&mut state);
+    state.finish()
+}
+
+fn sets_are_compared(rt: &impl Abort, alloc: Global) -> Result<(), LabelError> {
+    let rising = set_of(alloc, &[("a", "1"), ("job", "y")])?;
+    let falling = set_of(alloc, &[("job", "y"), ("a", "1")])?;
+    holds(rt, hash_of(&rising) == hash_of(&falling), "one hash");
+    drop(falling);
+    let more = set_of_lent(alloc, ANY_ORDER)?;
+    holds(rt, !(rising == more), "two sets");
+    holds(rt, rising.cmp(&more).is_lt(), "their order");
     Ok(())
 }
 
@@ -182,21 +222,39 @@ const PRINTED: &[(&[(&str, &str)], &str)] = &[
 ];
 
 /// The text of a set, appended and then written behind that.
-fn printed_twice(alloc: Global, set: &LabelSet) -> Result<Vec<u8>, NoMemory> {
+fn printed_twice(alloc: Global, set: LabelSet) -> Result<Vec<u8>, NoMemory> {
     let mut text = Vec::new(alloc);
     set.append_text(&mut text)?;
     set.write_text(alloc, &mut text)?;
     Ok(text)
 }
 
-#[test]
-fn sets_are_printed(rt: HostRuntime) -> Result<(), Fail> {
+fn sets_are_printed(rt: &impl Abort, alloc: Global) -> Result<(), LabelError> {
     for &(labels, want) in PRINTED {
-        let set = set_of(rt.alloc(), labels)?;
-        let out = printed_twice(rt.alloc(), &set)?;
-        let (appended, written) = out.split_at(out.len() / 2);
-        assert_eq!(rt; appended, want.as_bytes(), "{want}");
-        assert_eq!(rt; written, want.as_bytes(), "{want}");
+        let text = printed_twice(alloc, set_of(alloc, labels)?)?;
+        let (appended, written) = text.split_at(text.len() / 2);
+        are_bytes(rt, appended, want.as_bytes());
+        are_bytes(rt, written, want.as_bytes());
     }
+    Ok(())
+}
+
+#[test]
+fn texts_and_labels_are_copied(rt: HostRuntime) -> Result<(), Fail> {
+    names_are_told_apart(&rt);
+    texts_and_bytes_are_copied(&rt, rt.alloc())?;
+    labels_are_copied(&rt, rt.alloc())?;
+    Ok(())
+}
+
+#[test]
+fn sets_are_made_compared_and_printed(rt: HostRuntime) -> Result<(), Fail> {
+    labels_are_found(&rt, rt.alloc())?;
+    labels_come_and_go(&rt, rt.alloc())?;
+    copies_are_the_same(&rt, rt.alloc())?;
+    sets_make_a_list(&rt, rt.alloc())?;
+    labels_come_in_any_order(&rt, rt.alloc())?;
+    sets_are_compared(&rt, rt.alloc())?;
+    sets_are_printed(&rt, rt.alloc())?;
     Ok(())
 }
