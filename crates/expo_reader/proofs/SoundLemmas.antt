@@ -14,11 +14,14 @@ use Rattle.expo_lexer.specs.Tokens.{is_blank, is_word_byte, blank_len, word_len,
 use Rattle.expo_reader.specs.declared.rows.BodyRow.{BodyRow}
 use Rattle.expo_reader.specs.Bodies.{is_skipped}
 use Rattle.expo_reader.specs.Texts.{bare, is_end, word_at, mark_at, text_at, word_in, mark_in, text_in, text_value}
-use Rattle.expo_reader.specs.Forms.{label_in, named_label, valued_label, labels_in, label_of, is_exposed_name, names_differ, stamp_in, value_in, valued, last_word, sample_in, named_row, after_name, row_of, labelled_row, differing_row, closed_or, label_and_more, after_label}
-use Rattle.expo_reader.specs.Grammar.{IsBlanks, IsLabel, IsLabels, IsLineEnd, IsMiddle, IsSample, IsSkipped}
+use Rattle.label_set.specs.declared.forms.Form.{Form}
+use Rattle.label_set.specs.declared.forms.Form.TheVariants.{Plain, Quoted}
+use Rattle.expo_reader.specs.Forms.{label_in, labels_in, labels_after, names_differ, stamp_in, value_in, valued, last_word, sample_in, named_row, braced_row, after_name, row_of, labelled_row, differing_row, closed_or, label_and_more, after_label}
+use Rattle.expo_reader.specs.Names.{passing, quote_in, resolved_text, is_exposed_name, is_quoted_metric, is_quoted_name, bare_name, quoted_name, name_in, braced_name}
+use Rattle.expo_reader.specs.Grammar.{IsBlanks, IsBraced, IsLabel, IsLabelName, IsLabels, IsLineEnd, IsMiddle, IsNameAndLabels, IsNamed, IsQuote, IsSample, IsSkipped}
 use Rattle.expo_reader.proofs.FrontLemmas.{both, Stops, passes, stops-drop}
 use Rattle.expo_reader.proofs.QuoteLemmas.{is_text, text-sound as text-pieces}
-use Rattle.expo_reader.proofs.RowLemmas.{chosen, first-label, mapped, pair}
+use Rattle.expo_reader.proofs.RowLemmas.{chosen, first-label, mapped, pair, passing-sound, either, behind-sound, label-parts}
 use Rattle.expo_reader.proofs.WordLemmas.{IsWord}
 use Rattle.value_text.proofs.GrammarLemmas.{value-sound as value-written}
 
@@ -110,68 +113,79 @@ text-sound bs text r e =
     let k = text-split (bare bs) text r e in
     (apart bs ∙ ap (λ t. blanks bs ++ t) k.0, k.1)
 
-label-made : (name text : List ℕ) (label : Pair) → label_of name text ≡ Some label → (is_exposed_name name ≡ true) × (label.name ≡ name) × (text_value text ≡ Some label.value)
-label-made name text label e =
-    let k = chosen (is_exposed_name name) (option_map {U = Pair} (λ (value : List ℕ). record { name = name; value = value }) (text_value text)) label e in
-    let m = mapped {B = Pair} (λ (value : List ℕ). record { name = name; value = value }) (text_value text) label k.1 in
-    (k.0, ap (λ (p : Pair). p.name) (sym m.2), m.1 ∙ ap (λ (p : Pair). Some p.value) m.2)
+-- a text in quotes with what it stands for
+pub quote-sound : (bs value r : List ℕ) → quote_in bs ≡ Some (value, r) → (quote : List ℕ) × IsQuote quote value × (bs ≡ blanks bs ++ (quote ++ r))
+unfolding quote_in
+quote-sound bs value r e = by_text (text_in bs) refl e
+  where
+    by_text : (o : Option (List ℕ × List ℕ)) → text_in bs ≡ o → resolved_text o ≡ Some (value, r) → (quote : List ℕ) × IsQuote quote value × (bs ≡ blanks bs ++ (quote ++ r))
+    by_text None t v = absurd cc
+    by_text (Some (text, after)) t v =
+        let m = mapped {B = List ℕ × List ℕ} (λ (w : List ℕ). (w, after)) (text_value text) (value, r) v in
+        let p = pair m.0 value after r (ap (λ (q : List ℕ × List ℕ). Some q) m.2) in
+        let quotes = text-sound bs text after t in
+        let is = text-pieces text value quotes.1 (m.1 ∙ ap (λ (w : List ℕ). Some w) p.0) in
+        let spelled : blanks bs ++ ((34 ∷ (text ++ 34 ∷ [])) ++ r) ≡ blanks bs ++ 34 ∷ (text ++ 34 ∷ r) = simp append_assoc in
+        (34 ∷ (text ++ 34 ∷ []), (text, is.0, is.1, refl), quotes.0 ∙ ap (λ t. blanks bs ++ 34 ∷ (text ++ 34 ∷ t)) p.1 ∙ sym spelled)
+
+-- the name of a label as it is written
+bare-sound : (form : Form) (bs name rest : List ℕ) → bare_name bs ≡ Some (name, rest) → (written : List ℕ) × IsLabelName form written name × (bs ≡ blanks bs ++ (written ++ rest))
+bare-sound form bs name rest e =
+    let k = passing-sound is_exposed_name (word_in bs) name rest e in
+    (name, inl (k.0, refl), (word-sound bs name rest k.1).0)
+
+name-sound : (form : Form) (bs name rest : List ℕ) → name_in form bs ≡ Some (name, rest) → (written : List ℕ) × IsLabelName form written name × (bs ≡ blanks bs ++ (written ++ rest))
+unfolding name_in
+name-sound Plain bs name rest e = bare-sound Plain bs name rest e
+name-sound Quoted bs name rest e =
+    ⊎_elim
+    (λ (b : bare_name bs ≡ Some (name, rest)). bare-sound Quoted bs name rest b)
+    (λ (q : quoted_name bs ≡ Some (name, rest)).
+    (let k = passing-sound is_quoted_name (quote_in bs) name rest q in
+    let found = quote-sound bs name rest k.1 in
+    (found.0, inr (refl, k.0, found.1), found.2)))
+    (either (bare_name bs) (quoted_name bs) (name, rest) e)
 
 -- a label, with no blanks behind it
-module _ (bs name rest : List ℕ) (label : Pair) (r : List ℕ) (whole : bs ≡ blanks bs ++ (name ++ rest)) where
-  by_text : (quoted : List ℕ) → mark_in 61 rest ≡ Some quoted → (o : Option (List ℕ × List ℕ)) → text_in quoted ≡ o → valued_label name o ≡ Some (label, r) →
-      (one : List ℕ) × IsLabel one label × (bs ≡ one ++ r)
-  by_text quoted m None t v = absurd cc
-  by_text quoted m (Some (text, after)) t v =
-      let p = mapped {B = Pair × List ℕ} (λ (l : Pair). (l, after)) (label_of name text) (label, r) v in
-      let is : p.0 ≡ label = ap (λ (q : Pair × List ℕ). q.0) p.2 in
-      let end : after ≡ r = ap (λ (q : Pair × List ℕ). q.1) p.2 in
-      let made = label-made name text label (p.1 ∙ ap Some is) in
-      let mark = mark-sound 61 rest quoted (omega arith) m in
-      let quotes = text-sound quoted text after t in
-      let is = text-pieces text label.value quotes.1 made.2 in
-      let one = blanks bs ++ (name ++ (blanks rest ++ 61 ∷ (blanks quoted ++ 34 ∷ (text ++ 34 ∷ [])))) in
-      let written : one ≡ blanks bs ++ (label.name ++ (blanks rest ++ 61 ∷ (blanks quoted ++ 34 ∷ (text ++ 34 ∷ [])))) =
-      ap (λ n. blanks bs ++ (n ++ (blanks rest ++ 61 ∷ (blanks quoted ++ 34 ∷ (text ++ 34 ∷ []))))) (sym made.1) in
-      let spelled : bs ≡ blanks bs ++ (name ++ (blanks rest ++ 61 ∷ (blanks quoted ++ 34 ∷ (text ++ 34 ∷ r)))) =
-      whole ∙ ap (λ l. blanks bs ++ (name ++ l)) (mark ∙ ap (λ q. blanks rest ++ 61 ∷ q) (quotes.0 ∙ ap (λ a. blanks quoted ++ 34 ∷ (text ++ 34 ∷ a)) end)) in
-      let joined : one ++ r ≡ blanks bs ++ (name ++ (blanks rest ++ 61 ∷ (blanks quoted ++ 34 ∷ (text ++ 34 ∷ r)))) = simp append_assoc in (
-        one,
-        (blanks bs, blanks rest, blanks quoted, text, [], blanks-are bs, blanks-are rest, blanks-are quoted, refl, ap is_exposed_name made.1 ∙ made.0, is.0, is.1, written),
-        spelled ∙ sym joined,
-      )
-
-  by_mark : (o : Option (List ℕ)) → mark_in 61 rest ≡ o → option_and_then (λ (quoted : List ℕ). valued_label name (text_in quoted)) o ≡ Some (label, r) →
-      (one : List ℕ) × IsLabel one label × (bs ≡ one ++ r)
-  by_mark None m e = absurd cc
-  by_mark (Some quoted) m e = by_text quoted m (text_in quoted) refl e
-
-by_word : (bs : List ℕ) (o : Option (List ℕ × List ℕ)) (label : Pair) (r : List ℕ) → word_in bs ≡ o → named_label o ≡ Some (label, r) → (one : List ℕ) × IsLabel one label × (bs ≡ one ++ r)
-by_word bs None label r w e = absurd cc
-by_word bs (Some (name, rest)) label r w e = by_mark bs name rest label r (word-sound bs name rest w).0 (mark_in 61 rest) refl e
-
-label-sound : (bs : List ℕ) (label : Pair) (r : List ℕ) → label_in bs ≡ Some (label, r) → (one : List ℕ) × IsLabel one label × (bs ≡ one ++ r)
-unfolding label_in
-label-sound bs label r e = by_word bs (word_in bs) label r refl e
+label-sound : (form : Form) (bs : List ℕ) (label : Pair) (r : List ℕ) → label_in form bs ≡ Some (label, r) → (one : List ℕ) × IsLabel form one label × (bs ≡ one ++ r)
+label-sound form bs label r e =
+    let p = label-parts form bs label r e in
+    let rest = p.0 in
+    let b = behind-sound label.name rest label r p.2 in
+    let quoted = b.0 in
+    let named = name-sound form bs label.name rest p.1 in
+    let written = named.0 in
+    let mark = mark-sound 61 rest quoted (omega arith) b.1 in
+    let value = quote-sound quoted label.value r b.2 in
+    let quote = value.0 in
+    let one = blanks bs ++ (written ++ (blanks rest ++ 61 ∷ (blanks quoted ++ (quote ++ [])))) in
+    let spelled : bs ≡ blanks bs ++ (written ++ (blanks rest ++ 61 ∷ (blanks quoted ++ (quote ++ r)))) =
+    named.2 ∙ ap (λ l. blanks bs ++ (written ++ l)) (mark ∙ ap (λ q. blanks rest ++ 61 ∷ q) value.2) in
+    let joined : one ++ r ≡ blanks bs ++ (written ++ (blanks rest ++ 61 ∷ (blanks quoted ++ (quote ++ r)))) = simp append_assoc in (
+      one,
+      (blanks bs, written, blanks rest, blanks quoted, quote, [], blanks-are bs, blanks-are rest, blanks-are quoted, refl, named.1, value.1, refl),
+      spelled ∙ sym joined,
+    )
 
 -- blanks behind a label belong to it
-label-blanks : (one b : List ℕ) (label : Pair) → IsLabel one label → IsBlanks b → IsLabel (one ++ b) label
-label-blanks one b label l e =
-    (l.0, l.1, l.2, l.3, l.4 ++ b, l.5, l.6, l.7, list_all-append is_blank l.4 b ∙ and_from _ _ l.8 e, l.9, l.10, l.11, ap (λ s. s ++ b) l.12 ∙ simp append_assoc)
+label-blanks : (form : Form) (one b : List ℕ) (label : Pair) → IsLabel form one label → IsBlanks b → IsLabel form (one ++ b) label
+label-blanks form one b label l e =
+    (l.0, l.1, l.2, l.3, l.4, l.5 ++ b, l.6, l.7, l.8, list_all-append is_blank l.5 b ∙ and_from _ _ l.9 e, l.10, l.11, ap (λ s. s ++ b) l.12 ∙ simp append_assoc)
 
 -- labels and the brace behind them
-unfoldable pub HasLabels : List ℕ → List Pair → List ℕ → Type 0
-HasLabels bs labels r = (inside : List ℕ) × IsLabels inside labels × (bs ≡ inside ++ 125 ∷ r)
+unfoldable pub HasLabels : Form → List ℕ → List Pair → List ℕ → Type 0
+HasLabels form bs labels r = (inside : List ℕ) × IsLabels form inside labels × (bs ≡ inside ++ 125 ∷ r)
 
-module _ (next_labels : List ℕ → Option (List Pair × List ℕ)) (sound : (next : List ℕ) (labels : List Pair) (r : List ℕ) → next_labels next ≡ Some (labels, r) → HasLabels next labels r)
-    (bs one rest : List ℕ) (label : Pair) (is : IsLabel one label) (whole : bs ≡ one ++ rest) (labels : List Pair) (r : List ℕ) where
-  by_comma : (o : Option (List ℕ)) → mark_in 44 rest ≡ o → after_label next_labels rest o ≡ Some (labels, r) → HasLabels bs (label ∷ labels) r
+module _ (form : Form) (next_labels : List ℕ → Option (List Pair × List ℕ)) (sound : (next : List ℕ) (labels : List Pair) (r : List ℕ) → next_labels next ≡ Some (labels, r) → HasLabels form next labels r)
+    (bs one rest : List ℕ) (label : Pair) (is : IsLabel form one label) (whole : bs ≡ one ++ rest) (labels : List Pair) (r : List ℕ) where
+  by_comma : (o : Option (List ℕ)) → mark_in 44 rest ≡ o → after_label next_labels rest o ≡ Some (labels, r) → HasLabels form bs (label ∷ labels) r
   unfolding HasLabels
   by_comma (Some next) c e =
       let h = sound next labels r e in
       let comma = mark-sound 44 rest next (omega arith) c in
       let left = one ++ blanks rest in
       let spelled : bs ≡ (left ++ 44 ∷ h.0) ++ 125 ∷ r = whole ∙ ap (λ l. one ++ l) (comma ∙ ap (λ n. blanks rest ++ 44 ∷ n) h.2) ∙ simp append_assoc in
-      (left ++ 44 ∷ h.0, (left, label-blanks one (blanks rest) label is (blanks-are rest), inr (h.0, refl, h.1)), spelled)
+      (left ++ 44 ∷ h.0, (left, label-blanks form one (blanks rest) label is (blanks-are rest), inr (h.0, refl, h.1)), spelled)
   by_comma None c e =
       let m = mapped {B = List Pair × List ℕ} (λ (q : List ℕ). ([], q)) (mark_in 125 rest) (labels, r) e in
       let none : [] ≡ labels = ap (λ (q : List Pair × List ℕ). q.0) m.2 in
@@ -179,25 +193,25 @@ module _ (next_labels : List ℕ → Option (List Pair × List ℕ)) (sound : (n
       let brace = mark-sound 125 rest m.0 (omega arith) m.1 in
       let left = one ++ blanks rest in
       let spelled : bs ≡ left ++ 125 ∷ r = whole ∙ ap (λ l. one ++ l) (brace ∙ ap (λ q. blanks rest ++ 125 ∷ q) end) ∙ simp append_assoc in
-      (left, (left, label-blanks one (blanks rest) label is (blanks-are rest), inl (sym none, refl)), spelled)
+      (left, (left, label-blanks form one (blanks rest) label is (blanks-are rest), inl (sym none, refl)), spelled)
 
-pub labels-sound : (k : ℕ) (bs : List ℕ) (labels : List Pair) (r : List ℕ) → labels_in k bs ≡ Some (labels, r) → HasLabels bs labels r
+pub labels-sound : (form : Form) (k : ℕ) (bs : List ℕ) (labels : List Pair) (r : List ℕ) → labels_in form k bs ≡ Some (labels, r) → HasLabels form bs labels r
 unfolding labels_in HasLabels
-labels-sound zero bs labels r e = absurd cc
-labels-sound (suc n) bs labels r e = by_brace (λ next ls q h. labels-sound n next ls q h) (mark_in 125 bs) refl (label_in bs) refl e
+labels-sound form zero bs labels r e = absurd cc
+labels-sound form (suc n) bs labels r e = by_brace (λ next ls q h. labels-sound form n next ls q h) (mark_in 125 bs) refl (label_in form bs) refl e
   where
-    by_brace : ((next : List ℕ) (ls : List Pair) (q : List ℕ) → labels_in n next ≡ Some (ls, q) → HasLabels next ls q) →
-        (o : Option (List ℕ)) → mark_in 125 bs ≡ o → (f : Option (Pair × List ℕ)) → label_in bs ≡ f →
-        closed_or o (label_and_more (λ next. labels_in n next) f) ≡ Some (labels, r) → HasLabels bs labels r
+    by_brace : ((next : List ℕ) (ls : List Pair) (q : List ℕ) → labels_in form n next ≡ Some (ls, q) → HasLabels form next ls q) →
+        (o : Option (List ℕ)) → mark_in 125 bs ≡ o → (f : Option (Pair × List ℕ)) → label_in form bs ≡ f →
+        closed_or o (label_and_more (λ next. labels_in form n next) f) ≡ Some (labels, r) → HasLabels form bs labels r
     by_brace sound (Some rest) m f l e =
         let p = pair [] labels rest r e in
-        (blanks bs, subst (IsLabels (blanks bs)) p.0 (blanks-are bs), mark-sound 125 bs rest (omega arith) m ∙ ap (λ q. blanks bs ++ 125 ∷ q) p.1)
+        (blanks bs, subst (IsLabels form (blanks bs)) p.0 (blanks-are bs), mark-sound 125 bs rest (omega arith) m ∙ ap (λ q. blanks bs ++ 125 ∷ q) p.1)
     by_brace sound None m None l e = absurd cc
     by_brace sound None m (Some (label, rest)) l e =
-        let one = label-sound bs label rest l in
-        let g = first-label label (after_label (λ next. labels_in n next) rest (mark_in 44 rest)) labels r e in
-        subst (λ (ls : List Pair). HasLabels bs ls r) (sym g.2)
-        (by_comma (λ next. labels_in n next) sound bs one.0 rest label one.1 one.2 g.0 r (mark_in 44 rest) refl g.1)
+        let one = label-sound form bs label rest l in
+        let g = first-label label (after_label (λ next. labels_in form n next) rest (mark_in 44 rest)) labels r e in
+        subst (λ (ls : List Pair). HasLabels form bs ls r) (sym g.2)
+        (by_comma form (λ next. labels_in form n next) sound bs one.0 rest label one.1 one.2 g.0 r (mark_in 44 rest) refl g.1)
 
 -- the end of a line
 end-blanks : (bs : List ℕ) → is_end bs ≡ true → IsBlanks bs
@@ -263,60 +277,138 @@ no-blanks : (t : List ℕ) → Stops is_blank t → blanks t ≡ []
 no-blanks [] s = refl
 no-blanks (x ∷ t) s = rw s refl
 
-module _ (number : ℕ) (line name rest : List ℕ) (row : BodyRow) (text_is : bare line ≡ name ++ rest) (named : is_metric_name name ≡ true) (stops : Stops is_word_byte rest) where
+-- the row of labels that differ, and what follows them
+module _ (number : ℕ) (line name raw_text tail : List ℕ) (labels : List Pair) (row : BodyRow) (whole : line ≡ raw_text ++ tail) where
+  differing-sound : differing_row number line name labels tail ≡ Some row →
+      (value : List ℕ) × (stamp : Option ℤ) × (names_differ labels ≡ true) × (made-row number raw_text name labels value stamp ≡ row) × EndsWith tail value stamp
+  differing-sound e =
+      let raw = take (length line - length tail) line in
+      let d = chosen (names_differ labels) (row_of number raw name labels (value_in tail)) row e in
+      let k = row-parts number raw name labels (value_in tail) row d.1 in
+      let len : length line - length tail ≡ length raw_text = omega (arith, ap length whole, length-append raw_text tail) in
+      let raw_is : raw ≡ raw_text = ap₂ take len whole ∙ take-append_seam raw_text tail in
+      (k.0, k.1, d.0, ap (λ (t : List ℕ). made-row number t name labels k.0 k.1) (sym raw_is) ∙ k.3, value-sound tail k.0 k.1 k.2)
+
+module _ (form : Form) (number : ℕ) (line name rest : List ℕ) (row : BodyRow) (text_is : bare line ≡ name ++ rest) (named : is_metric_name name ≡ true) (stops : Stops is_word_byte rest) where
   spelled : line ≡ blanks line ++ (name ++ rest)
   spelled = apart line ∙ ap (λ t. blanks line ++ t) text_is
 
-  no-labels : row_of number name name [] (value_in rest) ≡ Some row → IsSample number line row
+  no-labels : row_of number name name [] (value_in rest) ≡ Some row → IsNamed form number line row
   unfolding made-row EndsWith
   no-labels e =
       let k = row-parts number name name [] (value_in rest) row e in
       let end = value-sound rest k.0 k.1 k.2 in
-      let middle : IsMiddle (blanks rest) [] [] = inl (blanks-are rest, some-blanks rest k.0 end.0 stops end.4 end.3, refl, refl) in
-      subst (IsSample number line) k.3
+      let middle : IsMiddle form (blanks rest) [] [] = inl (blanks-are rest, some-blanks rest k.0 end.0 stops end.4 end.3, refl, refl) in
+      subst (IsNamed form number line) k.3
       (blanks line, blanks rest, [], end.0, refl, blanks-are line, named, middle, sym (append-nil name), value-written k.0 end.1, end.2, spelled ∙ ap (λ r. blanks line ++ (name ++ r)) end.3)
 
-  with-labels : (inside : List ℕ) → mark_in 123 rest ≡ Some inside → (labels : List Pair) (tail : List ℕ) → HasLabels inside labels tail →
-      differing_row number (bare line) name labels tail ≡ Some row → IsSample number line row
+  with-labels : (inside : List ℕ) → mark_in 123 rest ≡ Some inside → (labels : List Pair) (tail : List ℕ) → HasLabels form inside labels tail →
+      differing_row number (bare line) name labels tail ≡ Some row → IsNamed form number line row
   unfolding made-row EndsWith HasLabels
   with-labels inside m labels tail h e =
-      let raw = take (length (bare line) - length tail) (bare line) in
-      let d = chosen (names_differ labels) (row_of number raw name labels (value_in tail)) row e in
-      let k = row-parts number raw name labels (value_in tail) row d.1 in
-      let end = value-sound tail k.0 k.1 k.2 in
       let mark = mark-sound 123 rest inside (omega arith) m in
       let braces = blanks rest ++ 123 ∷ (h.0 ++ 125 ∷ []) in
       let whole : bare line ≡ (name ++ braces) ++ tail =
       text_is ∙ ap (λ r. name ++ r) (mark ∙ ap (λ i. blanks rest ++ 123 ∷ i) h.2) ∙ simp append_assoc in
-      let len : length (bare line) - length tail ≡ length (name ++ braces) = omega (arith, ap length whole, length-append (name ++ braces) tail) in
-      let raw_is : raw ≡ name ++ braces = ap₂ take len whole ∙ take-append_seam (name ++ braces) tail in
-      let middle : IsMiddle (braces ++ blanks tail) braces labels = inr (blanks rest, h.0, blanks tail, blanks-are rest, blanks-are tail, h.1, d.0, refl, refl) in
+      let k = differing-sound number (bare line) name (name ++ braces) tail labels row whole e in
+      let end = k.4 in
+      let middle : IsMiddle form (braces ++ blanks tail) braces labels = inr (blanks rest, h.0, blanks tail, blanks-are rest, blanks-are tail, h.1, k.2, refl, refl) in
       let written : line ≡ blanks line ++ (name ++ ((braces ++ blanks tail) ++ (k.0 ++ end.0))) =
       apart line ∙ ap (λ t. blanks line ++ t) (whole ∙ ap (λ t. (name ++ braces) ++ t) end.3) ∙ simp append_assoc in
-      subst (IsSample number line) k.3
-      (blanks line, braces ++ blanks tail, braces, end.0, refl, blanks-are line, named, middle, raw_is, value-written k.0 end.1, end.2, written)
+      subst (IsNamed form number line) k.3
+      (blanks line, braces ++ blanks tail, braces, end.0, refl, blanks-are line, named, middle, refl, value-written k.0 end.1, end.2, written)
 
-  by_labels : (inside : List ℕ) → mark_in 123 rest ≡ Some inside → (o : Option (List Pair × List ℕ)) → labels_in (length inside + 1) inside ≡ o →
-      labelled_row number (bare line) name o ≡ Some row → IsSample number line row
+  by_labels : (inside : List ℕ) → mark_in 123 rest ≡ Some inside → (o : Option (List Pair × List ℕ)) → labels_in form (length inside + 1) inside ≡ o →
+      labelled_row number (bare line) name o ≡ Some row → IsNamed form number line row
   by_labels inside m None l e = absurd cc
-  by_labels inside m (Some (labels, tail)) l e = with-labels inside m labels tail (labels-sound (length inside + 1) inside labels tail l) e
+  by_labels inside m (Some (labels, tail)) l e = with-labels inside m labels tail (labels-sound form (length inside + 1) inside labels tail l) e
 
-  by_name : (o : Option (List ℕ)) → mark_in 123 rest ≡ o → after_name number (bare line) name rest o ≡ Some row → IsSample number line row
+  by_name : (o : Option (List ℕ)) → mark_in 123 rest ≡ o → after_name form number (bare line) name rest o ≡ Some row → IsNamed form number line row
   by_name None m e = no-labels e
-  by_name (Some inside) m e = by_labels inside m (labels_in (length inside + 1) inside) refl e
+  by_name (Some inside) m e = by_labels inside m (labels_in form (length inside + 1) inside) refl e
 
-by_line : (number : ℕ) (line : List ℕ) (row : BodyRow) (o : Option (List ℕ × List ℕ)) → word_in (bare line) ≡ o → named_row number (bare line) o ≡ Some row → IsSample number line row
-by_line number line row None w e = absurd cc
-by_line number line row (Some (name, rest)) w e =
-    let k = chosen (is_metric_name name) (after_name number (bare line) name rest (mark_in 123 rest)) row e in
+bare-stops : (line : List ℕ) → blanks (bare line) ≡ []
+bare-stops line = no-blanks (bare line) (stops-drop is_blank line)
+
+by_line : (form : Form) (number : ℕ) (line : List ℕ) (row : BodyRow) (o : Option (List ℕ × List ℕ)) → word_in (bare line) ≡ o → named_row form number (bare line) o ≡ Some row → IsNamed form number line row
+by_line form number line row None w e = absurd cc
+by_line form number line row (Some (name, rest)) w e =
+    let k = chosen (is_metric_name name) (after_name form number (bare line) name rest (mark_in 123 rest)) row e in
     let found = word-sound (bare line) name rest w in
-    let text_is : bare line ≡ name ++ rest = found.0 ∙ ap (λ b. b ++ (name ++ rest)) (no-blanks (bare line) (stops-drop is_blank line)) in
-    by_name number line name rest row text_is k.0 found.2 (mark_in 123 rest) refl k.1
+    let text_is : bare line ≡ name ++ rest = found.0 ∙ ap (λ b. b ++ (name ++ rest)) (bare-stops line) in
+    by_name form number line name rest row text_is k.0 found.2 (mark_in 123 rest) refl k.1
+
+-- a metric name in braces, and what stands there behind it
+pub braced-sound : (line name rest : List ℕ) → braced_name line ≡ Some (name, rest) →
+    (inside : List ℕ) × (mark_in 123 line ≡ Some inside) × (is_quoted_metric name ≡ true) × (quote_in inside ≡ Some (name, rest))
+unfolding braced_name
+braced-sound line name rest e = by_mark (mark_in 123 line) refl e
+  where
+    by_mark : (o : Option (List ℕ)) → mark_in 123 line ≡ o → option_and_then (λ (inside : List ℕ). passing is_quoted_metric (quote_in inside)) o ≡ Some (name, rest) →
+        (inside : List ℕ) × (mark_in 123 line ≡ Some inside) × (is_quoted_metric name ≡ true) × (quote_in inside ≡ Some (name, rest))
+    by_mark None m e = absurd cc
+    by_mark (Some inside) m e = let k = passing-sound is_quoted_metric (quote_in inside) name rest e in (inside, m, k.0, k.1)
+
+module _ (inside name rest : List ℕ) (some : is_quoted_metric name ≡ true) (quote : List ℕ) (is : IsQuote quote name) (whole : inside ≡ blanks inside ++ (quote ++ rest))
+    (labels : List Pair) (tail : List ℕ) where
+  after-sound : labels_after rest ≡ Some (labels, tail) → (inner : List ℕ) × IsNameAndLabels inner name labels × (inside ≡ inner ++ 125 ∷ tail)
+  unfolding HasLabels
+  after-sound e = by_comma_or_end (mark_in 44 rest) refl e
+    where
+      by_comma_or_end : (o : Option (List ℕ)) → mark_in 44 rest ≡ o → after_label (λ next. labels_in Quoted (length next + 1) next) rest o ≡ Some (labels, tail) →
+          (inner : List ℕ) × IsNameAndLabels inner name labels × (inside ≡ inner ++ 125 ∷ tail)
+      by_comma_or_end (Some next) c e =
+          let h = labels-sound Quoted (length next + 1) next labels tail e in
+          let comma = mark-sound 44 rest next (omega arith) c in
+          let inner = blanks inside ++ (quote ++ (blanks rest ++ 44 ∷ h.0)) in
+          let spelled : inside ≡ inner ++ 125 ∷ tail =
+          whole ∙ ap (λ l. blanks inside ++ (quote ++ l)) (comma ∙ ap (λ n. blanks rest ++ 44 ∷ n) h.2) ∙ simp append_assoc in
+          (inner, (blanks inside, quote, blanks rest, blanks-are inside, blanks-are rest, some, is, inr (h.0, refl, h.1)), spelled)
+      by_comma_or_end None c e =
+          let m = mapped {B = List Pair × List ℕ} (λ (q : List ℕ). ([], q)) (mark_in 125 rest) (labels, tail) e in
+          let none : [] ≡ labels = ap (λ (q : List Pair × List ℕ). q.0) m.2 in
+          let end : m.0 ≡ tail = ap (λ (q : List Pair × List ℕ). q.1) m.2 in
+          let brace = mark-sound 125 rest m.0 (omega arith) m.1 in
+          let inner = blanks inside ++ (quote ++ blanks rest) in
+          let spelled : inside ≡ inner ++ 125 ∷ tail =
+          whole ∙ ap (λ l. blanks inside ++ (quote ++ l)) (brace ∙ ap (λ q. blanks rest ++ 125 ∷ q) end) ∙ simp append_assoc in
+          (inner, (blanks inside, quote, blanks rest, blanks-are inside, blanks-are rest, some, is, inl (sym none, refl)), spelled)
+
+module _ (number : ℕ) (line : List ℕ) (row : BodyRow) where
+  by_inner : (name inside inner tail : List ℕ) (labels : List Pair) → mark_in 123 (bare line) ≡ Some inside → IsNameAndLabels inner name labels → inside ≡ inner ++ 125 ∷ tail →
+      differing_row number (bare line) name labels tail ≡ Some row → IsBraced number line row
+  unfolding made-row EndsWith
+  by_inner name inside inner tail labels m is whole e =
+      let mark : bare line ≡ 123 ∷ inside = mark-sound 123 (bare line) inside (omega arith) m ∙ ap (λ b. b ++ 123 ∷ inside) (bare-stops line) in
+      let raw = 123 ∷ (inner ++ 125 ∷ []) in
+      let text : bare line ≡ raw ++ tail = mark ∙ ap (λ i. 123 ∷ i) whole ∙ simp append_assoc in
+      let k = differing-sound number (bare line) name raw tail labels row text e in
+      let end = k.4 in
+      let written : line ≡ blanks line ++ (raw ++ (blanks tail ++ (k.0 ++ end.0))) = apart line ∙ ap (λ t. blanks line ++ t) (text ∙ ap (λ t. raw ++ t) end.3) in
+      subst (IsBraced number line) k.3
+      (blanks line, inner, blanks tail, end.0, refl, blanks-are line, blanks-are tail, is, k.2, refl, value-written k.0 end.1, end.2, written)
+
+  by_after : (name rest : List ℕ) → braced_name (bare line) ≡ Some (name, rest) → (o : Option (List Pair × List ℕ)) → labels_after rest ≡ o → labelled_row number (bare line) name o ≡ Some row → IsBraced number line row
+  by_after name rest b None l e = absurd cc
+  by_after name rest b (Some (labels, tail)) l e =
+      let found = braced-sound (bare line) name rest b in
+      let quote = quote-sound found.0 name rest found.3 in
+      let after = after-sound found.0 name rest found.2 quote.0 quote.1 quote.2 labels tail l in
+      by_inner name found.0 after.0 tail labels found.1 after.1 after.2 e
+
+  by_braces : (o : Option (List ℕ × List ℕ)) → braced_name (bare line) ≡ o → braced_row number (bare line) o ≡ Some row → IsBraced number line row
+  by_braces None b e = absurd cc
+  by_braces (Some (name, rest)) b e = by_after name rest b (labels_after rest) refl e
 
 -- a sample line
-pub sample-sound : (number : ℕ) (line : List ℕ) (row : BodyRow) → sample_in number (bare line) ≡ Some row → IsSample number line row
+pub sample-sound : (form : Form) (number : ℕ) (line : List ℕ) (row : BodyRow) → sample_in form number (bare line) ≡ Some row → IsSample form number line row
 unfolding sample_in
-sample-sound number line row e = by_line number line row (word_in (bare line)) refl e
+sample-sound Plain number line row e = inl (by_line Plain number line row (word_in (bare line)) refl e)
+sample-sound Quoted number line row e =
+    ⊎_elim
+    (λ (n : named_row Quoted number (bare line) (word_in (bare line)) ≡ Some row). inl (by_line Quoted number line row (word_in (bare line)) refl n))
+    (λ (b : braced_row number (bare line) (braced_name (bare line)) ≡ Some row). inr (refl, by_braces number line row (braced_name (bare line)) refl b))
+    (either (named_row Quoted number (bare line) (word_in (bare line))) (braced_row number (bare line) (braced_name (bare line))) row e)
 
 -- a line that is skipped
 pub skipped-sound : (line : List ℕ) → is_skipped line ≡ true → IsSkipped line
