@@ -36,10 +36,13 @@ named-fault Faulty o e = ap named_label e
 named-fault NoMemory o e = tt
 
 -- a label by its name
+bare-found : (bs name rest : List ℕ) → word_in bs ≡ Some (name, rest) → is_exposed_name name ≡ true → bare_name bs ≡ Some (name, rest)
+bare-found bs name rest word e = ap (passing is_exposed_name) word ∙ rw e refl
+
 pub bare-label : (form : Form) (bs name rest : List ℕ) → word_in bs ≡ Some (name, rest) → is_exposed_name name ≡ true → label_in form bs ≡ label_behind name rest
 unfolding label_in name_in
-bare-label Plain bs name rest word e = ap named_label (ap (passing is_exposed_name) word ∙ rw e refl)
-bare-label Quoted bs name rest word e = ap (λ o. named_label (or_else o (quoted_name bs))) (ap (passing is_exposed_name) word ∙ rw e refl)
+bare-label Plain bs name rest word e = ap named_label (bare-found bs name rest word e)
+bare-label Quoted bs name rest word e = ap (λ o. named_label (or_else o (quoted_name bs))) (bare-found bs name rest word e)
 
 pub plain-no_label : (bs : List ℕ) → bare_name bs ≡ None → label_in Plain bs ≡ None
 unfolding label_in name_in

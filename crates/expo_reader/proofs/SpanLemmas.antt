@@ -12,10 +12,10 @@ use Rattle.expo_reader.specs.Bodies.{Body, reading, joined, row_list, rows_from,
 use Rattle.expo_reader.specs.Faults.{FaultIs}
 use Rattle.label_set.specs.declared.forms.Form.{Form}
 use Rattle.label_set.specs.declared.forms.Form.TheVariants.{Plain, Quoted}
-use Rattle.expo_reader.specs.Forms.{after_label, after_name, braced_row, labelled_row, labels_after, labels_in, named_row, row_of, sample_in, value_in}
+use Rattle.expo_reader.specs.Forms.{after_label, after_name, braced_row, differing_row, labelled_row, labels_after, labels_in, named_row, row_of, sample_in, value_in}
 use Rattle.expo_reader.specs.Grammar.{IsBraced, IsNamed}
 use Rattle.expo_reader.specs.Names.{or_else, braced_name}
-use Rattle.expo_reader.specs.Spans.{made_row, spanned_row, row_at, IsInside, IsTail, HasParts, row_seen, rows_seen, IsWithin, IsWritten, span_row, span_list}
+use Rattle.expo_reader.specs.Spans.{braced_labels, found_labels, word_of, made_row, spanned_row, row_at, IsInside, IsTail, HasParts, row_seen, rows_seen, IsWithin, IsWritten, span_row, span_list}
 use Rattle.expo_reader.specs.Texts.{bare, mark_in, word_in}
 use Rattle.expo_reader.specs.declared.faults.Fault.{Fault}
 use Rattle.expo_reader.specs.declared.faults.Fault.TheVariants.{Faulty, NoMemory}
@@ -135,6 +135,27 @@ module _ (form : Form) (number : ℕ) (line name rest inside : List ℕ) (word :
   pub inside-fault : (f : Fault) → FaultIs f (labels_in form (length inside + 1) inside) → FaultIs f (sample_in form number line)
   inside-fault f e =
       subst (λ o. FaultIs f o) (sym inside-row) (fault-again f (labels_in form (length inside + 1) inside) (λ o. labelled_row number line name o) refl e)
+
+  pub inside-said : (labels now : List Pair) (tail : List ℕ) → labels_in form (length inside + 1) inside ≡ Some (labels, tail) → now ≡ labels → (r : Result LineSpan Fault) →
+      MatchResult r (λ s. differing_row number line name now tail ≡ Some (spanned_row number line name now s)) (λ f. FaultIs f (differing_row number line name now tail)) →
+      MatchResult r (λ s. sample_in form number line ≡ Some (row_at number line s)) (λ f. FaultIs f (sample_in form number line))
+  inside-said labels now tail found items r h =
+      said-spanned form number line name now (differing_row number line name now tail)
+      (inside-row ∙ ap (labelled_row number line name) found ∙ ap (λ ls. differing_row number line name ls tail) (sym items)) r h
+
+-- the row of a line that begins with braces
+module _ (number : ℕ) (line name rest tail : List ℕ) (labels now : List Pair) (named : braced_name line ≡ Some (name, rest)) (found : labels_after rest ≡ Some (labels, tail)) (items : now ≡ labels) where
+  braced-is : braced_row number line (braced_name line) ≡ differing_row number line name now tail
+  braced-is = ap (braced_row number line) named ∙ ap (labelled_row number line name) found ∙ ap (λ ls. differing_row number line name ls tail) (sym items)
+
+  pub braced-said : (r : Result LineSpan Fault) →
+      MatchResult r (λ s. differing_row number line name now tail ≡ Some (spanned_row number line name now s)) (λ f. FaultIs f (differing_row number line name now tail)) →
+      MatchResult r (λ s. braced_row number line (braced_name line) ≡ Some (spanned_row number line (word_of (braced_name line)) (braced_labels (braced_name line)) s))
+      (λ f. FaultIs f (braced_row number line (braced_name line)))
+  braced-said (Ok s) h =
+      let labels_are : now ≡ braced_labels (braced_name line) = items ∙ sym (ap braced_labels named ∙ ap found_labels found) in
+      braced-is ∙ h ∙ ap₂ (λ n ls. Some (spanned_row number line n ls s)) (sym (ap word_of named)) labels_are
+  braced-said (Err f) h = subst (λ o. FaultIs f o) (sym braced-is) h
 
 -- the row of a line in its body
 text-at : (body : List ℕ) (place end start : ℕ) → start ≤ end → take (end - start) (drop (place + start) body) ≡ drop start (take end (drop place body))

@@ -118,7 +118,7 @@ fn push_valued<'b>(
     rest: &'b [u8],
     labels: &mut Vec<LentLabel<'b>>,
 ) -> Result<&'b [u8], Fault>
-    ensures label { let said = spec.label_behind name rest.now in MatchResult result (λ after. (p : Pair) × (said ≡ Some (p, after.now)) × (labels.new.items ≡ labels.old.items ++ p ∷ [])) (λ f. FaultIs f said) }
+    ensures label { let said = spec.label_behind name.entry rest.now in MatchResult result (λ after. (p : Pair) × (said ≡ Some (p, after.now)) × (labels.new.items ≡ labels.old.items ++ p ∷ [])) (λ f. FaultIs f said) }
     ensures shorter { IfOk result (λ after. length after.now < length rest.now) }
 {
     let Some(quoted) = mark_in(b'=', rest) else {
