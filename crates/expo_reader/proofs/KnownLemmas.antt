@@ -17,12 +17,13 @@ use Rattle.expo_reader.specs.Spans.{made_row, row_at, HasParts}
 use Rattle.expo_reader.specs.Texts.{bare}
 use Rattle.expo_reader.specs.declared.rows.BodyRow.{BodyRow}
 use Rattle.expo_reader.specs.declared.spans.LineSpan.{LineSpan}
-use Rattle.expo_reader.proofs.CompleteLemmas.{sample-found}
+use Rattle.expo_reader.proofs.RowFoundLemmas.{sample-found}
 use Rattle.expo_reader.proofs.FormLemmas.{plain_reads_quoted}
 use Rattle.expo_reader.proofs.LawLemmas.{rows-lines}
 use Rattle.expo_reader.proofs.RawLemmas.{IsSampled, sampled}
 use Rattle.expo_reader.proofs.SeenLemmas.{spanned-said}
-use Rattle.expo_reader.proofs.SoundLemmas.{blanks, blanks-are, EndsWith, value-sound}
+use Rattle.expo_reader.proofs.SoundLemmas.{blanks, blanks-are}
+use Rattle.expo_reader.proofs.RowSoundLemmas.{EndsWith, value-sound}
 
 -- it is the raw text of a row that some line is written as
 abbrev IsWritten : Form → List ℕ → Type 0

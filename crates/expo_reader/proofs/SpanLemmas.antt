@@ -26,7 +26,8 @@ use Rattle.expo_reader.proofs.LineLemmas.{rows-line}
 use Rattle.expo_reader.proofs.FrontLemmas.{Stops, stops-drop}
 use Rattle.expo_reader.proofs.LawLemmas.{rows-lines}
 use Rattle.expo_reader.proofs.RawLemmas.{IsSampled, sampled}
-use Rattle.expo_reader.proofs.SoundLemmas.{blanks, word-sound, mark-sound, quote-sound, braced-sound, labels-sound, HasLabels}
+use Rattle.expo_reader.proofs.SoundLemmas.{blanks, word-sound, mark-sound, quote-sound, labels-sound, HasLabels}
+use Rattle.expo_reader.proofs.RowSoundLemmas.{braced-sound}
 use Rattle.expo_reader.proofs.CompleteLemmas.{word-no_brace}
 use Rattle.expo_reader.proofs.SeenLemmas.{spanned-said}
 use Rattle.expo_reader.proofs.NameLemmas.{metric_name-utf8}

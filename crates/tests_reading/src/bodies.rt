@@ -1,7 +1,8 @@
 //! Bodies in, rows out. Which lines are of the format, and which are faulty, the cases show.
 
 use expo_reader::{
-    BodyCause, BodyReader, BodyRow, Form, LikeBody, ReadBody, SampleRow, Unread, read_body, read_like,
+    BodyCause, BodyReader, BodyRow, Form, LikeBody, ReadBody, SampleRow, Unread, read_body,
+    read_like,
 };
 use label_set::{Blob, NoMemory};
 use std::alloc::{AllocError, Global};

@@ -58,11 +58,7 @@ fn shown_pieces(alloc: Global, form: Form, text: &[u8], cut: usize) -> Result<St
 
 /// Lines, with what they show where names may stand in quotes, and where not.
 const LINES: [(&[u8], &str, &str); 30] = [
-    (
-        b"{\"a.b\",\"c.d\"=\"x\"} 1",
-        "[a.b][c.d][x]1 17 ",
-        "-",
-    ),
+    (b"{\"a.b\",\"c.d\"=\"x\"} 1", "[a.b][c.d][x]1 17 ", "-"),
     (b"x{\"c.d\"=\"y\"} 1", "[x][c.d][y]1 12 ", "-"),
     (b"{\"a.b\",} 1", "[a.b]1 8 ", "-"),
     (b"{} 1", "-", "-"),
@@ -79,7 +75,11 @@ const LINES: [(&[u8], &str, &str); 30] = [
     (b"{\"a\",\"__name__\"=\"x\"} 1", "-", "-"),
     (b"x{\"__name__\"=\"x\"} 1", "-", "-"),
     (b"x{\"\"=\"x\"} 1", "-", "-"),
-    (b"{\"\\\\\\\"\\n\\q\",\"\\\\\"=\"\\n\"} 1", "[\\\"\n\\q][\\][\n]1 22 ", "-"),
+    (
+        b"{\"\\\\\\\"\\n\\q\",\"\\\\\"=\"\\n\"} 1",
+        "[\\\"\n\\q][\\][\n]1 22 ",
+        "-",
+    ),
     (b"x{\"a\\\\b\"=\"1\",\"a\\\\b\"=\"2\"} 1", "-", "-"),
     (b"x{\"\\\\q\"=\"1\",\"\\q\"=\"2\"} 1", "-", "-"),
     (b"{\"\xff\"} 1", "-", "-"),
@@ -97,8 +97,16 @@ const LINES: [(&[u8], &str, &str); 30] = [
 #[test]
 fn names_in_quotes_are_read(rt: HostRuntime) -> Result<(), Fail> {
     for (line, quoted, plain) in LINES {
-        assert_eq!(rt; shown_text(rt.alloc(), Form::Quoted, line)?.as_str(), quoted, "{quoted}");
-        assert_eq!(rt; shown_text(rt.alloc(), Form::Plain, line)?.as_str(), plain, "{quoted}");
+        assert_eq!(rt;
+            shown_text(rt.alloc(), Form::Quoted, line)?.as_str(),
+            quoted,
+            "{quoted}"
+        );
+        assert_eq!(rt;
+            shown_text(rt.alloc(), Form::Plain, line)?.as_str(),
+            plain,
+            "{quoted}"
+        );
     }
     Ok(())
 }
