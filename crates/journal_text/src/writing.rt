@@ -180,11 +180,7 @@ pub fn write_journal(alloc: Global, journal: &Journal) -> Result<Blob, NoMemory>
 }
 
 /// The text of a journal, of that version. It is read as that journal again where the version has each of its events.
-pub fn write_version(
-    alloc: Global,
-    version: Version,
-    journal: &Journal,
-) -> Result<Blob, NoMemory>
+pub fn write_version(alloc: Global, version: Version, journal: &Journal) -> Result<Blob, NoMemory>
     ensures { IfOk result (λ text. text ≡ journal_text version journal.now.events) }
 {
     let mut text = Vec::new(alloc);
