@@ -1,6 +1,8 @@
-//! Journals, and the one text of a journal.
+//! Journals, and the text of a journal, one a version.
 
-use journal_text::{Event, Journal, ScriptCause, ScriptError, read_journal, write_journal};
+use journal_text::{
+    Event, Journal, ScriptCause, ScriptError, Version, read_journal, write_journal, write_version,
+};
 use outside::Reply;
 use std::alloc::{AllocError, Global};
 use std::process::Abort;
@@ -25,12 +27,12 @@ fn fault_of(rt: &impl Abort, alloc: Global, text: &[u8]) -> Option<(u64, ScriptC
     }
 }
 
-/// Ends the test where a journal is not written as its text was read.
-fn is_written_as_read(rt: &impl Abort, alloc: Global, script: &[u8]) {
+/// Ends the test where a journal is not written, in a version, as its text was read.
+fn is_written_as_read(rt: &impl Abort, alloc: Global, version: Version, script: &[u8]) {
     let Ok(journal) = read_journal(alloc, script) else {
         panic!(rt; "not read");
     };
-    let Ok(text) = write_journal(alloc, &journal) else {
+    let Ok(text) = write_version(alloc, version, &journal) else {
         panic!(rt; "not written");
     };
     assert!(rt; text.as_slice() == script);
@@ -143,8 +145,15 @@ fn events_are_read_and_written(rt: HostRuntime) -> Result<(), Fail> {
     }
     {
         for script in [ONE_LOAD, EACH_KIND, b"scrape-journal 1\n"] {
-            is_written_as_read(&rt, rt.alloc(), script);
+            is_written_as_read(&rt, rt.alloc(), Version::One, script);
         }
+        let quoted = b"scrape-journal 2\nquoted 1 2 200 4\nx 1\n\nbody 1 2 200 0\n\n";
+        is_written_as_read(&rt, rt.alloc(), Version::Two, quoted);
+        let Ok(journal) = read_journal(rt.alloc(), b"scrape-journal 1\nhalt 5\n") else {
+            panic!(rt; "not read");
+        };
+        let text = write_journal(rt.alloc(), &journal)?;
+        assert!(rt; text.as_slice() == b"scrape-journal 2\nhalt 5\n");
     }
     {
         let mut journal = Journal::new(rt.alloc());

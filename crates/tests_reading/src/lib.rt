@@ -31,7 +31,7 @@
 //! | `command_in`, `is_name` | `control::lines_are_commands` |
 //! | `message_of` | `control::refusals_are_told` |
 //! | `faults::{fault_word, fault_place, push_fault}` | `control::refusals_are_told`; `fields` |
-//! | `read_journal`, `write_journal` | `journals`; `broken` |
+//! | `read_journal`, `write_journal`, `write_version`, `Version` | `journals`; `broken` |
 //! | `read_front` | `scrape_cli`'s test `cuts::script_cut_at_each_place`; `scrape_cases::cuts` |
 //! | `Journal::{new, reserve, push, events, into_events, len, is_empty, now}` | `journals::events_are_read_and_written` |
 //! | `texts_tell_apart` | contract alone |
