@@ -95,7 +95,7 @@ fn of_page<L: Ledger>(
     ensures at_least { steps.old ≤ steps.new }
 {
     let bytes = Blob::from_slice(alloc, body_of(reply))?;
-    match read_form(alloc, form_of(reply), bytes) {
+    match read_form(alloc, bytes, form_of(reply)) {
         Ok(body) => of_rows(alloc, rules, metric, target, &body, steps),
         Err(unread) => match unread.cause {
             BodyCause::Line(line) => Ok(failed(ScrapeFault::Line(line))),

@@ -38,7 +38,7 @@ fn shown(alloc: Global, body: &ReadBody) -> Result<String, NoMemory> {
 
 /// What a text shows that is read in a form; `-` where it is faulty.
 fn shown_text(alloc: Global, form: Form, text: &[u8]) -> Result<String, NoMemory> {
-    match read_form(alloc, form, Blob::from_slice(alloc, text)?) {
+    match read_form(alloc, Blob::from_slice(alloc, text)?, form) {
         Ok(body) => shown(alloc, &body),
         Err(_) => Ok(String::from_str(alloc, "-")?),
     }
@@ -130,7 +130,7 @@ fn shown_alike(
     (form, text): (Form, &str),
     (other, like): (Form, &str),
 ) -> Result<String, NoMemory> {
-    let Ok(like) = read_form(alloc, other, Blob::from_slice(alloc, like.as_bytes())?) else {
+    let Ok(like) = read_form(alloc, Blob::from_slice(alloc, like.as_bytes())?, other) else {
         return Err(NoMemory);
     };
     let bytes = Blob::from_slice(alloc, text.as_bytes())?;
@@ -171,7 +171,7 @@ fn texts_of_one_form_tell_of_the_other(rt: HostRuntime) -> Result<(), Fail> {
 fn a_body_knows_its_form(rt: HostRuntime) -> Result<(), Fail> {
     for form in [Form::Plain, Form::Quoted] {
         let bytes = Blob::from_slice(rt.alloc(), b"x 1\n")?;
-        let Ok(body) = read_form(rt.alloc(), form, bytes) else {
+        let Ok(body) = read_form(rt.alloc(), bytes, form) else {
             panic!(rt; "the line is of both forms");
         };
         assert_eq!(rt; body.form(), form);
