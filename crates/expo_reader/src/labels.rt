@@ -112,6 +112,7 @@ fn bare_text(name: &[u8]) -> LentText<'_>
 }
 
 /// Adds the label of a name, with the value that stands behind it, and gives what follows that.
+#[inline(always)]
 fn push_valued<'b>(
     alloc: Global,
     name: LentText<'b>,
@@ -135,6 +136,7 @@ fn push_valued<'b>(
 }
 
 /// Adds the label behind the blanks whose name stands in quotes, and gives what follows it.
+#[inline(never)]
 fn push_quoted<'b>(
     alloc: Global,
     text: &'b [u8],
@@ -150,6 +152,7 @@ fn push_quoted<'b>(
 }
 
 /// Adds the label behind the blanks, and gives what follows it.
+#[inline(always)]
 fn push_label<'b>(
     alloc: Global,
     form: Form,
@@ -169,6 +172,7 @@ fn push_label<'b>(
 }
 
 /// Adds the labels behind a `{`, and gives what follows the `}` behind them.
+#[inline(always)]
 pub fn labels_in<'b>(
     alloc: Global,
     form: Form,

@@ -10,6 +10,7 @@ use crate::texts::{LentText, lent_text, plain_text};
 use std::alloc::Global;
 
 /// The text in quotes behind the blanks, with its escapes resolved, and what follows it. Most are gone over once.
+#[inline(always)]
 #[tactic(auto, unfolding(crate::specs::Names::quote_in))]
 pub fn quote_in<'b>(alloc: Global, text: &'b [u8]) -> Result<(LentText<'b>, &'b [u8]), Fault>
     ensures text { MatchResult result (λ r. spec.quote_in text.now ≡ Some (r.0, r.1.now)) (λ f. FaultIs f (spec.quote_in text.now)) }

@@ -93,6 +93,7 @@ fn place_of(line: &[u8], word: &[u8], rest: &[u8]) -> usize
 }
 
 /// Where the parts of a line stand whose labels are these, with what follows them.
+#[inline(always)]
 fn labelled_parts(
     alloc: Global,
     line: &[u8],
@@ -112,6 +113,7 @@ fn labelled_parts(
 }
 
 /// Where the parts of a line stand that begins with braces and has its name in quotes. The room for labels is used again.
+#[inline(never)]
 fn braced_parts<'b>(
     alloc: Global,
     line: &'b [u8],
