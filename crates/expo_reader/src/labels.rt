@@ -82,6 +82,7 @@ fn is_metric_label(name: &[u8]) -> bool
 }
 
 /// The bare name of a label in front, and what follows it. Most are gone over once.
+#[inline(always)]
 fn exposed_in(text: &[u8]) -> Option<Part<'_>>
     ensures part { IfSome result (λ p. word_in text.now ≡ Some (p.bytes.now, p.rest.now)) }
     ensures name { IfSome result (λ p. IsTrue (named.is_exposed_name p.bytes.now)) }
