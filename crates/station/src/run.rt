@@ -259,8 +259,13 @@ fn run_with<
     take_back(shelf);
     take_back(err);
     let came = both(crew.ended, ticked.done);
-    let Closed { whole, core, marks } =
-        close_run(lock, came, called.pass, ticked.pass, crew.passes);
+    let Closed { whole, core, marks } = close_run(
+        lock,
+        came,
+        called.pass,
+        ticked.pass,
+        crew.passes,
+    );
     Ran {
         end: end_of(whole, called.end),
         core,
