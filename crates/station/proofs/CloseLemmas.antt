@@ -1,6 +1,6 @@
 -- The passes of a run, when it opens and when it closes, and what they tell then.
 use Rattle.std.proofs.Common.{◌≡◌, ◌≢◌, ℕ, zero, suc, ◌+◌, ◌<◌, List, [], ◌∷◌, ◌++◌, length, map, replicate, Bool, true, false, refl, sym, ap, ◌∙◌, subst, arith, append_assoc}
-use Rattle.std.specs.Prelude.{remove, slice_index_or}
+use Rattle.std.specs.Prelude.{◌-◌, remove, slice_index_or}
 use mathlib.Core.List.{IsPrefix}
 use Rattle.journal_text.specs.declared.events.Event.{Event}
 use Rattle.outside.specs.Clocks.{ClockSeen}
@@ -32,6 +32,9 @@ whole_end false end h = absurd (h refl)
 abbrev later_parts : List (Part Entry) → List (Part Entry)
 later_parts [] = []
 later_parts (x ∷ xs) = xs
+
+fewer : (count : ℕ) → (2 + count) - 1 ≡ suc count
+fewer count = omega arith
 
 module _ {T : Type 0} (lock : TurnLock T Entry) where
   -- passes of the lock's seats are in order
@@ -70,7 +73,7 @@ module _ {T : Type 0} (lock : TurnLock T Entry) where
       let b_is : b ≡ q = second ∙ ap (λ (xs : List (Pass T Entry)). slice_index_or xs 0 b) one in
       let is : workers ≡ ps = two ∙ ap (λ (xs : List (Pass T Entry)). remove xs 0) one in
       let next = tail_order 0 p (q ∷ ps) order in
-      let more = ap later_parts parts in
+      let more = ap later_parts parts ∙ ap (λ (k : ℕ). replicate k (part log [])) (fewer count) in
       subst (λ (t : Pass T Entry × Pass T Entry × List (Pass T Entry)). IsOpened log t.0 t.1 t.2) (λ i. (sym first i, sym b_is i, sym is i)) (record {
         caller_own = head_own 0 p (q ∷ ps) order;
         caller_has = ap (λ (xs : List (Part Entry)). own_in xs) parts;
