@@ -40,7 +40,8 @@ IsUnloaded _ text = ⊥
 
 -- the file, read as it is, is refused as a first load
 abbrev pub IsRefused : ConfFault → List ℕ → Use ShelfSeen → Type 0
-IsRefused fault file shelf = (text : List ℕ) × HasFile shelf.before file text × (length text ≤ most_text_bytes) × (loaded [] text ≡ Err fault) × IsUntouched shelf
+IsRefused fault file shelf =
+    (text : List ℕ) × HasFile shelf.before file text × (length text ≤ most_text_bytes) × (loaded [] text ≡ Err fault) × IsUntouched shelf
 
 -- the run did not begin, for this reason
 abbrev pub IsUnstarted : LiveEnd → List ℕ → Use ShelfSeen → Type 0

@@ -22,7 +22,8 @@ pub fn write_run<R: Sink, O: Sink>(
 ) -> Result<(), PrintError>
     ensures trail { OnOk result (Took (journal_text core.now) (used (R.seen trail.old) (R.seen trail.new))) }
     ensures book { OnOk result (Took (printed kept (book_of core.now)) (used (O.seen out.old) (O.seen out.new))) }
-    ensures cut { IsErrOf result PrintError.WriteFault → WroteFront kept core.now (used (R.seen trail.old) (R.seen trail.new)) (used (O.seen out.old) (O.seen out.new)) }
+    ensures cut { IsErrOf result PrintError.WriteFault →
+        WroteFront kept core.now (used (R.seen trail.old) (R.seen trail.new)) (used (O.seen out.old) (O.seen out.new)) }
     ensures trail_kept { IsErrOf result PrintError.NoMemory → IsUntouched (used (R.seen trail.old) (R.seen trail.new)) }
     ensures book_kept { IsErrOf result PrintError.NoMemory → IsUntouched (used (O.seen out.old) (O.seen out.new)) }
 {

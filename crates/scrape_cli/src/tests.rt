@@ -249,7 +249,7 @@ fn push_number(alloc: Global, text: &mut Vec<u8>, word: &str, number: u64) -> Re
 }
 
 /// The summary of a script of so many targets and scrapes, by counting in its journal, with the digest of its book. A page has 90 samples,
-/// of which each next one lacks ten; the five reports of a scrape come each time; at the end each of the last series is marked. Rules are run for each
+/// of which each next one lacks ten; the reports of a scrape come each time; at the end each of the last series is marked. Rules are run for each
 /// target, and for each series that the scrape before lacked: as often as one is marked.
 fn summary_of(alloc: Global, targets: u64, scrapes: u64, book: &[u8]) -> Result<Vec<u8>, Fail> {
     let all = targets.saturating_mul(scrapes);

@@ -68,7 +68,8 @@ fn replay<S: Shelf, O: Sink>(
     out: &mut O,
 ) -> Result<(), Refusal>
     ensures { WorkEnds result
-        (work (Some (File (asking flags.kept script.now (Replay flags.cut)))) (used (S.seen shelf.old) (S.seen shelf.new)) (used (O.seen out.old) (O.seen out.new))) }
+        (work (Some (File (asking flags.kept script.now (Replay flags.cut))))
+        (used (S.seen shelf.old) (S.seen shelf.new)) (used (O.seen out.old) (O.seen out.new))) }
 {
     let Flags { cut, kept } = flags;
     let bytes = match read_file(means.alloc, &Command::Replay { cut }, script, shelf) {

@@ -3,6 +3,7 @@ use Rattle.std.proofs.Common.{◌≡◌, ℕ, ℤ, pos, zero, suc, ◌+◌, arit
 use Rattle.std.specs.List.{filter}
 use Rattle.std.proofs.lemmas.Bool.{true≢false}
 use Rattle.std.proofs.lemmas.List.{map-append}
+use Rattle.label_set.specs.declared.texts.Pair.{Pair}
 use Rattle.journal_text.specs.declared.events.Event.{Event}
 use Rattle.journal_text.specs.Lines.{number}
 use Rattle.sample_rows.specs.Outcomes.{forced}
@@ -11,8 +12,10 @@ use Rattle.report_samples.specs.declared.closing.Closing.{Closing}
 use Rattle.outside.specs.declared.replies.Reply.{Reply}
 use Rattle.report_samples.specs.declared.entries.Entry.{Entry}
 use Rattle.report_samples.specs.declared.scrape_reports.ExtraCounts.{ExtraCounts}
-use Rattle.report_samples.specs.Markers.{stale_entry, report_markers}
-use Rattle.report_samples.specs.Reports.{report_entries}
+use Rattle.report_samples.specs.declared.scrape_reports.Report.{Report}
+use Rattle.report_samples.specs.declared.scrape_reports.ReportCounts.{ReportCounts}
+use Rattle.report_samples.specs.Markers.{stale_entry, report_marker, report_markers}
+use Rattle.report_samples.specs.Reports.{report_entries, report_entry, report_order, report_value}
 use Rattle.end_of_run.specs.Endings.{ending_entries, marker_moment}
 use Rattle.series_cache.specs.Sets.{gone}
 use Rattle.scrape_loop.specs.Texts.{no_texts}
@@ -45,14 +48,21 @@ remap : {A : Type 0} (n : ℕ) (f g : A → Entry) (xs : List A) → ((x : A) �
 remap n f g [] h = refl
 remap n f g (x ∷ xs) h = ap₂ ◌∷◌ (h x) (remap n f g xs h)
 
+reports_numbered : (n life : ℕ) (target : List Pair) (m : ℤ) (c : ReportCounts) → map (renumbered n) (report_entries life target m c) ≡ report_entries n target m c
+reports_numbered n life target m c =
+    remap n (λ (r : Report). report_entry life target m r (report_value c r)) (λ (r : Report). report_entry n target m r (report_value c r)) (report_order (is_some c.extra)) (λ r. refl)
+
+markers_numbered : (n life : ℕ) (target : List Pair) (extra : Bool) (m : ℤ) → map (renumbered n) (report_markers life target extra m) ≡ report_markers n target extra m
+markers_numbered n life target extra m = remap n (report_marker life target m) (report_marker n target m) (report_order extra) (λ r. refl)
+
 scrape_numbered : (n : ℕ) (st : LifeView) (extra : Option ExtraCounts) (s : Scrape) (m took : ℤ) →
     map (renumbered n) (entries_of st extra s m took) ≡ entries_of (record st { life = n }) extra s m took
 scrape_numbered n st extra s m took =
     map-append (renumbered n) (map (sample_entry st.life m) (samples_of s)) _
     ∙ ap₂ ◌++◌ (remap n (sample_entry st.life m) (sample_entry n m) (samples_of s) (λ r. refl))
     (map-append (renumbered n) (map (stale_entry st.life m) (gone st.tracked (tracked_sets s))) (report_entries st.life st.target m (counts_of st.known extra s took))
-    ∙ ap (λ zs. zs ++ report_entries n st.target m (counts_of st.known extra s took))
-    (remap n (stale_entry st.life m) (stale_entry n m) (gone st.tracked (tracked_sets s)) (λ y. refl)))
+    ∙ ap₂ ◌++◌ (remap n (stale_entry st.life m) (stale_entry n m) (gone st.tracked (tracked_sets s)) (λ y. refl))
+    (reports_numbered n st.life st.target m (counts_of st.known extra s took)))
 
 ending_numbered : (n : ℕ) (c : Closing) (b : Bool) →
     map (renumbered n) (cond b (map (stale_entry c.life (marker_moment c)) c.tracked ++ report_markers c.life c.target c.extra (marker_moment c)) [])
@@ -60,7 +70,7 @@ ending_numbered : (n : ℕ) (c : Closing) (b : Bool) →
 ending_numbered n c false = refl
 ending_numbered n c true =
     map-append (renumbered n) (map (stale_entry c.life (marker_moment c)) c.tracked) (report_markers c.life c.target c.extra (marker_moment c))
-    ∙ ap (λ zs. zs ++ report_markers n c.target c.extra (marker_moment c)) (remap n (stale_entry c.life (marker_moment c)) (stale_entry n (marker_moment c)) c.tracked (λ y. refl))
+    ∙ ap₂ ◌++◌ (remap n (stale_entry c.life (marker_moment c)) (stale_entry n (marker_moment c)) c.tracked (λ y. refl)) (markers_numbered n c.life c.target c.extra (marker_moment c))
 
 scan_numbered : (n : ℕ) (m : ℤ) (over : Bool) (l : Life) (o : Option ℤ) → map (renumbered n) (scan_entries m over l o) ≡ scan_entries m over (numbered n l) o
 scan_numbered n m over l None = by (forces (number m) over l)

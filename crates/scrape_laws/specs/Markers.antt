@@ -79,7 +79,8 @@ is_report_marker kind.ReportStale = true
 abbrev pub is_report_marker_of : ℕ → Entry → Bool
 is_report_marker_of n e = is_report_marker e.kind && (e.life == n)
 
--- in the book of a journal the report markers of each life are those of its reports at its ending, where that was taken and a scrape of the life counted, and no others
+-- in the book of a journal the report markers of each life are those of its reports at its ending, where that was taken and a scrape of the life counted,
+-- and no others
 abbrev pub ReportMarkerLaw : List Event → Type 0
 ReportMarkerLaw journal = (n : ℕ) →
     filter (is_report_marker_of n) (book_of journal) ≡ ending_reports n (slice_get (world_of journal).lives n) (scrapes_of n journal)

@@ -72,7 +72,8 @@ NothingLaw w e = (n : ℕ) (l : Life) → slice_get w.lives n ≡ Some l → Agr
 
 -- in a journal a ticket is a life's own just where its scrape in flight has it
 unfoldable pub TicketLaw : List Event → Type 0
-TicketLaw journal = (k n : ℕ) (l : Life) → slice_get (world_of journal).lives n ≡ Some l → is_own_ticket (world_of journal) k n l ≡ is_flight k l.schedule.flight
+TicketLaw journal =
+    (k n : ℕ) (l : Life) → slice_get (world_of journal).lives n ≡ Some l → is_own_ticket (world_of journal) k n l ≡ is_flight k l.schedule.flight
 
 -- an entry is of life n
 abbrev pub is_entry_of : ℕ → Entry → Bool

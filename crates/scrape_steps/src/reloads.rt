@@ -230,7 +230,8 @@ pub fn held_of(
     lives: &Lives<'_>,
 ) -> Result<Seats, NoMemory>
     requires { length fates.now ≡ length (concerned.concerned lives.now) }
-    ensures { IfOk result (λ s. (moment : ℤ) → plan.IsHeld s names.now (plan.after_each moment (concerned.all_fates (concerned.concerns lives.now.moment) fates.now lives.now.all) lives.now.all)) }
+    ensures { IfOk result (λ s. (moment : ℤ) →
+        plan.IsHeld s names.now (plan.after_each moment (concerned.all_fates (concerned.concerns lives.now.moment) fates.now lives.now.all) lives.now.all)) }
 {
     let mut held = Seats::new(alloc);
     let mut place: usize = 0;
@@ -290,7 +291,9 @@ fn push_born(
     place: Option<usize>,
 ) -> Result<(), NoMemory>
     requires { first < 2 ^ 32 }
-    ensures { OnOk result (lives.new.items ≡ lives.old.items ++ spec.born_all (number moment) (first + length lives.old.items) job.now (filter (λ (t : Target). not (plan.is_seated held.now t.identity place)) job.now.kept)) }
+    ensures { OnOk result (lives.new.items ≡ lives.old.items
+        ++ spec.born_all (number moment) (first + length lives.old.items) job.now
+        (filter (λ (t : Target). not (plan.is_seated held.now t.identity place)) job.now.kept)) }
 {
     for target in job.kept.as_slice() {
         if !is_held(held, place, target)? {
