@@ -12,14 +12,14 @@ new-requires-2-clause-own g c = subst (All (λ (e : Entry). e.seat ≡ 0)) (sym 
 
 pub returns-clause-ticker : goal.returns-clause-ticker
 returns-clause-ticker g c =
-    let o = opened c.in-Ok-2.made.0 (begun_with c.args.core) c.args.count c.in-Ok-2.made.1.items c.remove-caller.new.self.items c.remove-ticker.new.self.items c.remove-caller.result c.remove-ticker.result
-    c.in-Ok-2.ensures.all.0 c.in-Ok-2.ensures.count (c.in-Ok-2.ensures.seen ∙ ap (λ (l : List Entry). fresh_parts l (2 + c.args.count)) c.in-Ok.ensures.begun)
+    let o = opened c.in-Ok-new.made.0 (begun_with c.args.core) c.args.count c.in-Ok-new.made.1.items c.remove-caller.new.self.items c.remove-ticker.new.self.items c.remove-caller.result c.remove-ticker.result
+    c.in-Ok-new.ensures.all.0 c.in-Ok-new.ensures.count (c.in-Ok-new.ensures.seen ∙ ap (λ (l : List Entry). fresh_parts l (2 + c.args.count)) c.in-Ok.ensures.begun)
     c.remove-caller.ensures.value c.remove-caller.ensures.items c.remove-ticker.ensures.value c.remove-ticker.ensures.items in
     (o.ticker_own, o.ticker_has)
 
 pub returns-clause-workers : goal.returns-clause-workers
 returns-clause-workers g c =
-    let o = opened c.in-Ok-2.made.0 (begun_with c.args.core) c.args.count c.in-Ok-2.made.1.items c.remove-caller.new.self.items c.remove-ticker.new.self.items c.remove-caller.result c.remove-ticker.result
-    c.in-Ok-2.ensures.all.0 c.in-Ok-2.ensures.count (c.in-Ok-2.ensures.seen ∙ ap (λ (l : List Entry). fresh_parts l (2 + c.args.count)) c.in-Ok.ensures.begun)
+    let o = opened c.in-Ok-new.made.0 (begun_with c.args.core) c.args.count c.in-Ok-new.made.1.items c.remove-caller.new.self.items c.remove-ticker.new.self.items c.remove-caller.result c.remove-ticker.result
+    c.in-Ok-new.ensures.all.0 c.in-Ok-new.ensures.count (c.in-Ok-new.ensures.seen ∙ ap (λ (l : List Entry). fresh_parts l (2 + c.args.count)) c.in-Ok.ensures.begun)
     c.remove-caller.ensures.value c.remove-caller.ensures.items c.remove-ticker.ensures.value c.remove-ticker.ensures.items in
     o.workers_own
