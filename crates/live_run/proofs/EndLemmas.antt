@@ -5,6 +5,7 @@ use Rattle.book_text.specs.Texts.{printed}
 use Rattle.journal_text.specs.declared.events.Event.{Event}
 use Rattle.journal_text.specs.declared.events.Event.TheVariants.{Load}
 use Rattle.journal_text.specs.Events.{journal_text}
+use Rattle.outside.specs.Clocks.{ClockSeen, Reads}
 use Rattle.outside.specs.Objects.{HasFile, IsUntouched, Rose, Took, Use, SinkSeen}
 use Rattle.scrape_core.specs.Records.{IsWhole}
 use Rattle.scrape_machine.specs.Machine.{book_of}
@@ -21,6 +22,8 @@ use Rattle.live_run.specs.declared.asked.LiveEnd.TheVariants.{Done, ControlFault
 -- what a run is known to be, unless memory ran out
 pub record Known (end : RunEnd) (w : Wanted) (t : Touched) (es : List Event) (seats : List ℕ) : Type 0 where
   pub moment : ℤ
+  pub later : ClockSeen
+  pub reading : IfSome t.clock.before.readings (λ readings. Reads moment readings later.readings)
   pub text : List ℕ
   pub has : HasFile t.shelf.before w.file text
   pub taken : IsTaken text
@@ -28,7 +31,7 @@ pub record Known (end : RunEnd) (w : Wanted) (t : Touched) (es : List Event) (se
   pub caller : CallerTells (Load moment text ∷ []) end t.shelf t.control es seats t.err
   pub whole : end ≢ run.NoMemory → IsWhole es
   pub each : end ≢ run.NoMemory → length seats ≡ length es
-  pub sweeps : end ≢ run.NoMemory → TellsSweeps w.turns es seats
+  pub sweeps : end ≢ run.NoMemory → TellsSweeps w.turns es seats later t.clock.after
   pub workers : end ≢ run.NoMemory → AllTell 0 es seats t.fetchers.before t.fetchers.after
   pub shelf : ShelfWent t.shelf
   pub err : SinkWent t.err
@@ -36,7 +39,7 @@ pub record Known (end : RunEnd) (w : Wanted) (t : Touched) (es : List Event) (se
 
 module _ (w : Wanted) (t : Touched) (es : List Event) (seats : List ℕ) where
   run_of : (end : RunEnd) → Known end w t es seats → end ≢ run.NoMemory → IsRunOf end w t es
-  run_of end k more = record { moment = k.moment; text = k.text; has = k.has; taken = k.taken; begins = k.begins more; caller = k.caller; whole = k.whole more; seats = seats; each = k.each more; sweeps = k.sweeps more; workers = k.workers more }
+  run_of end k more = record { moment = k.moment; later = k.later; reading = k.reading; text = k.text; has = k.has; taken = k.taken; begins = k.begins more; caller = k.caller; whole = k.whole more; seats = seats; each = k.each more; sweeps = k.sweeps more; workers = k.workers more }
 
   -- the writing of a run ended so
   module _ (end : LiveEnd)
@@ -103,3 +106,8 @@ begun run.TooLong e kept es trail out h u = written_begun ControlLong e kept es 
 pub of_some : {X : Type 0} (P : Type 0) (o : Option X) → IsTrue (is_some o) → IfSome o (λ _. P) → P
 of_some P None h p = absurd cc
 of_some P (Some x) h p = p
+
+-- what is known of a value, if there is one, by a fact of it that a further one gives
+pub with_some : {X A : Type 0} {P Q : X → Type 0} (o : Option X) → ((x : X) → (A → P x) → Q x) → (A → IfSome o P) → IfSome o Q
+with_some None f h = tt
+with_some (Some x) f h = f x h

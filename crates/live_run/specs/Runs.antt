@@ -77,15 +77,19 @@ pub record Touched : Type 0 where
   pub err : Use SinkSeen
   pub trail : Use SinkSeen
   pub control : Option (List ℕ)
+  pub clock : Use ClockSeen
   pub fetchers : Use (List FetchSeen)
 
-abbrev pub touched : Use ShelfSeen → Use SinkSeen → Use SinkSeen → Use SinkSeen → Option (List ℕ) → Use (List FetchSeen) → Touched
-touched shelf out err trail control fetchers = record { shelf = shelf; out = out; err = err; trail = trail; control = control; fetchers = fetchers }
+abbrev pub touched : Use ShelfSeen → Use SinkSeen → Use SinkSeen → Use SinkSeen → Option (List ℕ) → Use ClockSeen → Use (List FetchSeen) → Touched
+touched shelf out err trail control clock fetchers = record { shelf = shelf; out = out; err = err; trail = trail; control = control; clock = clock; fetchers = fetchers }
 
--- the journal of a run: it begins with the load of the file as it is, each started scrape has its one finish, and for some seats of its events the
--- ticker brought so many sweeps, the workers finishes of what their fetchers answered, and the caller loads and updates that control asked for
+-- the journal of a run: it begins with the load of the file as it is, at the first reading of the clock; each started scrape has its one finish; and
+-- for some seats of its events the ticker brought so many sweeps, at the readings that follow, the workers finishes of what their fetchers answered
+-- to the requests of their tickets, and the caller loads and updates that control asked for
 pub record IsRunOf (end : RunEnd) (w : Wanted) (t : Touched) (es : List Event) : Type 0 where
   pub moment : ℤ
+  pub later : ClockSeen
+  pub reading : IfSome t.clock.before.readings (λ readings. Reads moment readings later.readings)
   pub text : List ℕ
   pub has : HasFile t.shelf.before w.file text
   pub taken : IsTaken text
@@ -93,7 +97,7 @@ pub record IsRunOf (end : RunEnd) (w : Wanted) (t : Touched) (es : List Event) :
   pub whole : IsWhole es
   pub seats : List ℕ
   pub each : length seats ≡ length es
-  pub sweeps : TellsSweeps w.turns es seats
+  pub sweeps : TellsSweeps w.turns es seats later t.clock.after
   pub workers : AllTell 0 es seats t.fetchers.before t.fetchers.after
   pub caller : CallerTells (Load moment text ∷ []) end t.shelf t.control es seats t.err
 

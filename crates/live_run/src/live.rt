@@ -100,9 +100,9 @@ pub fn run_live<
     requires fetchers { (0 < vec_len fetchers) × (vec_len fetchers ≤ 1000) }
     requires turns { asked.turns ≤ 1000000 }
     ensures back { IsTrue (is_some result.control) × IsTrue (is_some result.clock) × (vec_len result.fetchers ≡ vec_len fetchers) }
-    ensures ended { Ended result.end (wanted asked.entry.file.now asked.entry.turns asked.entry.kept) (touched (used (S.seen shelf.old) (S.seen shelf.new))
+    ensures ended { IfSome result.clock (λ k. Ended result.end (wanted asked.entry.file.now asked.entry.turns asked.entry.kept) (touched (used (S.seen shelf.old) (S.seen shelf.new))
         (used (O.seen out.old) (O.seen out.new)) (used (E.seen err.old) (E.seen err.new)) (used (R.seen trail.old) (R.seen trail.new)) (C.seen control).left
-        (used (map F.seen fetchers.items) (map F.seen result.fetchers.items))) }
+        (used (K.seen clock) (K.seen k)) (used (map F.seen fetchers.items) (map F.seen result.fetchers.items)))) }
     ensures unbegun { IsUnbegun result.end →
         (result.control ≡ Some control) × IfSome result.clock (λ k. IsReadOnce (used (K.seen clock) (K.seen k))) × (result.fetchers ≡ fetchers) }
     ensures control { IfSome result.control (λ c. SourceWent (used (C.seen control) (C.seen c))) }

@@ -1,6 +1,8 @@
-pub mod SlotLemmas
-pub mod HeldLemmas
-pub mod ToldLemmas
 pub mod CallerLemmas
+pub mod EntryLemmas
+pub mod HeldLemmas
 mod ListedLemmas
-pub mod HallSharing
+pub mod RunLemmas
+pub mod SeatLemmas
+pub mod SharingLemmas
+pub mod SlotLemmas

@@ -1,16 +1,14 @@
--- The slots of the workers, and what a worker's pass and the keeper's tell together.
+-- The slots of the workers, and what their entries tell of them.
 use Rattle.std.proofs.Common.{◌≡◌, ◌≢◌, ◌⊎◌, ℕ, zero, suc, ◌+◌, ◌<◌, ◌≤◌, ◌==◌, List, [], ◌∷◌, ◌++◌, length, set, replicate, Bool, true, false, cond, refl, sym, ap, ◌∙◌, subst, inl, inr, ⊎_elim, arith, rules}
 use Rattle.std.specs.Prelude.{Option, Some, None, slice_get}
 use Rattle.std.proofs.lemmas.Bool.Decides.{nat_tests}
 use Rattle.std.proofs.lemmas.List.{length-set, length-replicate}
 use Rattle.std.proofs.lemmas.List.Sums.{sum_by-cons}
-use Rattle.seat_notes.specs.declared.desk.Act.{Act}
-use Rattle.seat_notes.specs.declared.desk.Note.{Note}
-use Rattle.seat_notes.specs.declared.desk.View.{View}
-use Rattle.seat_notes.specs.Desks.{act, of, knower, worker, Agrees}
-use Rattle.run_lock.specs.Held.{has_ticket, has_any, times, held, after_note, pending, pending_from, IsHeld}
-use Rattle.run_lock.specs.Tasks.{IsOwn, IsSeat}
-use Rattle.seat_notes.proofs.Moves.{of_own, of_else}
+use Rattle.run_lock.specs.declared.marks.Entry.{Entry}
+use Rattle.run_lock.specs.declared.marks.Note.{Note}
+use Rattle.run_lock.specs.Entries.{entry, own_by}
+use Rattle.run_lock.specs.Held.{has_ticket, has_any, times, held, after_note, pending, IsHeld}
+use Rattle.run_lock.proofs.EntryLemmas.{own_here, own_else, pending_push}
 
 -- one ticket is put into a slot, or leaves it
 pub slot_put : (slots : List (Option ℕ)) (i k j : ℕ) → slice_get slots i ≡ Some None → times j (set slots i (Some k)) ≡ times j slots + cond {A = ℕ} (k == j) 1 0
@@ -72,10 +70,6 @@ get_set_else (x ∷ xs) zero (suc j) v apart = refl
 get_set_else (x ∷ xs) (suc i) zero v apart = refl
 get_set_else (x ∷ xs) (suc i) (suc j) v apart = get_set_else xs i j v (λ e. apart (ap (λ n. suc n) e))
 
-pub pending_push : (o : Option ℕ) (xs : List Note) (x : Note) → pending_from o (xs ++ x ∷ []) ≡ after_note x
-pending_push o [] x = refl
-pending_push o (y ∷ ys) x = pending_push (after_note y) ys x
-
 pub split : (i j : ℕ) → (i ≡ j) ⊎ (i ≢ j)
 split i j = same_or (i == j) i j refl
   where
@@ -83,57 +77,35 @@ split i j = same_or (i == j) i j refl
     same_or true i j h = inl (grind (arith, nat_tests))
     same_or false i j h = inr (λ e. grind (arith, nat_tests))
 
--- a worker makes a note
-pub held_note : (slots rest : List (Option ℕ)) (log : List Act) (x : Note) (i s : ℕ) → IsHeld slots log → s ≡ 2 + i → rest ≡ set slots i (after_note x) → IsHeld rest (log ++ act s x ∷ [])
-held_note slots rest log x i s h is now j lt =
-    let within : j < length slots = omega (arith, lt, ap length now, length-set slots i (after_note x)) in
+-- one more entry of a worker
+pub tickets_note : (slots rest : List (Option ℕ)) (log : List Entry) (x : Note) (i s : ℕ) → IsHeld slots log → s ≡ 2 + i → rest ≡ set slots i (after_note (pending (own_by (2 + i) log)) x) → IsHeld rest (log ++ entry s x ∷ [])
+tickets_note slots rest log x i s h is now j lt =
+    let o = after_note (pending (own_by (2 + i) log)) x in
+    let within : j < length slots = omega (arith, lt, ap length now, length-set slots i o) in
     ⊎_elim
     (λ (e : i ≡ j).
-    let P : ℕ → Type 0 = λ (n : ℕ). slice_get rest n ≡ Some (pending (of (2 + n) (log ++ act s x ∷ []))) in
-    subst P e (ap (λ xs. slice_get xs i) now ∙ (get_set_here slots i (after_note x) (omega (arith, e, within)) ∙ ap Some (sym (ap pending (of_own log (act s x) (2 + i) is) ∙ pending_push None (of (2 + i) log) x)))))
-    (λ (n : i ≢ j). ap (λ xs. slice_get xs j) now ∙ (get_set_else slots i j (after_note x) (λ e. n (sym e)) ∙ (h j within ∙ ap (λ xs. Some (pending xs)) (sym (of_else log (act s x) (2 + j) (λ e. n (omega (arith, is, e))))))))
+    let P : ℕ → Type 0 = λ (n : ℕ). slice_get rest n ≡ Some (pending (own_by (2 + n) (log ++ entry s x ∷ []))) in
+    subst P e (ap (λ xs. slice_get xs i) now ∙ (get_set_here slots i o (omega (arith, e, within)) ∙ ap Some (sym (ap pending (own_here log s (2 + i) x is) ∙ pending_push None (own_by (2 + i) log) (entry s x))))))
+    (λ (n : i ≢ j). ap (λ xs. slice_get xs j) now ∙ (get_set_else slots i j o (λ e. n (sym e)) ∙ (h j within ∙ ap (λ xs. Some (pending xs)) (sym (own_else log s (2 + j) x (λ e. n (omega (arith, is, e))))))))
     (split i j)
 
--- a note that leaves what its seat has out as it is: the end of all work, of a worker with nothing out
-pub held_end : (slots : List (Option ℕ)) (log : List Act) (x : Note) (i s : ℕ) → IsHeld slots log → s ≡ 2 + i → pending (of (2 + i) log) ≡ None → after_note x ≡ None → IsHeld slots (log ++ act s x ∷ [])
-held_end slots log x i s h is idle none j lt =
+-- one more entry that leaves what its seat has out as it is
+pub tickets_silent : (slots : List (Option ℕ)) (log : List Entry) (x : Note) (s : ℕ) → ((o : Option ℕ) → after_note o x ≡ o) → IsHeld slots log → IsHeld slots (log ++ entry s x ∷ [])
+tickets_silent slots log x s same h j lt =
     ⊎_elim
-    (λ (e : i ≡ j).
-    let P : ℕ → Type 0 = λ (n : ℕ). slice_get slots n ≡ Some (pending (of (2 + n) (log ++ act s x ∷ []))) in
-    subst P e (h i (omega (arith, e, lt)) ∙ ap Some (idle ∙ sym (ap pending (of_own log (act s x) (2 + i) is) ∙ (pending_push None (of (2 + i) log) x ∙ none)))))
-    (λ (n : i ≢ j). h j lt ∙ ap (λ xs. Some (pending xs)) (sym (of_else log (act s x) (2 + j) (λ e. n (omega (arith, is, e))))))
-    (split i j)
+    (λ (e : s ≡ 2 + j). h j lt ∙ ap Some (sym (ap pending (own_here log s (2 + j) x e) ∙ (pending_push None (own_by (2 + j) log) (entry s x) ∙ same (pending (own_by (2 + j) log))))))
+    (λ (n : s ≢ 2 + j). h j lt ∙ ap (λ xs. Some (pending xs)) (sym (own_else log s (2 + j) x n)))
+    (split s (2 + j))
 
--- a note of the caller or of the ticker
-pub held_other : (slots : List (Option ℕ)) (log : List Act) (x : Note) (s : ℕ) → IsHeld slots log → s < 2 → IsHeld slots (log ++ act s x ∷ [])
-held_other slots log x s h few j lt = h j lt ∙ ap (λ xs. Some (pending xs)) (sym (of_else log (act s x) (2 + j) (λ e. absurd (omega (arith, e, few)))))
+-- one more entry of the caller or of the ticker
+pub tickets_other : (slots : List (Option ℕ)) (log : List Entry) (x : Note) (s : ℕ) → IsHeld slots log → s < 2 → IsHeld slots (log ++ entry s x ∷ [])
+tickets_other slots log x s h few j lt = h j lt ∙ ap (λ xs. Some (pending xs)) (sym (own_else log s (2 + j) x (λ e. absurd (omega (arith, e, few)))))
 
 get_none : (n i : ℕ) → i < n → slice_get {X = Option ℕ} (replicate n None) i ≡ Some None
 get_none zero i lt = absurd (omega arith)
 get_none (suc n) zero lt = refl
 get_none (suc n) (suc i) lt = get_none n i (omega arith)
 
-count_none : (n : ℕ) → length {A = Option ℕ} (replicate n None) ≡ n
-count_none n = length-replicate n None
-
-pub held_first : (slots : List (Option ℕ)) (n : ℕ) → slots ≡ replicate n None → IsHeld slots []
-held_first slots n is i lt = ap (λ xs. slice_get xs i) is ∙ get_none n i (omega (arith, lt, ap length is, count_none n))
-
--- the slot of a worker has what its pass has out
-pub slot_of : (keeper v : View) (slots : List (Option ℕ)) (place : ℕ) (o : Option ℕ) → keeper ≡ knower keeper.all (2 + length slots) → IsSeat place v o → Agrees keeper v → IsHeld slots keeper.all
-    → (place < length slots) × (slice_get slots place ≡ Some o)
-slot_of keeper v slots place o knows seat agrees held =
-    let s : v.seat ≡ 2 + place = ap (λ (x : View). x.seat) seat.0 in
-    let m : keeper.made ≡ 2 + length slots = ap (λ (x : View). x.made) knows in
-    let lt : place < length slots = omega (arith, s, m, agrees.1) in
-    (lt, held place lt ∙ (ap (λ xs. Some (pending xs)) (ap (λ n. of n keeper.all) (sym s) ∙ agrees.0) ∙ ap Some seat.1))
-
-pub seat_of : (v : View) (s : ℕ) → IsOwn s v → v.seat ≡ s
-seat_of v s is = ap (λ (x : View). x.seat) is
-
--- what a seat knows of its own notes
-pub own_of : (keeper v : View) (s : ℕ) → IsOwn s v → Agrees keeper v → of s keeper.all ≡ v.mine
-own_of keeper v s is agrees = ap (λ n. of n keeper.all) (sym (seat_of v s is)) ∙ agrees.0
-
-pub knows_again : (after : View) (log : List Act) (m n : ℕ) → after ≡ knower log m → m ≡ n → (after ≡ knower after.all n) × (after.all ≡ log)
-knows_again after log m n e h = let a : after.all ≡ log = ap (λ (x : View). x.all) e in (e ∙ (λ i. knower (sym a i) (h i)), a)
+-- before the run
+pub tickets_first : (n : ℕ) (log : List Entry) → ((q : ℕ) → 0 < q → own_by q log ≡ []) → IsHeld (replicate n None) log
+tickets_first n log none i lt = get_none n i (omega (arith, lt, length-replicate {A = Option ℕ} n None)) ∙ ap (λ xs. Some (pending xs)) (sym (none (2 + i) (omega arith)))

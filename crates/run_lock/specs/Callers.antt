@@ -10,10 +10,9 @@ use Rattle.scrape_config.specs.declared.conf.Group.{Group}
 use Rattle.scrape_machine.specs.Machine.{after_load, after_update, or_else, world_of}
 use Rattle.scrape_machine.specs.declared.answers.Answer.{Answer}
 use Rattle.scrape_machine.specs.declared.answers.Answer.TheVariants.{Loaded, Updated, Refused, NoJob, NoFile}
-use Rattle.seat_notes.specs.Desks.{of}
-use Rattle.seat_notes.specs.declared.desk.Act.{Act}
-use Rattle.seat_notes.specs.declared.desk.View.{View}
-use Rattle.run_lock.specs.Held.{events_of, events_in}
+use Rattle.run_lock.specs.declared.marks.Entry.{Entry}
+use Rattle.run_lock.specs.Entries.{brought_in}
+use Rattle.run_lock.specs.Held.{events_of}
 use Rattle.run_lock.specs.declared.tasks.Order.{Order}
 use Rattle.run_lock.specs.declared.tasks.Order.TheVariants as order
 
@@ -39,19 +38,12 @@ abbrev pub jobs_after : List InForce → List Order → List InForce
 jobs_after jobs [] = jobs
 jobs_after jobs (o ∷ os) = jobs_after (jobs_by jobs o) os
 
--- what a caller's pass tells: its orders, and the configuration in force by them
-abbrev pub ordered : View → List Order
-ordered v = orders_in (events_in v.mine)
+-- what the caller's entries tell: its orders, and the configuration in force by them
+abbrev pub ordered : List Entry → List Order
+ordered xs = orders_in (brought_in xs)
 
-abbrev pub jobs_known : List Event → View → List InForce
-jobs_known start v = jobs_after (world_of start).jobs (ordered v)
-
--- the journal begins with the events that came before the run; the events of the caller's seat are those and the ones that it noted, and they
--- say what is in force
-pub record IsBegun (start es : List Event) (seats : List ℕ) (log : List Act) : Type 0 where
-  pub front : take (length start) es ≡ start
-  pub told : events_of 0 es seats ≡ start ++ events_in (of 0 log)
-  pub jobs : (world_of es).jobs ≡ jobs_after (world_of start).jobs (orders_in (events_in (of 0 log)))
+abbrev pub jobs_known : List Event → List Entry → List InForce
+jobs_known start xs = jobs_after (world_of start).jobs (ordered xs)
 
 -- the answer to an order, where these jobs are in force
 abbrev pub LoadAnswered : Result (List Filed) ConfFault → Answer → Type 0
@@ -77,8 +69,8 @@ IsAnswered jobs (order.Update job file text) a = UpdateAnswered (updated jobs jo
 abbrev pub BeginsWith : List Event → List Event → Type 0
 BeginsWith start es = (rest : List Event) × (es ≡ start ++ rest)
 
--- the events of the caller's seat at the end: those that came before the run, those that its pass tells, and the halt
-pub record IsOfCaller (start es : List Event) (seats : List ℕ) (v : View) : Type 0 where
+-- the events of the caller's seat at the end: those that came before the run, those that its entries tell, and the halt
+pub record IsOfCaller (start es : List Event) (seats : List ℕ) (mine : List Entry) : Type 0 where
   pub begins : BeginsWith start es
   pub halted : ℤ
-  pub events : events_of 0 es seats ≡ start ++ (events_in v.mine ++ Halt halted ∷ [])
+  pub events : events_of 0 es seats ≡ start ++ (brought_in mine ++ Halt halted ∷ [])

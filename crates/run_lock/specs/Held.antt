@@ -1,13 +1,11 @@
--- What lies under the lock of a run: which tickets are out, and that the journal and the notes of the seats tell the same.
+-- Which tickets are out, and what the entries of a run tell of that.
 use Rattle.std.specs.Prelude.{◌≡◌, ℕ, ◌+◌, ◌<◌, ◌≤◌, ◌==◌, Bool, true, false, if◌then◌else◌, List, [], ◌∷◌, ◌++◌, length, slice_get, count_by, Option, Some, None, nat_lt}
 use Rattle.journal_text.specs.declared.events.Event.{Event}
-use Rattle.journal_text.specs.declared.events.Event.TheVariants.{Load, Targets, Tick, Sweep, Finish, Halt}
 use Rattle.scrape_core.specs.Records.{is_live, started_of, landed_in, finishes, has_lost}
-use Rattle.seat_notes.specs.declared.desk.Act.{Act}
-use Rattle.seat_notes.specs.declared.desk.Note.{Note}
-use Rattle.seat_notes.specs.declared.desk.Note.TheVariants.{Took, Brought, Ended}
-use Rattle.seat_notes.specs.declared.desk.View.{View}
-use Rattle.seat_notes.specs.Desks.{of}
+use Rattle.run_lock.specs.declared.marks.Entry.{Entry}
+use Rattle.run_lock.specs.declared.marks.Note.{Note}
+use Rattle.run_lock.specs.declared.marks.Note.TheVariants.{Before, Took, Brought, Ended, Failed}
+use Rattle.run_lock.specs.Entries.{own_by}
 
 -- how many workers have a ticket out, and how many have any
 abbrev pub has_ticket : ℕ → Option ℕ → Bool
@@ -37,22 +35,24 @@ pub record IsRunning (es : List Event) (next started : ℕ) (out : List (Option 
   pub counted : (k : ℕ) → finishes k es ≡ landed_in k es
   pub found : has_lost es ≡ false
 
--- the ticket that a worker has out, by what it noted
-abbrev pub after_note : Note → Option ℕ
-after_note (Took k) = Some k
-after_note (Brought e) = None
-after_note Ended = None
+-- the ticket that a worker has out, by its entries
+abbrev pub after_note : Option ℕ → Note → Option ℕ
+after_note o (Before e) = o
+after_note o (Took k) = Some k
+after_note o (Brought now e) = None
+after_note o Ended = o
+after_note o Failed = o
 
-abbrev pub pending_from : Option ℕ → List Note → Option ℕ
+abbrev pub pending_from : Option ℕ → List Entry → Option ℕ
 pending_from o [] = o
-pending_from o (x ∷ xs) = pending_from (after_note x) xs
+pending_from o (x ∷ xs) = pending_from (after_note o x.note) xs
 
-abbrev pub pending : List Note → Option ℕ
+abbrev pub pending : List Entry → Option ℕ
 pending xs = pending_from None xs
 
 -- the slot of each worker has the ticket that it has out; worker i has seat 2 + i
-abbrev pub IsHeld : List (Option ℕ) → List Act → Type 0
-IsHeld slots log = (i : ℕ) → i < length slots → slice_get slots i ≡ Some (pending (of (2 + i) log))
+abbrev pub IsHeld : List (Option ℕ) → List Entry → Type 0
+IsHeld slots log = (i : ℕ) → i < length slots → slice_get slots i ≡ Some (pending (own_by (2 + i) log))
 
 -- the events that one seat brought
 abbrev pub events_of : ℕ → List Event → List ℕ → List Event
@@ -60,39 +60,14 @@ events_of q [] ss = []
 events_of q (e ∷ es) [] = []
 events_of q (e ∷ es) (s ∷ ss) = if s == q then e ∷ events_of q es ss else events_of q es ss
 
--- the events among the notes of a seat
-abbrev pub event_in : Note → List Event
-event_in (Took k) = []
-event_in (Brought e) = e ∷ []
-event_in Ended = []
-
-abbrev pub events_in : List Note → List Event
-events_in [] = []
-events_in (x ∷ xs) = event_in x ++ events_in xs
-
--- the events of each seat but the caller's are those that it noted, in their order
-abbrev pub IsTold : List Event → List ℕ → List Act → Type 0
-IsTold es seats log = (s : ℕ) → 0 < s → events_of s es seats ≡ events_in (of s log)
-
--- a note that all work has ended, and whether one is among these
+-- an entry of the end of all work, and whether one is among these
 abbrev pub is_end : Note → Bool
+is_end (Before e) = false
 is_end (Took k) = false
-is_end (Brought e) = false
+is_end (Brought now e) = false
 is_end Ended = true
+is_end Failed = false
 
-abbrev pub any_end : List Note → Bool
+abbrev pub any_end : List Entry → Bool
 any_end [] = false
-any_end (x ∷ xs) = if is_end x then true else any_end xs
-
--- no seat noted the end unless it has come
-abbrev pub IsShown : List Act → Bool → Type 0
-IsShown log ended = (s : ℕ) → any_end (of s log) ≡ true → ended ≡ true
-
--- the events of a seat are those that its pass tells
-abbrev pub IsToldBy : List Event → List ℕ → View → Type 0
-IsToldBy es seats v = 0 < v.seat → events_of v.seat es seats ≡ events_in v.mine
-
--- one of these passes shows the end of all work
-abbrev pub any_over : List View → Bool
-any_over [] = false
-any_over (v ∷ vs) = if any_end v.mine then true else any_over vs
+any_end (x ∷ xs) = if is_end x.note then true else any_end xs

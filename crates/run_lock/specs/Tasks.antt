@@ -1,41 +1,34 @@
--- What the pass of a seat knows between its steps.
-use Rattle.std.specs.Prelude.{◌≡◌, ◌<◌, ◌≤◌, ℕ, ◌+◌, ℤ, pos, Bool, true, false, List, [], ◌∷◌, ◌++◌, length, All, Option, max}
+-- What a seat is told and brings, and what its entries say then.
+use Rattle.std.specs.Prelude.{◌≡◌, ℕ, ◌+◌, ℤ, pos, Bool, true, false, List, [], ◌∷◌, ◌++◌, length, Option, Some, None, max}
 use Rattle.journal_text.specs.declared.events.Event.{Event}
 use Rattle.journal_text.specs.declared.events.Event.TheVariants.{Load, Targets, Tick, Sweep, Finish, Halt}
+use Rattle.journal_text.specs.Events.{now_of}
 use Rattle.journal_text.specs.Lines.{number, IsNameLength, IsTextLength}
 use Rattle.outside.specs.declared.replies.Reply.{Reply}
 use Rattle.outside.specs.declared.requests.Fetched.{Fetched}
-use Rattle.seat_notes.specs.declared.desk.Note.{Note}
-use Rattle.seat_notes.specs.declared.desk.Note.TheVariants.{Took, Brought, Ended}
-use Rattle.seat_notes.specs.declared.desk.View.{View}
-use Rattle.scrape_core.specs.Readers.{MayFetch}
+use Rattle.scrape_core.specs.Readers.{MayFetch, request}
+use Rattle.run_lock.specs.declared.marks.Entry.{Entry}
+use Rattle.run_lock.specs.declared.marks.Note.{Note}
+use Rattle.run_lock.specs.declared.marks.Note.TheVariants.{Before, Took, Brought, Ended, Failed}
 use Rattle.run_lock.specs.declared.tasks.Order.{Order}
 use Rattle.run_lock.specs.declared.tasks.Order.TheVariants as order
 use Rattle.run_lock.specs.declared.tasks.Task.{Task}
 use Rattle.run_lock.specs.declared.tasks.Task.TheVariants.{Fetch, Wait, End, Fail}
-use Rattle.seat_notes.specs.Desks.{worker}
-use Rattle.run_lock.specs.Held.{pending}
+use Rattle.run_lock.specs.Entries.{entry, Adds}
 
--- the pass of this seat
-abbrev pub IsOwn : ℕ → View → Type 0
-IsOwn s v = v ≡ worker s v.mine
+-- the entries after a worker was told what to do
+abbrev pub AfterTask : ℕ → Task → List Entry → List Entry → Type 0
+AfterTask place (Fetch k r) log later = Adds log (2 + place) (Took k) later
+AfterTask place Wait log later = later ≡ log
+AfterTask place End log later = Adds log (2 + place) Ended later
+AfterTask place Fail log later = Unit {0}
 
--- the pass of this worker, which has this ticket out, if any
-abbrev pub IsSeat : ℕ → View → Option ℕ → Type 0
-IsSeat place v out = IsOwn (2 + place) v × (pending v.mine ≡ out)
-
--- the pass after a worker was told what to do
-abbrev pub AfterTask : ℕ → Task → List Note → View → Type 0
-AfterTask place (Fetch k r) mine v = v ≡ worker (2 + place) (mine ++ Took k ∷ [])
-AfterTask place Wait mine v = v ≡ worker (2 + place) mine
-AfterTask place End mine v = v ≡ worker (2 + place) (mine ++ Ended ∷ [])
-AfterTask place Fail mine v = v ≡ worker (2 + place) mine
-
-abbrev pub HasFit : Task → Type 0
-HasFit (Fetch k r) = MayFetch r
-HasFit Wait = Unit {0}
-HasFit End = Unit {0}
-HasFit Fail = Unit {0}
+-- the request of a task is that of its ticket by this journal, and may be fetched
+abbrev pub IsAsked : List Event → Task → Type 0
+IsAsked es (Fetch k r) = (request es k ≡ Some r) × MayFetch r
+IsAsked es Wait = Unit {0}
+IsAsked es End = Unit {0}
+IsAsked es Fail = Unit {0}
 
 -- the finish of a ticket with what was fetched
 abbrev pub finish_with : ℕ → Fetched → Event
@@ -45,26 +38,9 @@ finish_with k f = Finish k f.took f.reply
 abbrev pub sweep_moment : ℤ → ℕ → ℤ
 sweep_moment reading now = pos (max (number reading) now)
 
--- a sweep that a seat brought
-abbrev pub is_sweep : Note → Bool
-is_sweep (Took k) = false
-is_sweep (Brought (Load m text)) = false
-is_sweep (Brought (Targets m job file text)) = false
-is_sweep (Brought (Tick m k)) = false
-is_sweep (Brought (Sweep m)) = true
-is_sweep (Brought (Finish k took r)) = false
-is_sweep (Brought (Halt m)) = false
-is_sweep Ended = false
-
--- the ticker's pass after so many sweeps
-pub record IsTicked (count : ℕ) (v : View) : Type 0 where
-  pub own : IsOwn 1 v
-  pub many : length v.mine ≡ count
-  pub sweeps : All (λ (x : Note). is_sweep x ≡ true) v.mine
-
--- the ticker's pass after one more sweep
-abbrev pub IsSwept : View → View → Type 0
-IsSwept v w = (m : ℤ) × (w ≡ worker 1 (v.mine ++ Brought (Sweep m) ∷ []))
+-- what a seat brings, behind the last moment
+abbrev pub sweep_brought : ℤ → ℕ → Note
+sweep_brought reading now = Brought now (Sweep (sweep_moment reading now))
 
 -- what the caller orders keeps the lengths of a journal
 abbrev pub IsFit : Order → Type 0
@@ -76,9 +52,12 @@ abbrev pub event_at : ℕ → Order → Event
 event_at now (order.Load text) = Load (pos now) text
 event_at now (order.Update job file text) = Targets (pos now) job file text
 
--- the caller's pass after one more order
-abbrev pub IsOrdered : Order → View → View → Type 0
-IsOrdered o v w = (now : ℕ) × (w ≡ worker 0 (v.mine ++ Brought (event_at now o) ∷ []))
+abbrev pub order_brought : Order → ℕ → Note
+order_brought o now = Brought now (event_at now o)
+
+-- the caller's entries after one more order, behind the last moment
+abbrev pub IsOrdered : Order → List Entry → List Entry → Type 0
+IsOrdered o log later = (now : ℕ) × Adds log 0 (order_brought o now) later
 
 -- an event of the caller: a load or an update
 abbrev pub IsCommand : Event → Type 0

@@ -1,5 +1,5 @@
 //! What a worker is to do, and the events of workers and ticker.
-ghost use Rattle.std.specs.Prelude.{◌≡◌, ◌<◌, ◌^◌, List, Result, replicate, vec_len, vec_capacity, IfOk, IfSome};
+ghost use Rattle.std.specs.Prelude.{◌≡◌, List, Result, Some, IfSome};
 ghost use Rattle.config_fields.specs.declared.fault.ConfFault.{ConfFault};
 ghost use Rattle.jobs_in_force.specs.declared.jobs.Filed.{Filed};
 ghost use Rattle.journal_text.specs.Events as journal;
@@ -7,7 +7,7 @@ ghost use Rattle.journal_text.specs.declared.events.Event.TheVariants.{Sweep};
 ghost use Rattle.journal_text.specs.Lines.{number};
 ghost use Rattle.run_lock.specs.Callers.{LoadAnswered, load_fault};
 ghost use Rattle.run_lock.specs.Tasks.{IsCommand, IsFit, event_at, finish_with, sweep_moment};
-ghost use Rattle.scrape_core.specs.Readers.{MayFetch};
+ghost use Rattle.scrape_core.specs.Readers.{MayFetch, request};
 
 use config_fields::ConfFault;
 use journal_text::Event;
@@ -39,25 +39,11 @@ pub enum Order {
     Update { job: Name, file: Name, text: Blob },
 }
 
-/// As many seats of number 0, and room for one more.
-pub fn first_seats(alloc: Global, count: usize) -> Result<Vec<u32>, NoMemory>
-    requires { count < 2 ^ 40 }
-    ensures items { IfOk result (λ seats. seats.items ≡ replicate count 0) }
-    ensures len { IfOk result (λ seats. vec_len seats ≡ count) }
-    ensures room { IfOk result (λ seats. count < vec_capacity seats) }
-{
-    let mut seats = Vec::with_capacity(alloc, count + 1)?;
-    for _event in 0..count {
-        seats.push_reserved(0);
-    }
-    Ok(seats)
-}
-
 /// The request of the scrape with a ticket that is ready.
 ///
 /// None comes where memory runs out, or where no scrape with the ticket awaits its finish.
 pub fn request_for(alloc: Global, core: &Core, ticket: u64) -> Option<Request>
-    ensures { IfSome result (λ r. MayFetch r) }
+    ensures { IfSome result (λ r. (request core.now ticket ≡ Some r) × MayFetch r) }
 {
     core.request(alloc, ticket).ok()?
 }

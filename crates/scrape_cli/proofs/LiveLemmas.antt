@@ -1,6 +1,6 @@
 -- How a call ends that does nothing for want of memory, and what each other one keeps.
 use Rattle.std.proofs.Common.{◌≡◌, ◌≢◌, ℕ, List, refl}
-use Rattle.std.specs.Prelude.{Err}
+use Rattle.std.specs.Prelude.{Option, Some, None, IfSome, Err}
 use Rattle.command_words.specs.Askings.{Running}
 use Rattle.live_run.specs.Runs.{Touched}
 use Rattle.live_run.specs.declared.asked.LiveEnd.TheVariants.{NoMemory}
@@ -28,3 +28,8 @@ live_wanting r t back file trail out shelf err speaks = record {
   speaks = speaks;
   unbegun = λ u. absurd u;
 }
+
+-- what two facts tell of a value, if there is one, the second of them where something holds
+pub both_told : {X U A B : Type 0} {P Q R : X → Type 0} (o : Option X) → ((x : X) → P x → (U → A × Q x × B) → R x) → IfSome o P → (U → A × IfSome o Q × B) → IfSome o R
+both_told None f p u = tt
+both_told (Some x) f p u = f x p u

@@ -8,20 +8,22 @@ use Rattle.jobs_in_force.specs.declared.jobs.InForce.{InForce}
 use Rattle.journal_text.specs.declared.events.Event.{Event}
 use Rattle.outside.specs.Objects.{ShelfSeen, SinkSeen, Use, used, Adds}
 use Rattle.outside.specs.declared.objects.StoredFile.{StoredFile}
-use Rattle.run_lock.specs.Callers.{BeginsWith, IsOfCaller, jobs_after, jobs_known, ordered, orders_in}
-use Rattle.run_lock.specs.Held.{events_in}
+use Rattle.run_lock.specs.Callers.{IsOfCaller, jobs_after, jobs_known, ordered}
+use Rattle.run_lock.specs.Entries.{brought_in}
 use Rattle.run_lock.specs.Listed.{listed_in}
 use Rattle.run_lock.specs.declared.listed.Listed.{Listed}
 use Rattle.run_lock.specs.declared.tasks.Order.{Order}
 use Rattle.run_lock.proofs.CallerLemmas.{jobs_join}
 use Rattle.scrape_machine.specs.Machine.{world_of}
-use Rattle.seat_notes.specs.declared.desk.View.{View}
+use Rattle.run_lock.specs.declared.marks.Entry.{Entry}
 use Rattle.station.specs.Control.{Did, did, both, line_does, line_did, lines_did, updates_in, update_in, rereads, control_did, caller_did, IsSound, HasOrdered, HasDone, HasRead, piece_did, last_did, ControlDid, CallerDid, TellsControl, CallerTells}
 use Rattle.station.specs.InputLines.{is_feed, all_but_last, last_of, ended_lines, open_line, unless_empty, all_lines}
 use Rattle.station.specs.declared.reader.Reader.{Reader}
 use Rattle.station.specs.declared.ends.RunEnd.{RunEnd}
 use Rattle.station.specs.declared.ends.RunEnd.TheVariants.{Done, ReadFault, WriteFault, TooLong, NoMemory}
-use Rattle.station.specs.Ends.{run_end}
+use Rattle.station.specs.declared.ends.Stop.{Stop}
+use Rattle.station.specs.declared.ends.Stop.TheVariants as stop
+use Rattle.station.specs.Ends.{end_of, run_end}
 use Rattle.station.proofs.EndLemmas.{adds_then, rose_last}
 
 -- the parts at line feeds: there is one at least, and the last has none
@@ -98,16 +100,16 @@ adds_nothing a b same = of a.bytes refl
     of None is = tt
     of (Some had) is = ap (λ (s : SinkSeen). s.bytes) same ∙ (is ∙ ap Some (sym (append-nil had)))
 
-pub done_none : (v w : View) (a b : SinkSeen) → w ≡ v → b ≡ a → HasDone (did [] []) v w (used a b)
+pub done_none : (v w : List Entry) (a b : SinkSeen) → w ≡ v → b ≡ a → HasDone (did [] []) v w (used a b)
 done_none v w a b same still = record { orders = ap ordered same ∙ sym (append-nil (ordered v)); said = adds_nothing a b still }
 
-pub done_both : (x y : Did) (v w u : View) (a b c : SinkSeen) → HasDone x v w (used a b) → HasDone y w u (used b c) → HasDone (both x y) v u (used a c)
+pub done_both : (x y : Did) (v w u : List Entry) (a b c : SinkSeen) → HasDone x v w (used a b) → HasDone y w u (used b c) → HasDone (both x y) v u (used a c)
 done_both x y v w u a b c one next = record {
   orders = next.orders ∙ (ap (λ os. os ++ y.orders) one.orders ∙ append_assoc (ordered v) x.orders y.orders);
   said = adds_then x.said y.said a b c one.said next.said;
 }
 
-pub known_after : (start : List Event) (os : List Order) (v w : View) → HasOrdered os v w → jobs_known start w ≡ jobs_after (jobs_known start v) os
+pub known_after : (start : List Event) (os : List Order) (v w : List Entry) → HasOrdered os v w → jobs_known start w ≡ jobs_after (jobs_known start v) os
 known_after start os v w has = ap (jobs_after (world_of start).jobs) has ∙ jobs_join (world_of start).jobs (ordered v) os
 
 both_assoc : (x y z : Did) → both x (both y z) ≡ both (both x y) z
@@ -134,7 +136,7 @@ read_none r s same =
       before_is = ap (λ (x : Reader). x.before) same ∙ sym (ap (λ ls. r.before + length ls) (ap ended_lines line ∙ none_ended r.line.items r.unfed) ∙ omega arith);
     }
 
-pub piece_none : (files : List StoredFile) (jobs : List InForce) (r : Reader) (v w : View) (a b : SinkSeen) → w ≡ v → b ≡ a → HasDone (piece_did files jobs r []) v w (used a b)
+pub piece_none : (files : List StoredFile) (jobs : List InForce) (r : Reader) (v w : List Entry) (a b : SinkSeen) → w ≡ v → b ≡ a → HasDone (piece_did files jobs r []) v w (used a b)
 piece_none files jobs r v w a b same still =
     subst (λ ls. HasDone (lines_did files jobs (r.before + 1) ls) v w (used a b)) (sym (ap ended_lines (append-nil r.line.items) ∙ none_ended r.line.items r.unfed)) (done_none v w a b same still)
 
@@ -149,7 +151,7 @@ read_both r s t xs ys one next = record {
   before_is = omega (arith, next.before_is, one.before_is, length-append (ended_lines (r.line.items ++ xs)) (ended_lines (s.line.items ++ ys)), ap (λ (ls : List (List ℕ)). length ls) (more_ended r s xs ys one));
 }
 
-pub piece_both : (files : List StoredFile) (start : List Event) (r s : Reader) (xs ys : List ℕ) (v w u : View) (a b c : SinkSeen) → HasRead xs r s → HasDone (piece_did files (jobs_known start v) r xs) v w (used a b)
+pub piece_both : (files : List StoredFile) (start : List Event) (r s : Reader) (xs ys : List ℕ) (v w u : List Entry) (a b c : SinkSeen) → HasRead xs r s → HasDone (piece_did files (jobs_known start v) r xs) v w (used a b)
     → HasDone (piece_did files (jobs_known start w) s ys) w u (used b c) → HasDone (piece_did files (jobs_known start v) r (xs ++ ys)) v u (used a c)
 piece_both files start r s xs ys v w u a b c had one next =
     let jobs = jobs_known start v in
@@ -167,7 +169,7 @@ other_read r s b not line same =
     let unfed : IsOpen (r.line.items ++ b ∷ []) = All-push (λ x. is_feed x ≡ false) r.line.items b r.unfed not in
     record { line = line ∙ sym (all_open (r.line.items ++ b ∷ []) unfed); before_is = same ∙ sym (ap (λ ls. r.before + length ls) (none_ended (r.line.items ++ b ∷ []) unfed) ∙ omega arith) }
 
-pub other_did : (files : List StoredFile) (jobs : List InForce) (r : Reader) (b : ℕ) (v w : View) (e f : SinkSeen) → is_feed b ≡ false → w ≡ v → f ≡ e → HasDone (piece_did files jobs r (b ∷ [])) v w (used e f)
+pub other_did : (files : List StoredFile) (jobs : List InForce) (r : Reader) (b : ℕ) (v w : List Entry) (e f : SinkSeen) → is_feed b ≡ false → w ≡ v → f ≡ e → HasDone (piece_did files jobs r (b ∷ [])) v w (used e f)
 other_did files jobs r b v w e f not same still =
     let unfed : IsOpen (r.line.items ++ b ∷ []) = All-push (λ x. is_feed x ≡ false) r.line.items b r.unfed not in
     subst (λ ls. HasDone (lines_did files jobs (r.before + 1) ls) v w (used e f)) (sym (none_ended (r.line.items ++ b ∷ []) unfed)) (done_none v w e f same still)
@@ -178,19 +180,19 @@ feed_read r s b is line more = record {
   before_is = more ∙ sym (ap (λ ls. r.before + length ls) (feed_ends r.line.items b r.unfed is));
 }
 
-pub feed_did : (files : List StoredFile) (jobs : List InForce) (r : Reader) (b : ℕ) (v w : View) (u : Use SinkSeen) → is_feed b ≡ true → HasDone (line_did files jobs (r.before + 1) r.line.items) v w u → HasDone (piece_did files jobs r (b ∷ [])) v w u
+pub feed_did : (files : List StoredFile) (jobs : List InForce) (r : Reader) (b : ℕ) (v w : List Entry) (u : Use SinkSeen) → is_feed b ≡ true → HasDone (line_did files jobs (r.before + 1) r.line.items) v w u → HasDone (piece_did files jobs r (b ∷ [])) v w u
 feed_did files jobs r b v w u is done =
     subst (λ (d : Did). HasDone d v w u) (sym (ap (lines_did files jobs (r.before + 1)) (feed_ends r.line.items b r.unfed is) ∙ both_none (line_did files jobs (r.before + 1) r.line.items))) done
 
 -- an unfed line at the end
-pub last_none : (files : List StoredFile) (jobs : List InForce) (r : Reader) (v w : View) (a b : SinkSeen) → length r.line.items ≡ 0 → w ≡ v → b ≡ a → HasDone (last_did files jobs r) v w (used a b)
+pub last_none : (files : List StoredFile) (jobs : List InForce) (r : Reader) (v w : List Entry) (a b : SinkSeen) → length r.line.items ≡ 0 → w ≡ v → b ≡ a → HasDone (last_did files jobs r) v w (used a b)
 last_none files jobs r v w a b none same still = subst (λ ls. HasDone (lines_did files jobs (r.before + 1) ls) v w (used a b)) (sym (of r.line.items none)) (done_none v w a b same still)
   where
     of : (line : List ℕ) → length line ≡ 0 → unless_empty line ≡ []
     of [] h = refl
     of (x ∷ line) h = absurd (omega (arith, h))
 
-pub last_one : (files : List StoredFile) (jobs : List InForce) (r : Reader) (v w : View) (u : Use SinkSeen) → length r.line.items ≢ 0 → HasDone (line_did files jobs (r.before + 1) r.line.items) v w u → HasDone (last_did files jobs r) v w u
+pub last_one : (files : List StoredFile) (jobs : List InForce) (r : Reader) (v w : List Entry) (u : Use SinkSeen) → length r.line.items ≢ 0 → HasDone (line_did files jobs (r.before + 1) r.line.items) v w u → HasDone (last_did files jobs r) v w u
 last_one files jobs r v w u some done =
     subst (λ (d : Did). HasDone d v w u) (sym (ap (lines_did files jobs (r.before + 1)) (of r.line.items some) ∙ both_none (line_did files jobs (r.before + 1) r.line.items))) done
   where
@@ -203,7 +205,7 @@ if_some : {A : Type 0} {P Q : A → Type 0} (o : Option A) → ((x : A) → P x 
 if_some None f h = tt
 if_some (Some x) f h = f x h
 
-pub caller_end : (start : List Event) (end : RunEnd) (a b : ShelfSeen) (after : ShelfSeen) (left : Option (List ℕ)) (v w u : View) (d e f : SinkSeen) → b.files ≡ a.files → a.faults ≤ b.faults → e ≡ d
+pub caller_end : (start : List Event) (end : RunEnd) (a b : ShelfSeen) (after : ShelfSeen) (left : Option (List ℕ)) (v w u : List Entry) (d e f : SinkSeen) → b.files ≡ a.files → a.faults ≤ b.faults → e ≡ d
     → IfSome a.files (λ files. HasOrdered (rereads files (jobs_known start v)) v w) → ControlDid start end (used b after) left w u (used e f) → CallerDid start end (used a after) left v u (used d f)
 caller_end start end a b after left v w u d e f same faults still read done sound =
     let done' = done (sound_later end a b after faults sound) in
@@ -229,33 +231,36 @@ caller_end start end a b after left v w u d e f same faults still read done soun
     both_some None y is r h = tt
     both_some (Some files) y is r h = if_some left (one files r) (subst (λ o. IfSome o (λ files. IfSome left (λ bytes. HasDone (control_did files (jobs_known start w) end bytes) w u (used e f)))) is h)
 
-pub tells_over : {S E : Type 0} (seen : S → ShelfSeen) (held : E → SinkSeen) (whole : Bool) (end result : RunEnd) (a : ShelfSeen) (b : SinkSeen) (s s' : S) (e e' : E) (left : Option (List ℕ)) (start es : List Event) (seats : List ℕ) (v w : View)
-    → result ≡ run_end whole end → s' ≡ s → e' ≡ e → v.mine ≡ [] → (whole ≡ true → IsOfCaller start es seats w)
+-- an end by a stop is no sound one
+pub unsound : (s : Stop) (shelf : Use ShelfSeen) → IsSound (end_of s) shelf → ⊥
+unsound stop.ReadFault shelf h = h
+unsound stop.WriteFault shelf h = h
+unsound stop.NoMemory shelf h = h
+
+pub stopped_did : (start : List Event) (end : RunEnd) (s : Stop) (shelf : Use ShelfSeen) (left : Option (List ℕ)) (v w : List Entry) (err : Use SinkSeen) → end ≡ end_of s → CallerDid start end shelf left v w err
+stopped_did start end s shelf left v w err is sound = absurd (unsound s shelf (subst (λ (e : RunEnd). IsSound e shelf) is sound))
+
+pub tells_over : {S E : Type 0} (seen : S → ShelfSeen) (held : E → SinkSeen) (whole : Bool) (end result : RunEnd) (a : ShelfSeen) (b : SinkSeen) (s s' : S) (e e' : E) (left : Option (List ℕ)) (start es : List Event) (seats : List ℕ) (v w : List Entry)
+    → result ≡ run_end whole end → s' ≡ s → e' ≡ e → ordered v ≡ [] → (whole ≡ true → IsOfCaller start es seats w)
     → CallerDid start end (used a (seen s)) left v w (used b (held e)) → CallerTells start result (used a (seen s')) left es seats (used b (held e'))
 tells_over {S} {E} seen held whole end result a b s s' e e' left start es seats v w is shelf err none brought done =
     subst (λ (t : RunEnd × S × E). CallerTells start t.0 (used a (seen t.1)) left es seats (used b (held t.2))) (λ i. (sym is i, sym shelf i, sym err i)) (of whole brought)
   where
     tells : (files : List StoredFile) (bytes : List ℕ) → IsOfCaller start es seats w → HasDone (caller_did files (jobs_known start v) end bytes) v w (used b (held e)) → TellsControl start es seats (caller_did files (world_of start).jobs end bytes) (used b (held e))
     tells files bytes of h =
-        let nothing : ordered v ≡ [] = ap (λ xs. orders_in (events_in xs)) none in
-        let jobs : jobs_known start v ≡ (world_of start).jobs = ap (jobs_after (world_of start).jobs) nothing in
+        let jobs : jobs_known start v ≡ (world_of start).jobs = ap (jobs_after (world_of start).jobs) none in
         let h' = subst (λ js. HasDone (caller_did files js end bytes) v w (used b (held e))) jobs h in
         record {
-          brought = events_in w.mine;
+          brought = brought_in w;
           halted = of.halted;
           events = of.events;
-          orders = h'.orders ∙ ap (λ os. os ++ (caller_did files (world_of start).jobs end bytes).orders) nothing;
+          orders = h'.orders ∙ ap (λ os. os ++ (caller_did files (world_of start).jobs end bytes).orders) none;
           said = h'.said;
         }
 
     of : (x : Bool) → (x ≡ true → IsOfCaller start es seats w) → CallerTells start (run_end x end) (used a (seen s)) left es seats (used b (held e))
     of true own sound = if_some a.files (λ files h. if_some left (λ bytes g. tells files bytes (own refl) g) h) (done sound)
     of false own sound = absurd sound
-
--- a run that is whole begins with the events that came before it
-pub begins_over : (whole : Bool) (end result : RunEnd) (start es : List Event) (seats : List ℕ) (w : View) → result ≡ run_end whole end → (whole ≡ true → IsOfCaller start es seats w) → result ≢ NoMemory → BeginsWith start es
-begins_over true end result start es seats w is own more = (own refl).begins
-begins_over false end result start es seats w is own more = absurd (more is)
 
 -- where control has been read so far: the reader has what follows the last line feed, and counted the lines before it
 pub record IsAt (eaten : List ℕ) (r : Reader) : Type 0 where
@@ -269,7 +274,7 @@ at_more eaten bytes r s at read = record {
 }
 
 -- after further lines
-lines_more : (files : List StoredFile) (start : List Event) (n m : ℕ) (xs ys : List (List ℕ)) (v w u : View) (a b c : SinkSeen) → m ≡ n + length xs → HasDone (lines_did files (jobs_known start v) n xs) v w (used a b)
+lines_more : (files : List StoredFile) (start : List Event) (n m : ℕ) (xs ys : List (List ℕ)) (v w u : List Entry) (a b c : SinkSeen) → m ≡ n + length xs → HasDone (lines_did files (jobs_known start v) n xs) v w (used a b)
     → HasDone (lines_did files (jobs_known start w) m ys) w u (used b c) → HasDone (lines_did files (jobs_known start v) n (xs ++ ys)) v u (used a c)
 lines_more files start n m xs ys v w u a b c at one next =
     let jobs = jobs_known start v in
@@ -278,18 +283,18 @@ lines_more files start n m xs ys v w u a b c at one next =
     let second : HasDone y w u (used b c) = subst (λ (d : Did). HasDone d w u (used b c)) (ap₂ (λ js k. lines_did files js k ys) (known_after start x.orders v w one.orders) at) next in
     subst (λ (d : Did). HasDone d v u (used a c)) (sym (lines_join files jobs n xs ys)) (done_both x y v w u a b c one second)
 
-pub eaten_more : (files : List StoredFile) (start : List Event) (eaten bytes : List ℕ) (r : Reader) (v w u : View) (a b c : SinkSeen) → IsAt eaten r → HasDone (lines_did files (jobs_known start v) 1 (ended_lines eaten)) v w (used a b)
+pub eaten_more : (files : List StoredFile) (start : List Event) (eaten bytes : List ℕ) (r : Reader) (v w u : List Entry) (a b c : SinkSeen) → IsAt eaten r → HasDone (lines_did files (jobs_known start v) 1 (ended_lines eaten)) v w (used a b)
     → HasDone (piece_did files (jobs_known start w) r bytes) w u (used b c) → HasDone (lines_did files (jobs_known start v) 1 (ended_lines (eaten ++ bytes))) v u (used a c)
 eaten_more files start eaten bytes r v w u a b c at one next =
     subst (λ ls. HasDone (lines_did files (jobs_known start v) 1 ls) v u (used a c)) (sym (ended_join eaten bytes))
     (lines_more files start 1 (r.before + 1) (ended_lines eaten) (ended_lines (open_line eaten ++ bytes)) v w u a b c (omega (arith, at.before_is)) one
     (subst (λ l. HasDone (lines_did files (jobs_known start w) (r.before + 1) (ended_lines (l ++ bytes))) w u (used b c)) at.line next))
 
-pub eaten_all : (files : List StoredFile) (start : List Event) (eaten : List ℕ) (r : Reader) (v w u : View) (a b c : SinkSeen) → IsAt eaten r → HasDone (lines_did files (jobs_known start v) 1 (ended_lines eaten)) v w (used a b)
+pub eaten_all : (files : List StoredFile) (start : List Event) (eaten : List ℕ) (r : Reader) (v w u : List Entry) (a b c : SinkSeen) → IsAt eaten r → HasDone (lines_did files (jobs_known start v) 1 (ended_lines eaten)) v w (used a b)
     → HasDone (last_did files (jobs_known start w) r) w u (used b c) → HasDone (lines_did files (jobs_known start v) 1 (all_lines eaten)) v u (used a c)
 eaten_all files start eaten r v w u a b c at one next =
     lines_more files start 1 (r.before + 1) (ended_lines eaten) (unless_empty (open_line eaten)) v w u a b c (omega (arith, at.before_is)) one
     (subst (λ l. HasDone (lines_did files (jobs_known start w) (r.before + 1) (unless_empty l)) w u (used b c)) at.line next)
 
-pub eaten_none : (files : List StoredFile) (start : List Event) (v w : View) (a b : SinkSeen) → w ≡ v → b ≡ a → HasDone (lines_did files (jobs_known start v) 1 (ended_lines [])) v w (used a b)
+pub eaten_none : (files : List StoredFile) (start : List Event) (v w : List Entry) (a b : SinkSeen) → w ≡ v → b ≡ a → HasDone (lines_did files (jobs_known start v) 1 (ended_lines [])) v w (used a b)
 eaten_none files start v w a b same still = done_none v w a b same still

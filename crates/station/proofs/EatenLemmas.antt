@@ -9,7 +9,7 @@ use Rattle.outside.specs.Objects.{ShelfSeen, SinkSeen, Use, used, Rose}
 use Rattle.outside.specs.Sources.{Gives, IsAtEnd}
 use Rattle.outside.specs.declared.objects.StoredFile.{StoredFile}
 use Rattle.run_lock.specs.Callers.{jobs_known}
-use Rattle.seat_notes.specs.declared.desk.View.{View}
+use Rattle.run_lock.specs.declared.marks.Entry.{Entry}
 use Rattle.station.specs.Control.{lines_did, control_did, last_did, piece_did, most_control_bytes, HasDone, HasRead, IsSound}
 use Rattle.station.specs.Ends.{LastEnds, LineStops, end_after}
 use Rattle.station.specs.InputLines.{all_lines, ended_lines}
@@ -22,7 +22,7 @@ use Rattle.station.proofs.ControlLemmas.{IsAt, at_more, eaten_more, eaten_all, e
 use Rattle.station.proofs.EndLemmas.{rose_last}
 use Rattle.station.proofs.OrderLemmas.{if_all, if_map, if_both}
 
-pub record HasEaten (files : Option (List StoredFile)) (start : List Event) (given : ℕ) (r : Reader) (left now : Option (List ℕ)) (v w : View) (err : Use SinkSeen) : Type 0 where
+pub record HasEaten (files : Option (List StoredFile)) (start : List Event) (given : ℕ) (r : Reader) (left now : Option (List ℕ)) (v w : List Entry) (err : Use SinkSeen) : Type 0 where
   pub eaten : List ℕ
   pub count : length eaten ≡ given
   pub at : IsAt eaten r
@@ -45,7 +45,7 @@ gives_both x y (Some had) b c one next = of b one.1 next
     of (Some mid) is h = (h.0, h.1, one.2 ∙ (ap (λ zs. x ++ zs) (sym (some_is mid one.0 is) ∙ h.2) ∙ sym (append_assoc x y h.0)))
 
 -- before the first read
-pub eaten_first : (files : Option (List StoredFile)) (start : List Event) (left : Option (List ℕ)) (v : View) (e : SinkSeen) (r : Reader) → r.line.items ≡ [] → r.before ≡ 0 → HasEaten files start 0 r left left v v (used e e)
+pub eaten_first : (files : Option (List StoredFile)) (start : List Event) (left : Option (List ℕ)) (v : List Entry) (e : SinkSeen) (r : Reader) → r.line.items ≡ [] → r.before ≡ 0 → HasEaten files start 0 r left left v v (used e e)
 eaten_first files start left v e r line none = record {
   eaten = [];
   count = refl;
@@ -55,7 +55,7 @@ eaten_first files start left v e r line none = record {
 }
 
 -- a further piece
-pub eaten_next : (files : Option (List StoredFile)) (start : List Event) (n m : ℕ) (r s : Reader) (left mid now : Option (List ℕ)) (v w u : View) (a b c : SinkSeen) (bytes : List ℕ) → HasEaten files start n r left mid v w (used a b) → Gives bytes mid now
+pub eaten_next : (files : Option (List StoredFile)) (start : List Event) (n m : ℕ) (r s : Reader) (left mid now : Option (List ℕ)) (v w u : List Entry) (a b c : SinkSeen) (bytes : List ℕ) → HasEaten files start n r left mid v w (used a b) → Gives bytes mid now
     → HasRead bytes r s → m ≡ n + length bytes → IfSome files (λ (fs : List StoredFile). HasDone (piece_did fs (jobs_known start w) r bytes) w u (used b c)) → HasEaten files start m s left now v u (used a c)
 eaten_next files start n m r s left mid now v w u a b c bytes was gives read count done = record {
   eaten = was.eaten ++ bytes;
@@ -74,7 +74,7 @@ all_eaten eaten (Some had) mid gives ended = of mid gives.1 ended
     of None is h = absurd (cc)
     of (Some rest) is h = gives.2 ∙ (ap (λ zs. eaten ++ zs) (sym (some_is rest gives.0 is) ∙ h) ∙ append-nil eaten)
 
-pub eaten_done : (end : RunEnd) (files : Option (List StoredFile)) (start : List Event) (n : ℕ) (r : Reader) (left mid : Option (List ℕ)) (v w u : View) (a b c : SinkSeen) (s t : Use ShelfSeen) (e : Use SinkSeen) → HasEaten files start n r left mid v w (used a b)
+pub eaten_done : (end : RunEnd) (files : Option (List StoredFile)) (start : List Event) (n : ℕ) (r : Reader) (left mid : Option (List ℕ)) (v w u : List Entry) (a b c : SinkSeen) (s t : Use ShelfSeen) (e : Use SinkSeen) → HasEaten files start n r left mid v w (used a b)
     → IsAtEnd mid → LastEnds end t e → (end ≡ Done → IfSome files (λ (fs : List StoredFile). HasDone (last_did fs (jobs_known start w) r) w u (used b c))) → IsSound end s
     → IfSome files (λ (fs : List StoredFile). IfSome left (λ bytes. HasDone (control_did fs (jobs_known start v) end bytes) v u (used a c)))
 eaten_done Done files start n r left mid v w u a b c s t e was ended ends last sound =
@@ -96,7 +96,7 @@ first_eaten eaten bytes more (Some had) mid now gives next count = of (gives_bot
         let whole : had ≡ (eaten ++ bytes) ++ (more ++ h.0) = h.2 ∙ (ap (λ zs. zs ++ h.0) (sym (append_assoc eaten bytes more)) ∙ append_assoc (eaten ++ bytes) more h.0) in
         ap₂ (λ k zs. take k zs) (sym count) whole ∙ take-append_seam (eaten ++ bytes) (more ++ h.0)
 
-long_done : (files : Option (List StoredFile)) (start : List Event) (n : ℕ) (r : Reader) (left mid now : Option (List ℕ)) (v w u : View) (a b c : SinkSeen) (bytes more : List ℕ) → HasEaten files start n r left mid v w (used a b) → Gives (bytes ++ more) mid now
+long_done : (files : Option (List StoredFile)) (start : List Event) (n : ℕ) (r : Reader) (left mid now : Option (List ℕ)) (v w u : List Entry) (a b c : SinkSeen) (bytes more : List ℕ) → HasEaten files start n r left mid v w (used a b) → Gives (bytes ++ more) mid now
     → n + length bytes ≡ most_control_bytes → IfSome files (λ (fs : List StoredFile). HasDone (piece_did fs (jobs_known start w) r bytes) w u (used b c))
     → IfSome files (λ (fs : List StoredFile). IfSome left (λ given. HasDone (control_did fs (jobs_known start v) TooLong given) v u (used a c)))
 long_done files start n r left mid now v w u a b c bytes more was gives count done =
@@ -118,7 +118,7 @@ pub done_ok : {P : Type 0} (done : Result (Unit {0}) Stop) → done ≡ Ok tt �
 done_ok (Ok x) is h = h
 done_ok (Err e) is h = absurd (cc)
 
-pub eaten_long : (done : Result (Unit {0}) Stop) (long : Bool) (end : RunEnd) (s0 s1 s2 : ShelfSeen) (e : Use SinkSeen) (files : Option (List StoredFile)) (start : List Event) (n : ℕ) (r : Reader) (left mid now : Option (List ℕ)) (v w u : View) (a b c : SinkSeen)
+pub eaten_long : (done : Result (Unit {0}) Stop) (long : Bool) (end : RunEnd) (s0 s1 s2 : ShelfSeen) (e : Use SinkSeen) (files : Option (List StoredFile)) (start : List Event) (n : ℕ) (r : Reader) (left mid now : Option (List ℕ)) (v w u : List Entry) (a b c : SinkSeen)
     (bytes more : List ℕ) → s0.faults ≤ s1.faults → LineStops done (used s1 s2) e → end_after done long ≡ Some end → HasEaten files start n r left mid v w (used a b) → Gives (bytes ++ more) mid now → (long ≡ true → n + length bytes ≡ most_control_bytes)
     → OnOk done (IfSome files (λ (fs : List StoredFile). HasDone (piece_did fs (jobs_known start w) r bytes) w u (used b c))) → IsSound end (used s0 s2)
     → IfSome files (λ (fs : List StoredFile). IfSome left (λ given. HasDone (control_did fs (jobs_known start v) end given) v u (used a c)))

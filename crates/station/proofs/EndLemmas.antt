@@ -1,5 +1,5 @@
 -- What one use of an outside object and a further one come to together.
-use Rattle.std.proofs.Common.{◌≡◌, ℕ, ◌+◌, ◌-◌, ◌<◌, ◌≤◌, List, [], ◌++◌, Bool, true, false, length, take, refl, sym, ap, ◌∙◌, inl, subst, arith, append_assoc, append-nil}
+use Rattle.std.proofs.Common.{◌≡◌, ℕ, ◌+◌, ◌-◌, ◌<◌, ◌≤◌, List, [], ◌++◌, Bool, true, false, length, take, refl, sym, ap, ◌∙◌, inl, inr, ⊎_elim, subst, arith, append_assoc, append-nil}
 use Rattle.std.specs.Prelude.{Option, Some, None, Result, Ok, Err, IfSome, min, nat_lt}
 use Rattle.std.proofs.lemmas.Bool.Decides.{nat_tests}
 use Rattle.std.proofs.lemmas.List.{length-take}
@@ -9,7 +9,7 @@ use Rattle.station.specs.declared.ends.Stop.{Stop}
 use Rattle.station.specs.declared.ends.Stop.TheVariants as stop
 use Rattle.station.specs.declared.ends.RunEnd.{RunEnd}
 use Rattle.station.specs.declared.ends.RunEnd.TheVariants.{Done, ReadFault, WriteFault, TooLong, NoMemory}
-use Rattle.station.specs.Ends.{ShelfWent, SinkWent, SourceWent, EndsSo, IsShort, LastEnds, LineStops, end_after, run_end}
+use Rattle.station.specs.Ends.{ShelfWent, SinkWent, SourceWent, EndsSo, FileStop, FileStops, IsShort, LastEnds, LineStops, end_after, end_of, run_end}
 
 pub shelf_same : (a : ShelfSeen) → ShelfWent (used a a)
 shelf_same a = record { files = refl; misses = omega arith; overs = omega arith; faults = omega arith }
@@ -117,3 +117,20 @@ pub ends_over : {S E : Type 0} (seen : S → ShelfSeen) (held : E → SinkSeen) 
     EndsSo end (used a (seen s)) (used b (held e)) u → EndsSo result (used a (seen s')) (used b (held e')) u
 ends_over {S} {E} seen held whole end result a b s s' e e' u is shelf err h =
     subst (λ (t : RunEnd × S × E). EndsSo t.0 (used a (seen t.1)) (used b (held t.2)) u) (λ i. (sym is i, sym shelf i, sym err i)) (whole_ends whole end (used a (seen s)) (used b (held e)) u h)
+
+-- the end of a loop whose shelf was used before, and the end by a stop before it
+pub ends_later : (end : RunEnd) (a b c : ShelfSeen) (err : Use SinkSeen) (control : Use SourceSeen) → a.faults ≤ b.faults → EndsSo end (used b c) err control → EndsSo end (used a c) err control
+ends_later Done a b c err control le h = h
+ends_later ReadFault a b c err control le h = (h.0, ⊎_elim (λ (r : Rose b.faults c.faults). inl (rose_last a.faults b.faults c.faults le r)) (λ (r : Rose control.before.faults control.after.faults). inr r) h.1)
+ends_later WriteFault a b c err control le h = h
+ends_later TooLong a b c err control le h = h
+ends_later NoMemory a b c err control le h = h
+
+pub ends_stopped : (s : Stop) (shelf : Use ShelfSeen) (err : Use SinkSeen) (control : Use SourceSeen) → IsShort control → FileStop s shelf → EndsSo (end_of s) shelf err control
+ends_stopped stop.ReadFault shelf err control short h = (short, inl h)
+ends_stopped stop.WriteFault shelf err control short h = absurd h
+ends_stopped stop.NoMemory shelf err control short h = tt
+
+pub stops_is : {A : Type 0} (r : Result A Stop) (s : Stop) (shelf : Use ShelfSeen) → r ≡ Err s → FileStops r shelf → FileStop s shelf
+stops_is (Ok x) s shelf is h = absurd (cc)
+stops_is (Err t) s shelf is h = let same : t ≡ s = cc in subst (λ (u : Stop). FileStop u shelf) same h

@@ -1,6 +1,7 @@
-pub mod CrewLemmas
+pub mod CloseLemmas
 pub mod ControlLemmas
+pub mod CrewLemmas
 pub mod EatenLemmas
 pub mod EndLemmas
 pub mod OrderLemmas
-pub mod SharingLemmas
+pub mod WorkLemmas

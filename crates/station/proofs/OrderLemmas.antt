@@ -18,9 +18,9 @@ use Rattle.run_lock.specs.Tasks.{IsOrdered}
 use Rattle.run_lock.specs.declared.listed.Listed.{Listed}
 use Rattle.run_lock.specs.declared.tasks.Order.{Order}
 use Rattle.run_lock.specs.declared.tasks.Order.TheVariants.{Load, Update}
-use Rattle.run_lock.proofs.CallerLemmas.{ordered_note}
+use Rattle.run_lock.proofs.CallerLemmas.{ordered_push}
 use Rattle.scrape_machine.specs.Machine.{or_else, after_load, world_of}
-use Rattle.seat_notes.specs.declared.desk.View.{View}
+use Rattle.run_lock.specs.declared.marks.Entry.{Entry}
 use Rattle.station.specs.Control.{Doing, found_in, update_of, update_in, updates_in, rereads, load_taken, update_does, update_refused, HasOrdered, Does}
 use Rattle.station.specs.InputLines.{is_feed}
 use Rattle.station.specs.declared.orders.Found.{Found}
@@ -70,18 +70,18 @@ pub a_feed : (b : ℕ) → b ≡ 10 → is_feed b ≡ true
 a_feed b h = grind (arith, nat_tests)
 
 -- one more order
-pub ordered_more : (v w : View) (o : Order) → IsOrdered o v w → HasOrdered (o ∷ []) v w
-ordered_more v w o h = ordered_note v.mine w.mine h.0 o (ap (λ (u : View). u.mine) h.1)
+pub ordered_more : (v w : List Entry) (o : Order) → IsOrdered o v w → HasOrdered (o ∷ []) v w
+ordered_more v w o h = ap ordered h.1 ∙ ordered_push v 0 h.0 o
 
-pub one_update : (o : Option (List StoredFile)) (l : Listed) (f : Found) (text : List ℕ) (v w : View) → f ≡ found.Text text → IfSome o (λ files. f ≡ found_in files l.file) → IsOrdered (Update l.job l.file text) v w → IfSome o (λ files. HasOrdered (update_in files l) v w)
+pub one_update : (o : Option (List StoredFile)) (l : Listed) (f : Found) (text : List ℕ) (v w : List Entry) → f ≡ found.Text text → IfSome o (λ files. f ≡ found_in files l.file) → IsOrdered (Update l.job l.file text) v w → IfSome o (λ files. HasOrdered (update_in files l) v w)
 one_update o l f text v w same found h = if_map o (λ files is. ordered_more v w (Update l.job l.file text) h ∙ ap (λ g. ordered v ++ update_of l g) (sym same ∙ is)) found
 
-pub update_done : (o : Option (List StoredFile)) (jobs : List InForce) (job file text : List ℕ) (v w : View) (r : Option Refusal) (f : Found) → f ≡ found.Text text → IfSome o (λ files. f ≡ found_in files file) → IsOrdered (Update job file text) v w
+pub update_done : (o : Option (List StoredFile)) (jobs : List InForce) (job file text : List ℕ) (v w : List Entry) (r : Option Refusal) (f : Found) → f ≡ found.Text text → IfSome o (λ files. f ≡ found_in files file) → IsOrdered (Update job file text) v w
     → r ≡ update_refused (updated jobs job file text) → IfSome o (λ files. Does (update_does jobs job file (found_in files file)) v w r)
 update_done o jobs job file text v w r f same found h is =
     if_map o (λ files at. subst (λ g. Does (update_does jobs job file g) v w r) (sym same ∙ at) (ordered_more v w (Update job file text) h, is)) found
 
-pub load_refused : (o : Option (List StoredFile)) (jobs : List InForce) (text : List ℕ) (fault : ConfFault) (v w : View) → Some fault ≡ load_fault (loaded jobs text) → IsOrdered (Load text) v w
+pub load_refused : (o : Option (List StoredFile)) (jobs : List InForce) (text : List ℕ) (fault : ConfFault) (v w : List Entry) → Some fault ≡ load_fault (loaded jobs text) → IsOrdered (Load text) v w
     → IfSome o (λ files. Does (load_taken files text (loaded jobs text)) v w (Some (why.Refused fault)))
 load_refused o jobs text fault v w is h = if_all o (λ files. of files (loaded jobs text) is)
   where
@@ -89,7 +89,7 @@ load_refused o jobs text fault v w is h = if_all o (λ files. of files (loaded j
     of files (Ok fs) is = absurd (cc)
     of files (Err f) is = (ordered_more v w (Load text) h, ap (λ (x : ConfFault). Some (why.Refused x)) (cc))
 
-pub load_done : (o p : Option (List StoredFile)) (start : List Event) (text : List ℕ) (v w u : View) → p ≡ o → None ≡ load_fault (loaded (jobs_known start v) text) → IsOrdered (Load text) v w
+pub load_done : (o p : Option (List StoredFile)) (start : List Event) (text : List ℕ) (v w u : List Entry) → p ≡ o → None ≡ load_fault (loaded (jobs_known start v) text) → IsOrdered (Load text) v w
     → IfSome p (λ files. HasOrdered (rereads files (jobs_known start w)) w u) → IfSome o (λ files. Does (load_taken files text (loaded (jobs_known start v) text)) v u None)
 load_done o p start text v w u same is h read =
     if_map o (λ files has. of files (loaded (jobs_known start v) text) is refl has) (subst (λ q. IfSome q (λ files. HasOrdered (rereads files (jobs_known start w)) w u)) same read)
@@ -107,7 +107,7 @@ load_done o p start text v w u same is h read =
 popped : (files : List StoredFile) (ls ms : List Listed) (l : Listed) → ls ≡ ms ++ l ∷ [] → updates_in files (reverse ls) ≡ update_in files l ++ updates_in files (reverse ms)
 popped files ls ms l is = ap (λ xs. updates_in files (reverse xs)) is ∙ ap (updates_in files) (reverse-append ms (l ∷ []))
 
-pub rest_next : (files : List StoredFile) (ls ms : List Listed) (l : Listed) (os : List Order) (v w : View) → ls ≡ ms ++ l ∷ [] → ordered v ++ updates_in files (reverse ls) ≡ os → HasOrdered (update_in files l) v w
+pub rest_next : (files : List StoredFile) (ls ms : List Listed) (l : Listed) (os : List Order) (v w : List Entry) → ls ≡ ms ++ l ∷ [] → ordered v ++ updates_in files (reverse ls) ≡ os → HasOrdered (update_in files l) v w
     → ordered w ++ updates_in files (reverse ms) ≡ os
 rest_next files ls ms l os v w is was h =
     ap (λ xs. xs ++ updates_in files (reverse ms)) h ∙ (append_assoc (ordered v) (update_in files l) (updates_in files (reverse ms)) ∙ (ap (λ xs. ordered v ++ xs) (sym (popped files ls ms l is)) ∙ was))
@@ -116,11 +116,11 @@ none_left : (ls : List Listed) → length ls ≡ 0 → ls ≡ []
 none_left [] h = refl
 none_left (l ∷ ls) h = absurd (omega (arith, h))
 
-pub rest_done : (o : Option (List StoredFile)) (v w : View) (all ls : List Listed) → length ls ≡ 0 → IfSome o (λ files. ordered w ++ updates_in files (reverse ls) ≡ ordered v ++ updates_in files (reverse all))
+pub rest_done : (o : Option (List StoredFile)) (v w : List Entry) (all ls : List Listed) → length ls ≡ 0 → IfSome o (λ files. ordered w ++ updates_in files (reverse ls) ≡ ordered v ++ updates_in files (reverse all))
     → IfSome o (λ files. HasOrdered (updates_in files (reverse all)) v w)
 rest_done o v w all ls none h =
     if_map o (λ files is. sym (append-nil (ordered w)) ∙ (ap (λ xs. ordered w ++ updates_in files (reverse xs)) (sym (none_left ls none)) ∙ is)) h
 
-pub all_reread : (o : Option (List StoredFile)) (jobs : List InForce) (v w : View) (ls ms : List Listed) → ls ≡ listed_in jobs → ms ≡ reverse ls → IfSome o (λ files. HasOrdered (updates_in files (reverse ms)) v w)
+pub all_reread : (o : Option (List StoredFile)) (jobs : List InForce) (v w : List Entry) (ls ms : List Listed) → ls ≡ listed_in jobs → ms ≡ reverse ls → IfSome o (λ files. HasOrdered (updates_in files (reverse ms)) v w)
     → IfSome o (λ files. HasOrdered (rereads files jobs) v w)
 all_reread o jobs v w ls ms is turned h = if_map o (λ files has. has ∙ ap (λ xs. ordered v ++ updates_in files xs) (ap reverse turned ∙ (reverse-reverse ls ∙ is))) h

@@ -24,7 +24,7 @@ use Rattle.run_lock.specs.declared.tasks.Order.{Order}
 use Rattle.run_lock.specs.declared.tasks.Order.TheVariants.{Load, Update}
 use Rattle.scrape_config.specs.declared.conf.Group.{Group}
 use Rattle.scrape_machine.specs.Machine.{world_of}
-use Rattle.seat_notes.specs.declared.desk.View.{View}
+use Rattle.run_lock.specs.declared.marks.Entry.{Entry}
 use Rattle.station.specs.InputLines.{all_lines, ended_lines, open_line, unless_empty}
 use Rattle.station.specs.declared.reader.Reader.{Reader}
 use Rattle.station.specs.declared.ends.RunEnd.{RunEnd}
@@ -117,13 +117,13 @@ abbrev pub most_control_bytes : ℕ
 most_control_bytes = 1048576
 
 -- the caller's pass after these further orders, and after what it did and said
-abbrev pub HasOrdered : List Order → View → View → Type 0
+abbrev pub HasOrdered : List Order → List Entry → List Entry → Type 0
 HasOrdered orders v w = ordered w ≡ ordered v ++ orders
 
-abbrev pub Does : Doing → View → View → Option Refusal → Type 0
+abbrev pub Does : Doing → List Entry → List Entry → Option Refusal → Type 0
 Does d v w why = HasOrdered d.orders v w × (why ≡ d.why)
 
-pub record HasDone (d : Did) (v w : View) (err : Use SinkSeen) : Type 0 where
+pub record HasDone (d : Did) (v w : List Entry) (err : Use SinkSeen) : Type 0 where
   pub orders : HasOrdered d.orders v w
   pub said : Adds d.said err
 
@@ -157,11 +157,11 @@ abbrev pub caller_did : List StoredFile → List InForce → RunEnd → List ℕ
 caller_did files jobs end bytes = both (did (rereads files jobs) []) (control_did files (jobs_after jobs (rereads files jobs)) end bytes)
 
 -- by a sound end, where the shelf tells its files and control what it has left: what the reading of control did, and what the caller did in all
-abbrev pub ControlDid : List Event → RunEnd → Use ShelfSeen → Option (List ℕ) → View → View → Use SinkSeen → Type 0
+abbrev pub ControlDid : List Event → RunEnd → Use ShelfSeen → Option (List ℕ) → List Entry → List Entry → Use SinkSeen → Type 0
 ControlDid start end shelf left v w err =
     IsSound end shelf → IfSome shelf.before.files (λ files. IfSome left (λ bytes. HasDone (control_did files (jobs_known start v) end bytes) v w err))
 
-abbrev pub CallerDid : List Event → RunEnd → Use ShelfSeen → Option (List ℕ) → View → View → Use SinkSeen → Type 0
+abbrev pub CallerDid : List Event → RunEnd → Use ShelfSeen → Option (List ℕ) → List Entry → List Entry → Use SinkSeen → Type 0
 CallerDid start end shelf left v w err =
     IsSound end shelf → IfSome shelf.before.files (λ files. IfSome left (λ bytes. HasDone (caller_did files (jobs_known start v) end bytes) v w err))
 

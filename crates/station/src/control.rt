@@ -1,10 +1,9 @@
 //! The loop of the caller: it reads the listed files, and then control, whose lines it does one after another.
 ghost use Rattle.std.specs.Prelude.{◌≡◌, ◌++◌, ◌+◌, ◌≤◌, [], ◌∷◌, false, length, All, IfSome, OnOk};
-ghost use Rattle.crossbeam_queue.specs.Passes.{view};
 ghost use Rattle.outside.specs.Objects.{used};
 ghost use Rattle.run_lock.specs.Callers.{jobs_known};
-ghost use Rattle.run_lock.specs.Tasks.{IsOwn};
-ghost use Rattle.seat_notes.specs.Desks.{worker, IsDesk, IsPass};
+ghost use Rattle.run_lock.specs.Seats.{IsOwn};
+ghost use Rattle.turn_lock.specs.Passes.{own_of};
 ghost use Rattle.station.specs.Control as control;
 ghost use Rattle.station.specs.Control.{CallerDid, ControlDid, HasDone, HasRead};
 ghost use Rattle.station.specs.Ends as spec;
@@ -14,9 +13,7 @@ use crate::ends::{RunEnd, Stop};
 use crate::orders::{do_line, read_listed};
 use crate::reader::Reader;
 use outside::{Shelf, Sink, Source};
-use run_lock::hall::Hall;
-use seat_notes::desk::{Desk, Room, Token};
-use std::alloc::Global;
+use run_lock::{Asked, Seat};
 use std::sync::Wait;
 use std::sync::ledger::Ledger;
 
@@ -27,100 +24,68 @@ const MOST_CONTROL: usize = 1 << 20;
 const ROOM: usize = 4_096;
 
 /// Reads a byte of the control input: does the line that ends with it, if one does.
-fn do_byte<L: Ledger, B: Room, R: Wait, S: Shelf, E: Sink>(
-    rt: &R,
-    alloc: Global,
-    hall: &Hall<L, B>,
-    desk: &Desk,
+fn do_byte<'r, L: Ledger, B: Asked, R: Wait, S: Shelf, E: Sink>(
+    seat: &mut Seat<'r, L, B, R>,
     shelf: &mut S,
     err: &mut E,
     reader: &mut Reader,
     byte: u8,
-    seat: Token,
-) -> (Result<(), Stop>, Token)
+) -> Result<(), Stop>
     requires few { reader.old.before ≤ 1048576 }
-    requires desk { IsDesk B.table desk.now }
-    requires own { IsPass B.table seat }
-    requires seat { IsOwn 0 (view seat) }
-    ensures own { IsPass B.table result.1 }
-    ensures seat { IsOwn 0 (view result.1) }
+    requires seat { IsOwn seat.old.lock.now 0 seat.old.pass }
+    ensures lock { seat.new.lock ≡ seat.old.lock }
+    ensures seat { IsOwn seat.new.lock.now 0 seat.new.pass }
     ensures shelf { ShelfWent (used (S.seen shelf.old) (S.seen shelf.new)) }
     ensures err { SinkWent (used (E.seen err.old) (E.seen err.new)) }
-    ensures stops { LineStops result.0 (used (S.seen shelf.old) (S.seen shelf.new)) (used (E.seen err.old) (E.seen err.new)) }
+    ensures stops { LineStops result (used (S.seen shelf.old) (S.seen shelf.new)) (used (E.seen err.old) (E.seen err.new)) }
     ensures few { reader.new.before ≤ reader.old.before + 1 }
-    ensures read { OnOk result.0 (HasRead (byte ∷ []) reader.old reader.new) }
-    ensures did { OnOk result.0 (IfSome (S.seen shelf.old).files (λ files.
-        HasDone (control.piece_did files (jobs_known B.start (view seat)) reader.old (byte ∷ [])) (view seat) (view result.1) (used (E.seen err.old) (E.seen err.new)))) }
+    ensures read { OnOk result (HasRead (byte ∷ []) reader.old reader.new) }
+    ensures did { OnOk result (IfSome (S.seen shelf.old).files (λ files.
+        HasDone (control.piece_did files (jobs_known B.start (own_of seat.old.pass)) reader.old (byte ∷ [])) (own_of seat.old.pass) (own_of seat.new.pass) (used (E.seen err.old) (E.seen err.new)))) }
 {
     if byte != b'\n' {
         return match reader.line.push(byte) {
-            Ok(()) => (Ok(()), seat),
-            Err(_) => (Err(Stop::NoMemory), seat),
+            Ok(()) => Ok(()),
+            Err(_) => Err(Stop::NoMemory),
         };
     }
     let number = reader.before + 1;
-    let (done, seat) = do_line(
-        rt,
-        alloc,
-        hall,
-        desk,
-        shelf,
-        err,
-        number,
-        &reader.line,
-        seat,
-    );
+    let done = do_line(seat, shelf, err, number, &reader.line);
     if let Err(stop) = done {
-        return (Err(stop), seat);
+        return Err(stop);
     }
     reader.line.clear();
     reader.before = number;
-    (Ok(()), seat)
+    Ok(())
 }
 
 /// Reads a piece of the control input: does each line that ends in it.
-fn do_piece<L: Ledger, B: Room, R: Wait, S: Shelf, E: Sink>(
-    rt: &R,
-    alloc: Global,
-    hall: &Hall<L, B>,
-    desk: &Desk,
+fn do_piece<'r, L: Ledger, B: Asked, R: Wait, S: Shelf, E: Sink>(
+    seat: &mut Seat<'r, L, B, R>,
     shelf: &mut S,
     err: &mut E,
     reader: &mut Reader,
     piece: &[u8],
-    seat: Token,
-) -> (Result<(), Stop>, Token)
+) -> Result<(), Stop>
     requires few { reader.old.before + length piece.now ≤ 1048576 }
-    requires desk { IsDesk B.table desk.now }
-    requires own { IsPass B.table seat }
-    requires seat { IsOwn 0 (view seat) }
-    ensures own { IsPass B.table result.1 }
-    ensures seat { IsOwn 0 (view result.1) }
+    requires seat { IsOwn seat.old.lock.now 0 seat.old.pass }
+    ensures lock { seat.new.lock ≡ seat.old.lock }
+    ensures seat { IsOwn seat.new.lock.now 0 seat.new.pass }
     ensures shelf { ShelfWent (used (S.seen shelf.old) (S.seen shelf.new)) }
     ensures err { SinkWent (used (E.seen err.old) (E.seen err.new)) }
-    ensures stops { LineStops result.0 (used (S.seen shelf.old) (S.seen shelf.new)) (used (E.seen err.old) (E.seen err.new)) }
+    ensures stops { LineStops result (used (S.seen shelf.old) (S.seen shelf.new)) (used (E.seen err.old) (E.seen err.new)) }
     ensures few { reader.new.before ≤ reader.old.before + length piece.now }
-    ensures read { OnOk result.0 (HasRead piece.now reader.old reader.new) }
-    ensures did { OnOk result.0 (IfSome (S.seen shelf.old).files (λ files.
-        HasDone (control.piece_did files (jobs_known B.start (view seat)) reader.old piece.now) (view seat) (view result.1) (used (E.seen err.old) (E.seen err.new)))) }
+    ensures read { OnOk result (HasRead piece.now reader.old reader.new) }
+    ensures did { OnOk result (IfSome (S.seen shelf.old).files (λ files.
+        HasDone (control.piece_did files (jobs_known B.start (own_of seat.old.pass)) reader.old piece.now) (own_of seat.old.pass) (own_of seat.new.pass) (used (E.seen err.old) (E.seen err.new)))) }
 {
-    let mut seat = seat;
     for byte in piece {
-        let (done, told) = do_byte(rt, alloc, hall, desk, shelf, err, reader, *byte, seat);
-        seat = told;
+        let done = do_byte(seat, shelf, err, reader, *byte);
         if done.is_err() {
-            return (done, seat);
+            return done;
         }
     }
-    (Ok(()), seat)
-}
-
-/// What the caller's loop hands back.
-#[derive(Drop)]
-pub struct Controlled<C> {
-    pub control: C,
-    pub seat: Token,
-    pub end: RunEnd,
+    Ok(())
 }
 
 /// How the loop ends with a stop.
@@ -157,155 +122,118 @@ fn end_after(done: Result<(), Stop>, too_long: bool) -> Option<RunEnd>
 }
 
 /// The end of the input: a last line without a line feed counts where it isn't empty.
-fn do_last<L: Ledger, B: Room, R: Wait, S: Shelf, E: Sink>(
-    rt: &R,
-    alloc: Global,
-    hall: &Hall<L, B>,
-    desk: &Desk,
+fn do_last<'r, L: Ledger, B: Asked, R: Wait, S: Shelf, E: Sink>(
+    seat: &mut Seat<'r, L, B, R>,
     shelf: &mut S,
     err: &mut E,
     reader: &Reader,
-    seat: Token,
-) -> (RunEnd, Token)
+) -> RunEnd
     requires few { reader.now.before ≤ 1048576 }
-    requires desk { IsDesk B.table desk.now }
-    requires own { IsPass B.table seat }
-    requires seat { IsOwn 0 (view seat) }
-    ensures own { IsPass B.table result.1 }
-    ensures seat { IsOwn 0 (view result.1) }
+    requires seat { IsOwn seat.old.lock.now 0 seat.old.pass }
+    ensures lock { seat.new.lock ≡ seat.old.lock }
+    ensures seat { IsOwn seat.new.lock.now 0 seat.new.pass }
     ensures shelf { ShelfWent (used (S.seen shelf.old) (S.seen shelf.new)) }
     ensures err { SinkWent (used (E.seen err.old) (E.seen err.new)) }
-    ensures ends { LastEnds result.0 (used (S.seen shelf.old) (S.seen shelf.new)) (used (E.seen err.old) (E.seen err.new)) }
-    ensures did { result.0 ≡ RunEnd.Done → IfSome (S.seen shelf.old).files (λ files.
-        HasDone (control.last_did files (jobs_known B.start (view seat)) reader.now) (view seat) (view result.1) (used (E.seen err.old) (E.seen err.new))) }
+    ensures ends { LastEnds result (used (S.seen shelf.old) (S.seen shelf.new)) (used (E.seen err.old) (E.seen err.new)) }
+    ensures did { result ≡ RunEnd.Done → IfSome (S.seen shelf.old).files (λ files.
+        HasDone (control.last_did files (jobs_known B.start (own_of seat.old.pass)) reader.now) (own_of seat.old.pass) (own_of seat.new.pass) (used (E.seen err.old) (E.seen err.new))) }
 {
     if reader.line.is_empty() {
-        return (RunEnd::Done, seat);
+        return RunEnd::Done;
     }
     let number = reader.before + 1;
-    let (done, seat) = do_line(
-        rt,
-        alloc,
-        hall,
-        desk,
-        shelf,
-        err,
-        number,
-        &reader.line,
-        seat,
-    );
+    let done = do_line(seat, shelf, err, number, &reader.line);
     match done {
-        Ok(()) => (RunEnd::Done, seat),
-        Err(stop) => (end_of(stop), seat),
+        Ok(()) => RunEnd::Done,
+        Err(stop) => end_of(stop),
     }
 }
 
 /// Reads the control input to its end, or until it gave more than 1 MiB, or until something fails.
-fn read_control<L: Ledger, B: Room, R: Wait, S: Shelf, E: Sink, C: Source>(
-    rt: &R,
-    alloc: Global,
-    hall: &Hall<L, B>,
-    desk: &Desk,
+fn read_control<'r, L: Ledger, B: Asked, R: Wait, S: Shelf, E: Sink, C: Source>(
+    seat: &mut Seat<'r, L, B, R>,
     shelf: &mut S,
     err: &mut E,
     control: &mut C,
-    seat: Token,
-) -> (RunEnd, Token)
-    requires desk { IsDesk B.table desk.now }
-    requires own { IsPass B.table seat }
-    requires seat { IsOwn 0 (view seat) }
-    ensures own { IsPass B.table result.1 }
-    ensures seat { IsOwn 0 (view result.1) }
+) -> RunEnd
+    requires seat { IsOwn seat.old.lock.now 0 seat.old.pass }
+    ensures lock { seat.new.lock ≡ seat.old.lock }
+    ensures seat { IsOwn seat.new.lock.now 0 seat.new.pass }
     ensures shelf { ShelfWent (used (S.seen shelf.old) (S.seen shelf.new)) }
     ensures err { SinkWent (used (E.seen err.old) (E.seen err.new)) }
     ensures control { SourceWent (used (C.seen control.old) (C.seen control.new)) }
-    ensures ends { EndsSo result.0 (used (S.seen shelf.old) (S.seen shelf.new)) (used (E.seen err.old) (E.seen err.new)) (used (C.seen control.old) (C.seen control.new)) }
-    ensures did { ControlDid B.start result.0 (used (S.seen shelf.old) (S.seen shelf.new)) (C.seen control.old).left (view seat) (view result.1) (used (E.seen err.old) (E.seen err.new)) }
+    ensures ends { EndsSo result (used (S.seen shelf.old) (S.seen shelf.new)) (used (E.seen err.old) (E.seen err.new)) (used (C.seen control.old) (C.seen control.new)) }
+    ensures did { ControlDid B.start result (used (S.seen shelf.old) (S.seen shelf.new)) (C.seen control.old).left (own_of seat.old.pass) (own_of seat.new.pass) (used (E.seen err.old) (E.seen err.new)) }
 {
-    let mut seat = seat;
-    let Ok(mut room) = Vec::from_elem(alloc, 0u8, ROOM) else {
-        return (RunEnd::NoMemory, seat);
+    let rt = seat.rt;
+    let Ok(mut room) = Vec::from_elem(seat.alloc, 0u8, ROOM) else {
+        return RunEnd::NoMemory;
     };
     let mut reader = Reader {
-        line: Vec::new(alloc),
+        line: Vec::new(seat.alloc),
         before: 0,
     };
     let mut given: usize = 0;
     for _ in rt.forever() {
         let Ok(count) = control.read(&mut room) else {
-            return (RunEnd::ReadFault, seat);
+            return RunEnd::ReadFault;
         };
         if count == 0 {
-            return do_last(rt, alloc, hall, desk, shelf, err, &reader, seat);
+            return do_last(seat, shelf, err, &reader);
         }
         let kept = count.min(MOST_CONTROL - given);
-        let (done, told) = do_piece(
-            rt,
-            alloc,
-            hall,
-            desk,
-            shelf,
-            err,
-            &mut reader,
-            &room[..kept],
-            seat,
-        );
-        seat = told;
+        let done = do_piece(seat, shelf, err, &mut reader, &room[..kept]);
         given += kept;
         if let Some(end) = end_after(done, kept < count) {
-            return (end, seat);
+            return end;
         }
     }
     unreachable!()
 }
 
-/// The end of the caller's loop: where memory ran out all loops are to stop.
-fn ended<L: Ledger, B: Room, R: Wait, C>(
-    rt: &R,
-    hall: &Hall<L, B>,
-    control: C,
-    seat: Token,
-    end: RunEnd,
-) -> Controlled<C>
-    ensures control { result.control ≡ control }
-    ensures seat { result.seat ≡ seat }
-    ensures end { result.end ≡ end }
+/// Reads the listed files of the configuration in force, and then control.
+fn read_all<'r, L: Ledger, B: Asked, R: Wait, S: Shelf, E: Sink, C: Source>(
+    seat: &mut Seat<'r, L, B, R>,
+    shelf: &mut S,
+    err: &mut E,
+    control: &mut C,
+) -> RunEnd
+    requires seat { IsOwn seat.old.lock.now 0 seat.old.pass }
+    ensures lock { seat.new.lock ≡ seat.old.lock }
+    ensures seat { IsOwn seat.new.lock.now 0 seat.new.pass }
+    ensures shelf { ShelfWent (used (S.seen shelf.old) (S.seen shelf.new)) }
+    ensures err { SinkWent (used (E.seen err.old) (E.seen err.new)) }
+    ensures control { SourceWent (used (C.seen control.old) (C.seen control.new)) }
+    ensures ends { EndsSo result (used (S.seen shelf.old) (S.seen shelf.new)) (used (E.seen err.old) (E.seen err.new)) (used (C.seen control.old) (C.seen control.new)) }
+    ensures did { CallerDid B.start result (used (S.seen shelf.old) (S.seen shelf.new)) (C.seen control.old).left (own_of seat.old.pass) (own_of seat.new.pass) (used (E.seen err.old) (E.seen err.new)) }
 {
-    if end == RunEnd::NoMemory {
-        hall.fail(rt);
+    let done = read_listed(seat, shelf);
+    match done {
+        Ok(()) => read_control(seat, shelf, err, control),
+        Err(stop) => end_of(stop),
     }
-    Controlled { control, seat, end }
 }
 
 /// The loop of the caller: it reads the listed files of the configuration in force, and then control. Where memory runs out all loops are to stop.
-pub fn take_commands<L: Ledger, B: Room, R: Wait, S: Shelf, E: Sink, C: Source>(
-    rt: &R,
-    alloc: Global,
-    hall: &Hall<L, B>,
-    desk: &Desk,
+pub fn take_commands<'r, L: Ledger, B: Asked, R: Wait, S: Shelf, E: Sink, C: Source>(
+    seat: &mut Seat<'r, L, B, R>,
     shelf: &mut S,
     err: &mut E,
-    control: C,
-    seat: Token,
-) -> Controlled<C>
-    requires desk { IsDesk B.table desk.now }
-    requires own { IsPass B.table seat }
-    requires seat { view seat ≡ worker 0 [] }
-    ensures own { IsPass B.table result.seat }
-    ensures seat { IsOwn 0 (view result.seat) }
+    control: &mut C,
+) -> RunEnd
+    requires seat { IsOwn seat.old.lock.now 0 seat.old.pass }
+    ensures lock { seat.new.lock ≡ seat.old.lock }
+    ensures seat { IsOwn seat.new.lock.now 0 seat.new.pass }
     ensures shelf { ShelfWent (used (S.seen shelf.old) (S.seen shelf.new)) }
     ensures err { SinkWent (used (E.seen err.old) (E.seen err.new)) }
-    ensures control { SourceWent (used (C.seen control) (C.seen result.control)) }
-    ensures ends { EndsSo result.end (used (S.seen shelf.old) (S.seen shelf.new)) (used (E.seen err.old) (E.seen err.new)) (used (C.seen control) (C.seen result.control)) }
-    ensures did { CallerDid B.start result.end (used (S.seen shelf.old) (S.seen shelf.new)) (C.seen control).left (view seat) (view result.seat) (used (E.seen err.old) (E.seen err.new)) }
+    ensures control { SourceWent (used (C.seen control.old) (C.seen control.new)) }
+    ensures ends { EndsSo result (used (S.seen shelf.old) (S.seen shelf.new)) (used (E.seen err.old) (E.seen err.new)) (used (C.seen control.old) (C.seen control.new)) }
+    ensures did { CallerDid B.start result (used (S.seen shelf.old) (S.seen shelf.new)) (C.seen control.old).left (own_of seat.old.pass) (own_of seat.new.pass) (used (E.seen err.old) (E.seen err.new)) }
 {
-    let mut control = control;
-    let (done, seat) = read_listed(rt, alloc, hall, desk, shelf, seat);
-    match done {
-        Ok(()) => {
-            let (end, seat) = read_control(rt, alloc, hall, desk, shelf, err, &mut control, seat);
-            ended(rt, hall, control, seat, end)
-        }
-        Err(stop) => ended(rt, hall, control, seat, end_of(stop)),
+    let end = read_all(seat, shelf, err, control);
+    if end != RunEnd::NoMemory {
+        return end;
     }
+    seat.fail(0);
+    RunEnd::NoMemory
 }

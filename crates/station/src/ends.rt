@@ -1,5 +1,6 @@
 //! How a run ends, and what it hands back.
 use label_set::NoMemory;
+use run_lock::Mark;
 use scrape_core::Core;
 use std::marker::Model;
 
@@ -43,15 +44,18 @@ impl From<NoMemory> for Stop {
 /// The seats that brought the events of a journal, in their order.
 #[derive(Drop, Debug)]
 pub struct SeatList {
-    pub items: Vec<u32>,
+    /// How many events came first for whose marks there was no memory: the caller's.
+    pub unmarked: u64,
+    pub marks: Vec<Mark>,
 }
 
 impl Model for SeatList {
-    ghost use Rattle.std.specs.Prelude.{ℕ, List};
+    ghost use Rattle.std.specs.Prelude.{ℕ, List, ◌++◌, replicate};
+    ghost use Rattle.run_lock.specs.Entries.{seats_in};
 
     ghost Value = { List ℕ };
 
-    ghost view = { λ l. l.items.items };
+    ghost view = { λ l. replicate l.unmarked 0 ++ seats_in l.marks.items };
 }
 
 /// What a run hands back. Its core is to be let go by whoever takes it.

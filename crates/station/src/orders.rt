@@ -1,16 +1,15 @@
 //! What a control line does: it loads or updates what it names.
 ghost use Rattle.std.specs.Prelude.{◌≡◌, List, length, Result, All, IfOk, IfSome, OnOk};
 ghost use mathlib.Core.List.{reverse};
-ghost use Rattle.crossbeam_queue.specs.Passes.{view};
 ghost use Rattle.control_lines.specs.Messages.{message};
 ghost use Rattle.jobs_in_force.specs.Jobs.{Unlisted, loaded};
 ghost use Rattle.journal_text.specs.Lines.{IsNameLength, IsTextLength};
 ghost use Rattle.outside.specs.Objects.{Adds, used};
 ghost use Rattle.run_lock.specs.Callers.{UpdateAnswered, jobs_known};
 ghost use Rattle.run_lock.specs.Listed.{IsListed};
-ghost use Rattle.run_lock.specs.Tasks.{IsOwn};
+ghost use Rattle.run_lock.specs.Seats.{IsOwn};
 ghost use Rattle.scrape_config.specs.declared.conf.Group.{Group};
-ghost use Rattle.seat_notes.specs.Desks.{IsDesk, IsPass};
+ghost use Rattle.turn_lock.specs.Passes.{own_of};
 ghost use Rattle.station.specs.Control as spec;
 ghost use Rattle.station.specs.Control.{Does, HasDone, HasOrdered};
 ghost use Rattle.station.specs.Ends.{ShelfWent, SinkWent, FileStops, SaidStops, LineStops};
@@ -20,11 +19,10 @@ use crate::ends::Stop;
 use control_lines::{Command, Refusal, command_in, message_of};
 use label_set::{Blob, Name};
 use outside::{MOST_TEXT_BYTES, Shelf, ShelfError, Sink};
-use run_lock::hall::Hall;
 use run_lock::listed::Listed;
 use run_lock::tasks::{Order, fault_of};
+use run_lock::{Asked, Seat};
 use scrape_core::Answer;
-use seat_notes::desk::{Desk, Room, Token};
 use std::alloc::Global;
 use std::sync::Wait;
 use std::sync::ledger::Ledger;
@@ -66,159 +64,127 @@ fn refuse<E: Sink>(alloc: Global, err: &mut E, line: u64, refusal: &Refusal) -> 
 }
 
 /// Updates the targets of a listed file; an absent or overlong one gives no update.
-fn read_one<L: Ledger, B: Room, R: Wait, S: Shelf>(
-    rt: &R,
-    alloc: Global,
-    hall: &Hall<L, B>,
-    desk: &Desk,
+fn read_one<'r, L: Ledger, B: Asked, R: Wait, S: Shelf>(
+    seat: &mut Seat<'r, L, B, R>,
     shelf: &mut S,
     listed: Listed,
-    seat: Token,
-) -> (Result<(), Stop>, Token)
+) -> Result<(), Stop>
     requires listed { IsListed listed }
-    requires desk { IsDesk B.table desk.now }
-    requires own { IsPass B.table seat }
-    requires seat { IsOwn 0 (view seat) }
-    ensures own { IsPass B.table result.1 }
-    ensures seat { IsOwn 0 (view result.1) }
+    requires seat { IsOwn seat.old.lock.now 0 seat.old.pass }
+    ensures lock { seat.new.lock ≡ seat.old.lock }
+    ensures seat { IsOwn seat.new.lock.now 0 seat.new.pass }
     ensures shelf { ShelfWent (used (S.seen shelf.old) (S.seen shelf.new)) }
-    ensures stops { FileStops result.0 (used (S.seen shelf.old) (S.seen shelf.new)) }
-    ensures orders { OnOk result.0 (IfSome (S.seen shelf.old).files (λ files. HasOrdered (spec.update_in files listed) (view seat) (view result.1))) }
+    ensures stops { FileStops result (used (S.seen shelf.old) (S.seen shelf.new)) }
+    ensures orders { OnOk result (IfSome (S.seen shelf.old).files (λ files. HasOrdered (spec.update_in files listed) (own_of seat.old.pass) (own_of seat.new.pass))) }
 {
-    let text = match read_text(alloc, shelf, &listed.file) {
+    let text = match read_text(seat.alloc, shelf, &listed.file) {
         Ok(Found::Text(text)) => text,
-        Ok(Found::Refusal(_)) => return (Ok(()), seat),
-        Err(stop) => return (Err(stop), seat),
+        Ok(Found::Refusal(_)) => return Ok(()),
+        Err(stop) => return Err(stop),
     };
     let order = Order::Update {
         job: listed.job,
         file: listed.file,
         text,
     };
-    let (answer, seat) = hall.carry_out(rt, alloc, desk, order, seat);
+    let answer = seat.carry_out(order);
     let Some(_) = answer else {
-        return (Err(Stop::NoMemory), seat);
+        return Err(Stop::NoMemory);
     };
-    (Ok(()), seat)
+    Ok(())
 }
 
 /// Reads listed files, the last of the list first.
-fn read_backwards<L: Ledger, B: Room, R: Wait, S: Shelf>(
-    rt: &R,
-    alloc: Global,
-    hall: &Hall<L, B>,
-    desk: &Desk,
+fn read_backwards<'r, L: Ledger, B: Asked, R: Wait, S: Shelf>(
+    seat: &mut Seat<'r, L, B, R>,
     shelf: &mut S,
     listed: Vec<Listed>,
-    seat: Token,
-) -> (Result<(), Stop>, Token)
+) -> Result<(), Stop>
     requires fit { All IsListed listed.items }
-    requires desk { IsDesk B.table desk.now }
-    requires own { IsPass B.table seat }
-    requires seat { IsOwn 0 (view seat) }
-    ensures own { IsPass B.table result.1 }
-    ensures seat { IsOwn 0 (view result.1) }
+    requires seat { IsOwn seat.old.lock.now 0 seat.old.pass }
+    ensures lock { seat.new.lock ≡ seat.old.lock }
+    ensures seat { IsOwn seat.new.lock.now 0 seat.new.pass }
     ensures shelf { ShelfWent (used (S.seen shelf.old) (S.seen shelf.new)) }
-    ensures stops { FileStops result.0 (used (S.seen shelf.old) (S.seen shelf.new)) }
-    ensures orders { OnOk result.0 (IfSome (S.seen shelf.old).files (λ files. HasOrdered (spec.updates_in files (reverse listed.items)) (view seat) (view result.1))) }
+    ensures stops { FileStops result (used (S.seen shelf.old) (S.seen shelf.new)) }
+    ensures orders { OnOk result (IfSome (S.seen shelf.old).files (λ files. HasOrdered (spec.updates_in files (reverse listed.items)) (own_of seat.old.pass) (own_of seat.new.pass))) }
 {
     let mut listed = listed;
-    let mut seat = seat;
     while let Some(one) = listed.pop() {
-        let (done, told) = read_one(rt, alloc, hall, desk, shelf, one, seat);
-        seat = told;
+        let done = read_one(seat, shelf, one);
         if done.is_err() {
-            return (done, seat);
+            return done;
         }
     }
-    (Ok(()), seat)
+    Ok(())
 }
 
 /// Reads each listed file of each job of the configuration in force, in order.
-pub fn read_listed<L: Ledger, B: Room, R: Wait, S: Shelf>(
-    rt: &R,
-    alloc: Global,
-    hall: &Hall<L, B>,
-    desk: &Desk,
+pub fn read_listed<'r, L: Ledger, B: Asked, R: Wait, S: Shelf>(
+    seat: &mut Seat<'r, L, B, R>,
     shelf: &mut S,
-    seat: Token,
-) -> (Result<(), Stop>, Token)
-    requires desk { IsDesk B.table desk.now }
-    requires own { IsPass B.table seat }
-    requires seat { IsOwn 0 (view seat) }
-    ensures own { IsPass B.table result.1 }
-    ensures seat { IsOwn 0 (view result.1) }
+) -> Result<(), Stop>
+    requires seat { IsOwn seat.old.lock.now 0 seat.old.pass }
+    ensures lock { seat.new.lock ≡ seat.old.lock }
+    ensures seat { IsOwn seat.new.lock.now 0 seat.new.pass }
     ensures shelf { ShelfWent (used (S.seen shelf.old) (S.seen shelf.new)) }
-    ensures stops { FileStops result.0 (used (S.seen shelf.old) (S.seen shelf.new)) }
-    ensures orders { OnOk result.0 (IfSome (S.seen shelf.old).files (λ files. HasOrdered (spec.rereads files (jobs_known B.start (view seat))) (view seat) (view result.1))) }
+    ensures stops { FileStops result (used (S.seen shelf.old) (S.seen shelf.new)) }
+    ensures orders { OnOk result (IfSome (S.seen shelf.old).files (λ files. HasOrdered (spec.rereads files (jobs_known B.start (own_of seat.old.pass))) (own_of seat.old.pass) (own_of seat.new.pass))) }
 {
-    let (listed, seat) = hall.listed(rt, alloc, desk, seat);
+    let listed = seat.listed();
     let Ok(mut listed) = listed else {
-        return (Err(Stop::NoMemory), seat);
+        return Err(Stop::NoMemory);
     };
     listed.reverse();
-    read_backwards(rt, alloc, hall, desk, shelf, listed, seat)
+    read_backwards(seat, shelf, listed)
 }
 
 /// Loads a configuration, and reads its listed files where it is taken. Why it isn't, if it isn't.
-fn load_text<L: Ledger, B: Room, R: Wait, S: Shelf>(
-    rt: &R,
-    alloc: Global,
-    hall: &Hall<L, B>,
-    desk: &Desk,
+fn load_text<'r, L: Ledger, B: Asked, R: Wait, S: Shelf>(
+    seat: &mut Seat<'r, L, B, R>,
     shelf: &mut S,
     text: Blob,
-    seat: Token,
-) -> (Result<Option<Refusal>, Stop>, Token)
+) -> Result<Option<Refusal>, Stop>
     requires text { IsTextLength (length text) }
-    requires desk { IsDesk B.table desk.now }
-    requires own { IsPass B.table seat }
-    requires seat { IsOwn 0 (view seat) }
-    ensures own { IsPass B.table result.1 }
-    ensures seat { IsOwn 0 (view result.1) }
+    requires seat { IsOwn seat.old.lock.now 0 seat.old.pass }
+    ensures lock { seat.new.lock ≡ seat.old.lock }
+    ensures seat { IsOwn seat.new.lock.now 0 seat.new.pass }
     ensures shelf { ShelfWent (used (S.seen shelf.old) (S.seen shelf.new)) }
-    ensures stops { FileStops result.0 (used (S.seen shelf.old) (S.seen shelf.new)) }
-    ensures does { IfOk result.0 (λ why. IfSome (S.seen shelf.old).files (λ files.
-        Does (spec.load_taken files text (loaded (jobs_known B.start (view seat)) text)) (view seat) (view result.1) why)) }
+    ensures stops { FileStops result (used (S.seen shelf.old) (S.seen shelf.new)) }
+    ensures does { IfOk result (λ why. IfSome (S.seen shelf.old).files (λ files.
+        Does (spec.load_taken files text (loaded (jobs_known B.start (own_of seat.old.pass)) text)) (own_of seat.old.pass) (own_of seat.new.pass) why)) }
 {
-    let (answer, seat) = hall.carry_out(rt, alloc, desk, Order::Load { text }, seat);
+    let answer = seat.carry_out(Order::Load { text });
     let Some(answer) = answer else {
-        return (Err(Stop::NoMemory), seat);
+        return Err(Stop::NoMemory);
     };
     if let Some(fault) = fault_of(answer) {
-        return (Ok(Some(Refusal::Refused(fault))), seat);
+        return Ok(Some(Refusal::Refused(fault)));
     }
-    let (done, seat) = read_listed(rt, alloc, hall, desk, shelf, seat);
+    let done = read_listed(seat, shelf);
     match done {
-        Ok(()) => (Ok(None), seat),
-        Err(stop) => (Err(stop), seat),
+        Ok(()) => Ok(None),
+        Err(stop) => Err(stop),
     }
 }
 
 /// Loads the configuration of a file. Why the line doesn't succeed, if it doesn't.
-fn load_file<L: Ledger, B: Room, R: Wait, S: Shelf>(
-    rt: &R,
-    alloc: Global,
-    hall: &Hall<L, B>,
-    desk: &Desk,
+fn load_file<'r, L: Ledger, B: Asked, R: Wait, S: Shelf>(
+    seat: &mut Seat<'r, L, B, R>,
     shelf: &mut S,
     file: &Name,
-    seat: Token,
-) -> (Result<Option<Refusal>, Stop>, Token)
-    requires desk { IsDesk B.table desk.now }
-    requires own { IsPass B.table seat }
-    requires seat { IsOwn 0 (view seat) }
-    ensures own { IsPass B.table result.1 }
-    ensures seat { IsOwn 0 (view result.1) }
+) -> Result<Option<Refusal>, Stop>
+    requires seat { IsOwn seat.old.lock.now 0 seat.old.pass }
+    ensures lock { seat.new.lock ≡ seat.old.lock }
+    ensures seat { IsOwn seat.new.lock.now 0 seat.new.pass }
     ensures shelf { ShelfWent (used (S.seen shelf.old) (S.seen shelf.new)) }
-    ensures stops { FileStops result.0 (used (S.seen shelf.old) (S.seen shelf.new)) }
-    ensures does { IfOk result.0 (λ why. IfSome (S.seen shelf.old).files (λ files.
-        Does (spec.load_does files (jobs_known B.start (view seat)) (spec.found_in files file.now)) (view seat) (view result.1) why)) }
+    ensures stops { FileStops result (used (S.seen shelf.old) (S.seen shelf.new)) }
+    ensures does { IfOk result (λ why. IfSome (S.seen shelf.old).files (λ files.
+        Does (spec.load_does files (jobs_known B.start (own_of seat.old.pass)) (spec.found_in files file.now)) (own_of seat.old.pass) (own_of seat.new.pass) why)) }
 {
-    match read_text(alloc, shelf, file) {
-        Ok(Found::Text(text)) => load_text(rt, alloc, hall, desk, shelf, text, seat),
-        Ok(Found::Refusal(refusal)) => (Ok(Some(refusal)), seat),
-        Err(stop) => (Err(stop), seat),
+    match read_text(seat.alloc, shelf, file) {
+        Ok(Found::Text(text)) => load_text(seat, shelf, text),
+        Ok(Found::Refusal(refusal)) => Ok(Some(refusal)),
+        Err(stop) => Err(stop),
     }
 }
 
@@ -235,99 +201,79 @@ fn refusal_of(answer: Answer) -> Option<Refusal>
 }
 
 /// Updates the targets of a file of a job. Why the line doesn't succeed, if it doesn't.
-fn update_file<L: Ledger, B: Room, R: Wait, S: Shelf>(
-    rt: &R,
-    alloc: Global,
-    hall: &Hall<L, B>,
-    desk: &Desk,
+fn update_file<'r, L: Ledger, B: Asked, R: Wait, S: Shelf>(
+    seat: &mut Seat<'r, L, B, R>,
     shelf: &mut S,
     job: Name,
     file: Name,
-    seat: Token,
-) -> (Result<Option<Refusal>, Stop>, Token)
+) -> Result<Option<Refusal>, Stop>
     requires job { IsNameLength (length job) }
     requires file { IsNameLength (length file) }
-    requires desk { IsDesk B.table desk.now }
-    requires own { IsPass B.table seat }
-    requires seat { IsOwn 0 (view seat) }
-    ensures own { IsPass B.table result.1 }
-    ensures seat { IsOwn 0 (view result.1) }
+    requires seat { IsOwn seat.old.lock.now 0 seat.old.pass }
+    ensures lock { seat.new.lock ≡ seat.old.lock }
+    ensures seat { IsOwn seat.new.lock.now 0 seat.new.pass }
     ensures shelf { ShelfWent (used (S.seen shelf.old) (S.seen shelf.new)) }
-    ensures stops { FileStops result.0 (used (S.seen shelf.old) (S.seen shelf.new)) }
-    ensures does { IfOk result.0 (λ why. IfSome (S.seen shelf.old).files (λ files.
-        Does (spec.update_does (jobs_known B.start (view seat)) job file (spec.found_in files file)) (view seat) (view result.1) why)) }
+    ensures stops { FileStops result (used (S.seen shelf.old) (S.seen shelf.new)) }
+    ensures does { IfOk result (λ why. IfSome (S.seen shelf.old).files (λ files.
+        Does (spec.update_does (jobs_known B.start (own_of seat.old.pass)) job file (spec.found_in files file)) (own_of seat.old.pass) (own_of seat.new.pass) why)) }
 {
-    let text = match read_text(alloc, shelf, &file) {
+    let text = match read_text(seat.alloc, shelf, &file) {
         Ok(Found::Text(text)) => text,
-        Ok(Found::Refusal(refusal)) => return (Ok(Some(refusal)), seat),
-        Err(stop) => return (Err(stop), seat),
+        Ok(Found::Refusal(refusal)) => return Ok(Some(refusal)),
+        Err(stop) => return Err(stop),
     };
-    let (answer, seat) = hall.carry_out(rt, alloc, desk, Order::Update { job, file, text }, seat);
+    let answer = seat.carry_out(Order::Update { job, file, text });
     match answer {
-        Some(answer) => (Ok(refusal_of(answer)), seat),
-        None => (Err(Stop::NoMemory), seat),
+        Some(answer) => Ok(refusal_of(answer)),
+        None => Err(Stop::NoMemory),
     }
 }
 
 /// Does what a line asks for. Why it doesn't succeed, if it doesn't.
-fn do_command<L: Ledger, B: Room, R: Wait, S: Shelf>(
-    rt: &R,
-    alloc: Global,
-    hall: &Hall<L, B>,
-    desk: &Desk,
+fn do_command<'r, L: Ledger, B: Asked, R: Wait, S: Shelf>(
+    seat: &mut Seat<'r, L, B, R>,
     shelf: &mut S,
     line: &[u8],
-    seat: Token,
-) -> (Result<Option<Refusal>, Stop>, Token)
-    requires desk { IsDesk B.table desk.now }
-    requires own { IsPass B.table seat }
-    requires seat { IsOwn 0 (view seat) }
-    ensures own { IsPass B.table result.1 }
-    ensures seat { IsOwn 0 (view result.1) }
+) -> Result<Option<Refusal>, Stop>
+    requires seat { IsOwn seat.old.lock.now 0 seat.old.pass }
+    ensures lock { seat.new.lock ≡ seat.old.lock }
+    ensures seat { IsOwn seat.new.lock.now 0 seat.new.pass }
     ensures shelf { ShelfWent (used (S.seen shelf.old) (S.seen shelf.new)) }
-    ensures stops { FileStops result.0 (used (S.seen shelf.old) (S.seen shelf.new)) }
-    ensures does { IfOk result.0 (λ why. IfSome (S.seen shelf.old).files (λ files.
-        Does (spec.line_does files (jobs_known B.start (view seat)) line.now) (view seat) (view result.1) why)) }
+    ensures stops { FileStops result (used (S.seen shelf.old) (S.seen shelf.new)) }
+    ensures does { IfOk result (λ why. IfSome (S.seen shelf.old).files (λ files.
+        Does (spec.line_does files (jobs_known B.start (own_of seat.old.pass)) line.now) (own_of seat.old.pass) (own_of seat.new.pass) why)) }
 {
-    let Ok(command) = command_in(alloc, line) else {
-        return (Err(Stop::NoMemory), seat);
+    let Ok(command) = command_in(seat.alloc, line) else {
+        return Err(Stop::NoMemory);
     };
     match command {
-        None => (Ok(Some(Refusal::NotACommand)), seat),
-        Some(Command::Load { file }) => load_file(rt, alloc, hall, desk, shelf, &file, seat),
-        Some(Command::Targets { job, file }) => {
-            update_file(rt, alloc, hall, desk, shelf, job, file, seat)
-        }
+        None => Ok(Some(Refusal::NotACommand)),
+        Some(Command::Load { file }) => load_file(seat, shelf, &file),
+        Some(Command::Targets { job, file }) => { update_file(seat, shelf, job, file) }
     }
 }
 
 /// Does a line, and says it where that doesn't succeed.
-pub fn do_line<L: Ledger, B: Room, R: Wait, S: Shelf, E: Sink>(
-    rt: &R,
-    alloc: Global,
-    hall: &Hall<L, B>,
-    desk: &Desk,
+pub fn do_line<'r, L: Ledger, B: Asked, R: Wait, S: Shelf, E: Sink>(
+    seat: &mut Seat<'r, L, B, R>,
     shelf: &mut S,
     err: &mut E,
     number: u64,
     line: &[u8],
-    seat: Token,
-) -> (Result<(), Stop>, Token)
-    requires desk { IsDesk B.table desk.now }
-    requires own { IsPass B.table seat }
-    requires seat { IsOwn 0 (view seat) }
-    ensures own { IsPass B.table result.1 }
-    ensures seat { IsOwn 0 (view result.1) }
+) -> Result<(), Stop>
+    requires seat { IsOwn seat.old.lock.now 0 seat.old.pass }
+    ensures lock { seat.new.lock ≡ seat.old.lock }
+    ensures seat { IsOwn seat.new.lock.now 0 seat.new.pass }
     ensures shelf { ShelfWent (used (S.seen shelf.old) (S.seen shelf.new)) }
     ensures err { SinkWent (used (E.seen err.old) (E.seen err.new)) }
-    ensures stops { LineStops result.0 (used (S.seen shelf.old) (S.seen shelf.new)) (used (E.seen err.old) (E.seen err.new)) }
-    ensures did { OnOk result.0 (IfSome (S.seen shelf.old).files (λ files.
-        HasDone (spec.line_did files (jobs_known B.start (view seat)) number line.now) (view seat) (view result.1) (used (E.seen err.old) (E.seen err.new)))) }
+    ensures stops { LineStops result (used (S.seen shelf.old) (S.seen shelf.new)) (used (E.seen err.old) (E.seen err.new)) }
+    ensures did { OnOk result (IfSome (S.seen shelf.old).files (λ files.
+        HasDone (spec.line_did files (jobs_known B.start (own_of seat.old.pass)) number line.now) (own_of seat.old.pass) (own_of seat.new.pass) (used (E.seen err.old) (E.seen err.new)))) }
 {
-    let (done, seat) = do_command(rt, alloc, hall, desk, shelf, line, seat);
+    let done = do_command(seat, shelf, line);
     match done {
-        Ok(None) => (Ok(()), seat),
-        Ok(Some(refusal)) => (refuse(alloc, err, number, &refusal), seat),
-        Err(stop) => (Err(stop), seat),
+        Ok(None) => Ok(()),
+        Ok(Some(refusal)) => refuse(seat.alloc, err, number, &refusal),
+        Err(stop) => Err(stop),
     }
 }

@@ -1,160 +1,153 @@
 //! A run: the caller reads control, a ticker sweeps, and a worker for each fetcher scrapes, all over one journal.
-ghost use Rattle.std.specs.Prelude.{◌≡◌, ◌≢◌, ◌<◌, ◌≤◌, ◌^◌, [], length, map, replicate, true, is_some, Some, None, vec_len, All, IfErr, IfOk, IfSome, IsTrue};
+ghost use Rattle.std.specs.Prelude.{◌≡◌, ◌≢◌, ◌<◌, ◌≤◌, ◌+◌, ◌^◌, ◌∷◌, [], length, map, true, is_some, vec_len, vec_capacity, IfErr, IfOk, IfSome, IsTrue};
 ghost use Rattle.std.specs.Thread.{IsSync};
-ghost use Rattle.crossbeam_queue.specs.Passes.{view, IsPassOf};
 ghost use Rattle.outside.specs.Objects.{used};
-ghost use Rattle.scrape_core.specs.Records.{IsFresh, IsWhole};
-ghost use Rattle.station.specs.Crews.{AllFinished, AllTell, AreFresh, AreOver, TellsSweeps};
 ghost use Rattle.run_lock.specs.Callers.{BeginsWith, IsOfCaller};
-ghost use Rattle.run_lock.specs.Held.{IsToldBy};
-ghost use Rattle.run_lock.specs.Tasks.{IsOwn};
+ghost use Rattle.run_lock.specs.Entries.{begun_with, seats_in};
+ghost use Rattle.run_lock.specs.Seats.{AreFresh, AreOwn, IsOwn};
+ghost use Rattle.scrape_core.specs.Records.{IsFresh, IsWhole};
 ghost use Rattle.station.specs.Control.{CallerTells};
-ghost use Rattle.seat_notes.specs.Desks.{knower, worker, IsDesk, IsPass};
+ghost use Rattle.station.specs.Crews.{AllFinished, AllTell, AllTold, FirstEnded, HasTicked, TellsSweeps, behind_of, behinds_in};
 ghost use Rattle.station.specs.Ends as spec;
 ghost use Rattle.station.specs.Ends.{ShelfWent, SinkWent, SourceWent, EndsSo};
-ghost use Rattle.run_lock.specs.Tasks.{IsTicked};
+ghost use Rattle.turn_lock.specs.Passes.{made_of, own_of};
 
-use crate::crew::{Crew, both, hire_all, work_and_tick};
+use crate::crew::{Crew, both, work_and_tick};
 use crate::ends::{Ran, RunEnd, SeatList};
-use crate::loops::Ticked;
 use crate::sides::{Caller, run_beside, take_back};
-use label_set::{NoMemory, Steps};
+use crate::ticker::{Ticked, Ticker};
+use label_set::Steps;
 use outside::{Clock, Fetch, Shelf, Sink, Source};
-use run_lock::hall::Hall;
-use run_lock::station::Station;
+use run_lock::{Asked, Mark, RunLock, RunPass, RunState, Seat};
 use scrape_core::Core;
-use seat_notes::desk::{Desk, Room, Token, hire};
 use std::alloc::Global;
 use std::marker::{Brand, Send, Sync};
 use std::sync::Wait;
 use std::sync::ledger::{Blank, Ledger};
 use std::thread::Threads;
+use turn_lock::TurnLock;
 
-/// As many slots with no ticket.
-fn no_tickets(alloc: Global, count: usize) -> Result<Vec<Option<u64>>, NoMemory>
-    ensures items { IfOk result (λ slots. slots.items ≡ replicate count None) }
-    ensures len { IfOk result (λ slots. length slots.items ≡ count) }
-{
-    Ok(Vec::from_elem(alloc, None, count)?)
+/// A run before its loops: its lock, and the passes of its seats.
+struct Opened<L: Ledger, B: Asked> {
+    lock: RunLock<L, B>,
+    caller: RunPass<L, B>,
+    ticker: RunPass<L, B>,
+    /// Those of the workers, with room for the other two.
+    workers: Vec<RunPass<L, B>>,
 }
 
-/// A run for which there was no memory.
-fn unmade<C, K, F>(
-    alloc: Global,
-    core: Core,
-    control: C,
-    clock: K,
-    fetchers: Vec<F>,
-) -> Ran<C, K, F>
-    ensures end { result.end ≡ RunEnd.NoMemory }
-    ensures core { result.core ≡ core }
-    ensures control { result.control ≡ Some control }
-    ensures clock { result.clock ≡ Some clock }
-    ensures fetchers { vec_len result.fetchers ≡ vec_len fetchers }
-{
-    Ran {
-        end: RunEnd::NoMemory,
-        core,
-        seats: SeatList {
-            items: Vec::new(alloc),
-        },
-        control: Some(control),
-        clock: Some(clock),
-        fetchers,
-    }
-}
-
-/// A run before its loops: the station under its lock, and a pass for each seat.
-struct Opened<L: Ledger, B: Room> {
-    hall: Hall<L, B>,
-    caller: Token,
-    ticker: Token,
-    seats: Vec<Token>,
-}
-
-/// Hires the seats, and puts the core under the lock. Where memory runs out the core comes back.
-fn open_run<L: Ledger, B: Room>(
+/// Puts the core under a lock with so many seats for workers. Where memory runs out the core comes back, with the marks that there are.
+fn open_run<L: Ledger, B: Asked>(
     alloc: Global,
     blank: Blank,
-    desk: &Desk,
-    keeper: Token,
     core: Core,
     turns: u32,
     count: usize,
-) -> Result<Opened<L, B>, Core>
+) -> Result<Opened<L, B>, (Core, SeatList)>
     requires blank { (blank.name ≡ L.name) × (blank.parts ≡ L.parts) × (0 < blank.parts) }
-    requires desk { IsDesk B.table desk.now }
-    requires keeper { IsPassOf desk.now keeper × (view keeper ≡ knower [] 0) }
-    requires few { count ≤ 1000 }
+    requires few { (count ≡ B.workers) × (count ≤ 1000) }
     requires turns { turns ≡ B.turns }
     requires start { core ≡ B.start }
     requires fresh { IsFresh core }
     requires length { length core ≤ 2 ^ 39 }
-    ensures err { IfErr result (λ c. c ≡ core) }
-    ensures caller { IfOk result (λ o. IsPass B.table o.caller × (view o.caller ≡ worker 0 [])) }
-    ensures ticker { IfOk result (λ o. IsPass B.table o.ticker × (view o.ticker ≡ worker 1 [])) }
-    ensures len { IfOk result (λ o. vec_len o.seats ≡ count) }
-    ensures seats { IfOk result (λ o. AreFresh B.table count o.seats.items) }
+    ensures err { IfErr result (λ e. (e.0 ≡ core) × (length e.1 ≡ length core)) }
+    ensures caller { IfOk result (λ o. IsOwn o.lock 0 o.caller × (own_of o.caller ≡ begun_with core)) }
+    ensures ticker { IfOk result (λ o. IsOwn o.lock 1 o.ticker × (own_of o.ticker ≡ [])) }
+    ensures workers { IfOk result (λ o. AreFresh o.lock 2 o.workers.items) }
+    ensures count { IfOk result (λ o. (vec_len o.workers ≡ count) × (made_of o.lock ≡ 2 + count)) }
+    ensures room { IfOk result (λ o. vec_len o.workers + 2 ≤ vec_capacity o.workers) }
 {
-    let mut keeper = keeper;
-    let caller = hire(desk, &mut keeper);
-    let ticker = hire(desk, &mut keeper);
-    let Ok(seats) = hire_all(alloc, desk, &mut keeper, count) else {
-        return Err(core);
-    };
-    let Ok(slots) = no_tickets(alloc, count) else {
-        return Err(core);
-    };
     let steps = Steps::<L>::open(blank);
-    let station = Station::<L, B>::open(alloc, core, steps, turns, slots, keeper)?;
+    let state = match RunState::<L, B>::open(alloc, core, steps, turns, count) {
+        Ok(state) => state,
+        Err(core) => {
+            let seats = SeatList {
+                unmarked: core.events(),
+                marks: Vec::new(alloc),
+            };
+            return Err((core, seats));
+        }
+    };
+    let (lock, mut workers) = match TurnLock::new(alloc, state, 2 + count as u32) {
+        Ok(made) => made,
+        Err(unmade) => {
+            let (core, marks) = unmade.value.into_core();
+            return Err((core, SeatList { unmarked: 0, marks }));
+        }
+    };
+    let caller = workers.remove(0);
+    let ticker = workers.remove(0);
     Ok(Opened {
-        hall: Hall::new(station),
+        lock,
         caller,
         ticker,
-        seats,
+        workers,
     })
+}
+
+/// All passes, in the order of their numbers.
+fn all_passes<L: Ledger, B: Asked>(
+    caller: RunPass<L, B>,
+    ticker: RunPass<L, B>,
+    workers: Vec<RunPass<L, B>>,
+) -> Vec<RunPass<L, B>>
+    requires room { vec_len workers + 2 ≤ vec_capacity workers }
+    ensures { result.items ≡ caller ∷ ticker ∷ workers.items }
+{
+    let mut passes = workers;
+    let Ok(()) = passes.insert(0, ticker) else {
+        unreachable!()
+    };
+    let Ok(()) = passes.insert(0, caller) else {
+        unreachable!()
+    };
+    passes
 }
 
 /// The journal of a run whose loops are over, closed where none met want of memory.
 struct Closed {
     whole: bool,
     core: Core,
-    numbers: Vec<u32>,
+    marks: Vec<Mark>,
 }
 
-/// Closes the journal, where the loops say that they came to their ends and none met want of memory.
-fn close_run<L: Ledger, B: Room>(
-    desk: &Desk,
-    station: Station<L, B>,
+/// Closes the journal, where the loops say that they came to their ends and none met want of memory. All passes come back to the lock.
+fn close_run<L: Ledger, B: Asked>(
+    lock: RunLock<L, B>,
     came: bool,
-    seats: Vec<Token>,
-    ticker: Token,
-    caller: Token,
+    caller: RunPass<L, B>,
+    ticker: RunPass<L, B>,
+    workers: Vec<RunPass<L, B>>,
 ) -> Closed
-    requires desk { IsDesk B.table desk.now }
-    requires own { All (IsPass B.table) seats.items × IsPass B.table ticker }
-    requires came { came ≡ true → AreOver (map view seats.items) (view ticker) }
-    requires caller { IsPass B.table caller × IsOwn 0 (view caller) }
+    requires caller { IsOwn lock 0 caller }
+    requires ticker { IsOwn lock 1 ticker }
+    requires workers { AreOwn lock 2 workers.items }
+    requires all { made_of lock ≡ 2 + vec_len workers }
+    requires room { vec_len workers + 2 ≤ vec_capacity workers }
+    requires came { came ≡ true → FirstEnded workers.items }
     ensures came { result.whole ≡ true → came ≡ true }
     ensures done { result.whole ≡ true → IsWhole result.core }
-    ensures len { vec_len result.numbers ≡ length result.core }
-    ensures told { result.whole ≡ true → All (IsToldBy result.core result.numbers.items) (map view seats.items) }
-    ensures ticker { result.whole ≡ true → IsToldBy result.core result.numbers.items (view ticker) }
-    ensures caller { result.whole ≡ true → IsOfCaller B.start result.core result.numbers.items (view caller) }
+    ensures seats { length (seats_in result.marks.items) ≡ length result.core }
+    ensures begins { BeginsWith B.start result.core }
+    ensures caller { result.whole ≡ true → IsOfCaller B.start result.core (seats_in result.marks.items) (own_of caller) }
+    ensures ticker { result.whole ≡ true → behind_of 1 0 result.core (seats_in result.marks.items) ≡ behinds_in (own_of ticker) }
+    ensures told { result.whole ≡ true → AllTold result.core (seats_in result.marks.items) 2 workers.items }
 {
-    if !came || station.has_failed() {
-        let (core, numbers) = station.into_core();
+    let passes = all_passes(caller, ticker, workers);
+    let state = lock.close(passes);
+    if !came || state.has_failed() {
+        let (core, marks) = state.into_core();
         return Closed {
             whole: false,
             core,
-            numbers,
+            marks,
         };
     }
-    let (core, numbers) = station.close(desk, seats, ticker, caller);
+    let (core, marks) = state.close();
     Closed {
         whole: true,
         core,
-        numbers,
+        marks,
     }
 }
 
@@ -165,10 +158,10 @@ fn end_of(whole: bool, end: RunEnd) -> RunEnd
     if whole { end } else { RunEnd::NoMemory }
 }
 
-/// The run, with a desk and tokens of its own.
+/// The run, for the names of its steps and of what it was asked for.
 fn run_with<
     L: Ledger + Send + Sync,
-    B: Room + Send + Sync,
+    B: Asked + Send + Sync,
     W: Threads + Wait + Sync,
     S: Shelf,
     E: Sink,
@@ -179,8 +172,6 @@ fn run_with<
     rt: &W,
     alloc: Global,
     blank: Blank,
-    desk: &Desk,
-    keeper: Token,
     core: Core,
     turns: u32,
     shelf: &mut S,
@@ -190,88 +181,96 @@ fn run_with<
     fetchers: Vec<F>,
 ) -> Ran<C, K, F>
     requires blank { (blank.name ≡ L.name) × (blank.parts ≡ L.parts) × (0 < blank.parts) }
-    requires desk { IsDesk B.table desk.now }
-    requires keeper { IsPassOf desk.now keeper × (view keeper ≡ knower [] 0) }
-    requires fetchers { (0 < vec_len fetchers) × (vec_len fetchers ≤ 1000) }
+    requires fetchers { (0 < vec_len fetchers) × (vec_len fetchers ≤ 1000) × (vec_len fetchers ≡ B.workers) }
     requires turns { turns ≡ B.turns }
     requires start { core ≡ B.start }
     requires fresh { IsFresh core }
     requires few { length core ≤ 2 ^ 39 }
     ensures done { result.end ≢ RunEnd.NoMemory → IsWhole result.core }
-    ensures seats { result.end ≢ RunEnd.NoMemory → length result.seats ≡ length result.core }
+    ensures seats { length result.seats ≡ length result.core }
     ensures back { IsTrue (is_some result.control) × IsTrue (is_some result.clock) × (vec_len result.fetchers ≡ vec_len fetchers) }
     ensures workers { result.end ≢ RunEnd.NoMemory → AllTell 0 result.core result.seats (map F.seen fetchers.items) (map F.seen result.fetchers.items) }
-    ensures sweeps { result.end ≢ RunEnd.NoMemory → TellsSweeps turns result.core result.seats }
+    ensures sweeps { result.end ≢ RunEnd.NoMemory → IfSome result.clock (λ k. TellsSweeps turns result.core result.seats (K.seen clock) (K.seen k)) }
     ensures shelf { ShelfWent (used (S.seen shelf.old) (S.seen shelf.new)) }
     ensures err { SinkWent (used (E.seen err.old) (E.seen err.new)) }
     ensures control { IfSome result.control (λ c. SourceWent (used (C.seen control) (C.seen c))) }
     ensures ends { IfSome result.control (λ c. EndsSo result.end (used (S.seen shelf.old) (S.seen shelf.new)) (used (E.seen err.old) (E.seen err.new)) (used (C.seen control) (C.seen c))) }
-    ensures begins { result.end ≢ RunEnd.NoMemory → BeginsWith core result.core }
+    ensures begins { BeginsWith core result.core }
     ensures caller { CallerTells core result.end (used (S.seen shelf.old) (S.seen shelf.new)) (C.seen control).left result.core result.seats (used (E.seen err.old) (E.seen err.new)) }
 {
     let Opened {
-        hall,
+        lock,
         caller,
         ticker,
-        seats,
-    } = match open_run::<L, B>(alloc, blank, desk, keeper, core, turns, fetchers.len()) {
+        workers,
+    } = match open_run::<L, B>(alloc, blank, core, turns, fetchers.len()) {
         Ok(opened) => opened,
-        Err(core) => return unmade(alloc, core, control, clock, fetchers),
+        Err((core, seats)) => {
+            return Ran {
+                end: RunEnd::NoMemory,
+                core,
+                seats,
+                control: Some(control),
+                clock: Some(clock),
+                fetchers,
+            };
+        }
     };
-    let shared = &hall;
+    let shared = &lock;
+    let ticker = Ticker {
+        turns,
+        seat: Seat {
+            rt,
+            alloc,
+            lock: shared,
+            pass: ticker,
+        },
+        clock,
+    };
     let side = Caller {
-        rt,
-        alloc,
-        hall: shared,
-        desk,
+        seat: Seat {
+            rt,
+            alloc,
+            lock: shared,
+            pass: caller,
+        },
         shelf,
         err,
         control,
-        seat: caller,
     };
-    let ((crew, ticked), (shelf, err, controlled)) = run_beside(
+    let ((crew, ticked), (shelf, err, called)) = run_beside(
         rt,
-        move || -> (Crew<F>, Ticked<K>)
+        move || -> (Crew<L, B, F>, Ticked<L, B, K>)
             requires sync { IsSync W.row }
-            requires few { vec_len fetchers ≤ 1000 }
-            requires len { vec_len seats ≡ vec_len fetchers }
-            requires desk { IsDesk B.table desk.now }
-            requires fresh { AreFresh B.table (vec_len fetchers) seats.items }
-            requires turns { turns ≡ B.turns }
-            requires own { IsPass B.table ticker }
-            requires seat { view ticker ≡ worker 1 [] }
-            ensures worked { result.0.ended ≡ true → AllFinished 0 (map F.seen fetchers.items) (map F.seen result.0.fetchers.items) (map view result.0.seats.items) }
-            ensures ticked { result.1.done ≡ true → IsTicked turns (view result.1.seat) }
-            ensures own { All (IsPass B.table) result.0.seats.items × IsPass B.table result.1.seat }
+            requires few { (vec_len fetchers ≤ B.workers) × (vec_len fetchers ≤ 1000) }
+            requires len { vec_len workers ≡ vec_len fetchers }
+            requires fresh { AreFresh ticker.seat.lock.now 2 workers.items }
+            requires turns { ticker.turns ≡ B.turns }
+            requires seat { IsOwn ticker.seat.lock.now 1 ticker.seat.pass × (own_of ticker.seat.pass ≡ []) }
             ensures len { vec_len result.0.fetchers ≡ vec_len fetchers }
-        {
-            work_and_tick(
-                rt, alloc, shared, desk, fetchers, seats, turns, clock, ticker,
-            )
-        },
+            ensures passes_len { vec_len result.0.passes ≡ vec_len workers }
+            ensures passes_room { vec_capacity result.0.passes ≡ vec_capacity workers }
+            ensures own { AreOwn ticker.entry.seat.lock.now 2 result.0.passes.items × IsOwn ticker.entry.seat.lock.now 1 result.1.pass }
+            ensures worked { result.0.ended ≡ true → AllFinished 0 (map F.seen fetchers.items) (map F.seen result.0.fetchers.items) result.0.passes.items }
+            ensures ticked { result.1.done ≡ true → HasTicked ticker.entry.turns (K.seen ticker.entry.clock) (K.seen result.1.clock) (own_of result.1.pass) }
+        { work_and_tick(fetchers, workers, ticker) },
         side,
     );
     take_back(shelf);
     take_back(err);
     let came = both(crew.ended, ticked.done);
-    let closed = close_run(
-        desk,
-        hall.into_station(),
+    let Closed { whole, core, marks } = close_run(
+        lock,
         came,
-        crew.seats,
-        ticked.seat,
-        controlled.seat,
+        called.pass,
+        ticked.pass,
+        crew.passes,
     );
-    let Closed {
-        whole,
-        core,
-        numbers,
-    } = closed;
     Ran {
-        end: end_of(whole, controlled.end),
+        end: end_of(whole, called.end),
         core,
-        seats: SeatList { items: numbers },
-        control: Some(controlled.control),
+        seats: SeatList { unmarked: 0, marks },
+        control: Some(called.control),
         clock: Some(ticked.clock),
         fetchers: crew.fetchers,
     }
@@ -313,26 +312,21 @@ pub fn run_station<
     requires fresh { IsFresh core }
     requires few { length core ≤ 2 ^ 39 }
     ensures done { result.end ≢ RunEnd.NoMemory → IsWhole result.core }
-    ensures seats { result.end ≢ RunEnd.NoMemory → length result.seats ≡ length result.core }
+    ensures seats { length result.seats ≡ length result.core }
     ensures back { IsTrue (is_some result.control) × IsTrue (is_some result.clock) × (vec_len result.fetchers ≡ vec_len fetchers) }
     ensures workers { result.end ≢ RunEnd.NoMemory → AllTell 0 result.core result.seats (map F.seen fetchers.items) (map F.seen result.fetchers.items) }
-    ensures sweeps { result.end ≢ RunEnd.NoMemory → TellsSweeps turns result.core result.seats }
+    ensures sweeps { result.end ≢ RunEnd.NoMemory → IfSome result.clock (λ k. TellsSweeps turns result.core result.seats (K.seen clock) (K.seen k)) }
     ensures shelf { ShelfWent (used (S.seen shelf.old) (S.seen shelf.new)) }
     ensures err { SinkWent (used (E.seen err.old) (E.seen err.new)) }
     ensures control { IfSome result.control (λ c. SourceWent (used (C.seen control) (C.seen c))) }
     ensures ends { IfSome result.control (λ c. EndsSo result.end (used (S.seen shelf.old) (S.seen shelf.new)) (used (E.seen err.old) (E.seen err.new)) (used (C.seen control) (C.seen c))) }
-    ensures begins { result.end ≢ RunEnd.NoMemory → BeginsWith core result.core }
+    ensures begins { BeginsWith core result.core }
     ensures caller { CallerTells core result.end (used (S.seen shelf.old) (S.seen shelf.new)) (C.seen control).left result.core result.seats (used (E.seen err.old) (E.seen err.new)) }
 {
-    let Ok((desk, keeper)) = Desk::ruled(alloc, 1) else {
-        return unmade(alloc, core, control, clock, fetchers);
-    };
     run_with::<Brand, Brand, W, S, E, C, K, F>(
         rt,
         alloc,
         Blank::new(1),
-        &desk,
-        keeper,
         core,
         turns,
         shelf,

@@ -1,11 +1,10 @@
 //! The caller's own loop as work that is done once, beside what runs in threads of its own.
 ghost use Rattle.std.specs.Prelude.{◌≡◌};
 
-use crate::control::{Controlled, take_commands};
+use crate::control::take_commands;
+use crate::ends::RunEnd;
 use outside::{Shelf, Sink, Source};
-use run_lock::hall::Hall;
-use seat_notes::desk::{Desk, Room, Token};
-use std::alloc::Global;
+use run_lock::{Asked, RunPass, Seat};
 use std::marker::Send;
 use std::sync::Wait;
 use std::sync::ledger::Ledger;
@@ -44,53 +43,57 @@ pub fn run_beside<R: Threads, F: FnOnce() -> A + Send, T: Side<Output = B> + Dro
     )
 }
 
-/// The side of the caller.
+/// The caller: its seat, and the objects that it reads and writes.
 #[derive(Drop)]
-pub struct Caller<'r, 's, 'e, L: Ledger, B: Room, R, S, E, C> {
-    pub rt: &'r R,
-    pub alloc: Global,
-    pub hall: &'r Hall<L, B>,
-    pub desk: &'r Desk,
+pub struct Caller<'r, 's, 'e, L: Ledger, B: Asked, R, S, E, C> {
+    pub seat: Seat<'r, L, B, R>,
     pub shelf: &'s mut S,
     pub err: &'e mut E,
     pub control: C,
-    pub seat: Token,
 }
 
-impl<'r, 's, 'e, L: Ledger, B: Room, R: Wait, S: Shelf, E: Sink, C: Source> Side
+/// What the caller hands back beside the references that it was lent.
+#[derive(Drop)]
+pub struct Called<L: Ledger, B: Asked, C> {
+    pub control: C,
+    pub pass: RunPass<L, B>,
+    pub end: RunEnd,
+}
+
+impl<'r, 's, 'e, L: Ledger, B: Asked, R: Wait, S: Shelf, E: Sink, C: Source> Side
     for Caller<'r, 's, 'e, L, B, R, S, E, C> {
-    type Output = (&'s mut S, &'e mut E, Controlled<C>);
+    type Output = (&'s mut S, &'e mut E, Called<L, B, C>);
 
     ghost use Rattle.std.specs.Prelude.{◌≡◌, []};
-    ghost use Rattle.crossbeam_queue.specs.Passes.{view};
     ghost use Rattle.outside.specs.Objects.{used};
-    ghost use Rattle.seat_notes.specs.Desks.{worker, IsDesk, IsPass};
-    ghost use Rattle.run_lock.specs.Tasks.{IsOwn};
+    ghost use Rattle.run_lock.specs.Seats.{IsOwn};
     ghost use Rattle.station.specs.Control.{CallerDid};
     ghost use Rattle.station.specs.Ends.{ShelfWent, SinkWent, SourceWent, EndsSo};
+    ghost use Rattle.turn_lock.specs.Passes.{own_of};
 
-    ghost can_run = { λ c. IsDesk B.table c.desk.now × IsPass B.table c.seat × (view c.seat ≡ worker 0 []) };
+    ghost can_run = { λ c. IsOwn c.seat.lock.now 0 c.seat.pass };
 
     ghost run_gives = { λ c r. (r.0.ghost_name ≡ c.shelf.ghost_name) × (r.1.ghost_name ≡ c.err.ghost_name)
         × ShelfWent (used (S.seen c.shelf.now) (S.seen r.0.now)) × SinkWent (used (E.seen c.err.now) (E.seen r.1.now))
         × SourceWent (used (C.seen c.control) (C.seen r.2.control))
         × EndsSo r.2.end (used (S.seen c.shelf.now) (S.seen r.0.now)) (used (E.seen c.err.now) (E.seen r.1.now)) (used (C.seen c.control) (C.seen r.2.control))
-        × (IsPass B.table r.2.seat × IsOwn 0 (view r.2.seat))
-        × CallerDid B.start r.2.end (used (S.seen c.shelf.now) (S.seen r.0.now)) (C.seen c.control).left (view c.seat) (view r.2.seat) (used (E.seen c.err.now) (E.seen r.1.now)) };
+        × IsOwn c.seat.lock.now 0 r.2.pass
+        × CallerDid B.start r.2.end (used (S.seen c.shelf.now) (S.seen r.0.now)) (C.seen c.control).left (own_of c.seat.pass) (own_of r.2.pass) (used (E.seen c.err.now) (E.seen r.1.now)) };
 
-    fn run(self) -> (&'s mut S, &'e mut E, Controlled<C>) {
+    fn run(self) -> (&'s mut S, &'e mut E, Called<L, B, C>) {
         let Caller {
-            rt,
-            alloc,
-            hall,
-            desk,
+            mut seat,
             shelf,
             err,
-            control,
-            seat,
+            mut control,
         } = self;
-        let controlled = take_commands(rt, alloc, hall, desk, shelf, err, control, seat);
-        (shelf, err, controlled)
+        let end = take_commands(&mut seat, shelf, err, &mut control);
+        let called = Called {
+            control,
+            pass: seat.pass,
+            end,
+        };
+        (shelf, err, called)
     }
 }
 

@@ -18,11 +18,14 @@ pub returns-in-Err-NoMemory-clause-live : goal.returns-in-Err-NoMemory-clause-li
 returns-in-Err-NoMemory-clause-live g c =
     let shelf = g.S.Shelf.seen c.args.shelf.now in
     let err = g.E.Sink.seen c.args.err.now in
-    let t = touched (used shelf shelf) (used (g.O.Sink.seen c.args.out.now) (g.O.Sink.seen c.args.out.now)) (used err (g.E.Sink.seen c.tell.new.err)) (used (g.R.Sink.seen c.args.trail.now) (g.R.Sink.seen c.args.trail.now))
-    (g.C.Source.seen c.args.control).left (used (map g.F.Fetch.seen c.args.fetchers.items) (map g.F.Fetch.seen c.handed_back.result.fetchers.items)) in
+    let clock = g.K.Clock.seen c.args.clock in
     let ran = c.handed_back.result in
-    let back : Type 0 = (ran.control ≡ Some c.args.control) × IfSome ran.clock (λ k. IsReadOnce (used (g.K.Clock.seen c.args.clock) (g.K.Clock.seen k))) × (ran.fetchers ≡ c.args.fetchers) in
-    λ r is. subst (λ (s : ℕ). EndedLive s r t back) (sym (c.handed_back.ensures.status ∙ c.status_at.ensures)) (live_wanting r t back [] refl refl (shelf_same shelf) (sink_same err) c.tell.ensures)
+    let t = λ (k : g.K). touched (used shelf shelf) (used (g.O.Sink.seen c.args.out.now) (g.O.Sink.seen c.args.out.now)) (used err (g.E.Sink.seen c.tell.new.err)) (used (g.R.Sink.seen c.args.trail.now) (g.R.Sink.seen c.args.trail.now))
+    (g.C.Source.seen c.args.control).left (used clock (g.K.Clock.seen k)) (used (map g.F.Fetch.seen c.args.fetchers.items) (map g.F.Fetch.seen ran.fetchers.items)) in
+    let back = λ (k : g.K). (ran.control ≡ Some c.args.control) × IsReadOnce (used clock (g.K.Clock.seen k)) × (ran.fetchers ≡ c.args.fetchers) in
+    λ r is. subst (λ o. IfSome o (λ k. EndedLive ran.status r (t k) (back k))) (sym c.handed_back.ensures.clock)
+    (subst (λ (s : ℕ). EndedLive s r (t c.args.clock) (back c.args.clock)) (sym (c.handed_back.ensures.status ∙ c.status_at.ensures))
+    (live_wanting r (t c.args.clock) (back c.args.clock) [] refl refl (shelf_same shelf) (sink_same err) c.tell.ensures))
 
 pub returns-in_default-clause-still : goal.returns-in_default-clause-still
 returns-in_default-clause-still g c =

@@ -1,4 +1,4 @@
-use Rattle.crossbeam_queue.specs.Passes.{view}
+use Rattle.turn_lock.specs.Passes.{own_of}
 use Rattle.std.proofs.Common.{◌∙◌, ◌+◌, ℕ, List, sym, refl, subst}
 use Rattle.std.specs.Prelude.{IfSome}
 use Rattle.run_lock.specs.Callers.{jobs_known}
@@ -14,8 +14,8 @@ returns-in-Ok-clause-read g c = other_read c.args.reader.now _ c.args.byte (no_f
 pub returns-in-Ok-clause-did : goal.returns-in-Ok-clause-did
 returns-in-Ok-clause-did g c =
     let e = g.E.Sink.seen c.args.err.now in
-    let v = view c.args.seat in
-    if_all (g.S.Shelf.seen c.args.shelf.now).files (λ files. other_did files (jobs_known g.B.Room.start v) c.args.reader.now c.args.byte v v e e (no_feed c.args.byte c.if-byte-ne10.true) refl refl)
+    let v = own_of c.args.seat.now.pass in
+    if_all (g.S.Shelf.seen c.args.shelf.now).files (λ files. other_did files (jobs_known g.B.Asked.start v) c.args.reader.now c.args.byte v v e e (no_feed c.args.byte c.if-byte-ne10.true) refl refl)
 
 pub returns-clause-read : goal.returns-clause-read
 returns-clause-read g c = feed_read c.args.reader.now _ c.args.byte (a_feed c.args.byte c.if-byte-ne10.false) c.clear.ensures.items refl
@@ -23,10 +23,10 @@ returns-clause-read g c = feed_read c.args.reader.now _ c.args.byte (a_feed c.ar
 pub returns-clause-did : goal.returns-clause-did
 returns-clause-did g c =
     let o = (g.S.Shelf.seen c.args.shelf.now).files in
-    let jobs = jobs_known g.B.Room.start (view c.args.seat) in
-    let v = view c.args.seat in
-    let w = view c.do_line-done.result.1 in
+    let jobs = jobs_known g.B.Asked.start (own_of c.args.seat.now.pass) in
+    let v = own_of c.args.seat.now.pass in
+    let w = own_of c.do_line-done.new.seat.pass in
     let u = used (g.E.Sink.seen c.args.err.now) (g.E.Sink.seen c.do_line-done.new.err) in
     let n = c.args.reader.now.before + 1 in
     if_map o (λ files h. feed_did files jobs c.args.reader.now c.args.byte v w u (a_feed c.args.byte c.if-byte-ne10.false) h)
-    (subst (λ (line : List ℕ). IfSome o (λ files. HasDone (line_did files jobs n line) v w u)) c.deref.ensures.value (on_ok_is c.do_line-done.result.0 c.in_default.field-0 c.in_default.is c.do_line-done.ensures.did))
+    (subst (λ (line : List ℕ). IfSome o (λ files. HasDone (line_did files jobs n line) v w u)) c.deref.ensures.value (on_ok_is c.do_line-done.result c.in_default.field-0 c.in_default.is c.do_line-done.ensures.did))

@@ -1,7 +1,7 @@
 use Rattle.std.proofs.Common.{◌≡◌, ◌∙◌, ◌++◌, ◌∷◌, [], ◌+◌, ℕ, List, sym, ap, refl, subst, take, arith}
 use Rattle.std.specs.Prelude.{Option, IfSome, slice_index_or}
 use Rattle.std.proofs.lemmas.List.{take_more}
-use Rattle.crossbeam_queue.specs.Passes.{view}
+use Rattle.turn_lock.specs.Passes.{own_of}
 use Rattle.outside.specs.Objects.{used}
 use Rattle.outside.specs.declared.objects.StoredFile.{StoredFile}
 use Rattle.run_lock.specs.Callers.{jobs_known}
@@ -13,35 +13,32 @@ use Rattle.station.proofs.control.do_piece.Goals as goal
 
 pub loop-byte-init : goal.loop-byte-init
 loop-byte-init g c =
-    let v = view c.args.seat in
+    let v = own_of c.args.seat.now.pass in
     let e = g.E.Sink.seen c.args.err.now in
     record {
-      own = c.requires.own;
+      lock = refl;
       seat = c.requires.seat;
       shelf = shelf_same (g.S.Shelf.seen c.args.shelf.now);
       err = sink_same e;
       few = omega arith;
       read = read_none c.args.reader.now c.args.reader.now refl;
-      did = if_all (g.S.Shelf.seen c.args.shelf.now).files (λ files. piece_none files (jobs_known g.B.Room.start v) c.args.reader.now v v e e refl refl);
+      did = if_all (g.S.Shelf.seen c.args.shelf.now).files (λ files. piece_none files (jobs_known g.B.Asked.start v) c.args.reader.now v v e e refl refl);
     }
 
 pub do_byte-done-requires-clause-few : goal.do_byte-done-requires-clause-few
 do_byte-done-requires-clause-few g c = omega (arith, c.loop-byte.invariant.few, c.requires.few, c.loop-byte-test.true)
-
-pub do_byte-done-requires-clause-own : goal.do_byte-done-requires-clause-own
-do_byte-done-requires-clause-own g c = c.loop-byte.invariant.own
 
 pub do_byte-done-requires-clause-seat : goal.do_byte-done-requires-clause-seat
 do_byte-done-requires-clause-seat g c = c.loop-byte.invariant.seat
 
 pub loop-byte-preserved : goal.loop-byte-preserved
 loop-byte-preserved g c =
-    let start = g.B.Room.start in
+    let start = g.B.Asked.start in
     let o = (g.S.Shelf.seen c.args.shelf.now).files in
     let was = c.loop-byte.invariant in
-    let v = view c.args.seat in
-    let w = view c.loop-byte.seat in
-    let u = view c.do_byte-done.result.1 in
+    let v = own_of c.args.seat.now.pass in
+    let w = own_of c.loop-byte.seat.pass in
+    let u = own_of c.do_byte-done.new.seat.pass in
     let r = c.args.reader.now in
     let s = c.loop-byte.reader in
     let t = c.do_byte-done.new.reader in
@@ -53,14 +50,14 @@ loop-byte-preserved g c =
     let sound = sym c.is_err.ensures.value ∙ c.if-is_err.false in
     let more : take (c.loop-byte.byte-index + 1) c.args.piece.now ≡ xs ++ b ∷ [] = take_more c.args.piece.now c.loop-byte.byte-index 0 c.loop-byte-test.true in
     record {
-      own = c.do_byte-done.ensures.own;
+      lock = c.do_byte-done.ensures.lock ∙ was.lock;
       seat = c.do_byte-done.ensures.seat;
       shelf = shelf_then (g.S.Shelf.seen c.args.shelf.now) (g.S.Shelf.seen c.loop-byte.shelf) (g.S.Shelf.seen c.do_byte-done.new.shelf) was.shelf c.do_byte-done.ensures.shelf;
       err = sink_then e f h was.err c.do_byte-done.ensures.err;
       few = omega (arith, was.few, c.do_byte-done.ensures.few);
-      read = subst (λ (ys : List ℕ). HasRead ys r t) (sym more) (read_both r s t xs (b ∷ []) was.read (on_ok c.do_byte-done.result.0 sound c.do_byte-done.ensures.read));
+      read = subst (λ (ys : List ℕ). HasRead ys r t) (sym more) (read_both r s t xs (b ∷ []) was.read (on_ok c.do_byte-done.result sound c.do_byte-done.ensures.read));
       did = if_both o (λ files one next. subst (λ (ys : List ℕ). HasDone (piece_did files (jobs_known start v) r ys) v u (used e h)) (sym more) (piece_both files start r s xs (b ∷ []) v w u e f h was.read one next)) was.did
-          (subst (λ (p : Option (List StoredFile)). IfSome p (λ files. HasDone (piece_did files (jobs_known start w) s (b ∷ [])) w u (used f h))) was.shelf.files (on_ok c.do_byte-done.result.0 sound c.do_byte-done.ensures.did));
+          (subst (λ (p : Option (List StoredFile)). IfSome p (λ files. HasDone (piece_did files (jobs_known start w) s (b ∷ [])) w u (used f h))) was.shelf.files (on_ok c.do_byte-done.result sound c.do_byte-done.ensures.did));
     }
 
 pub returns-then-is_err-clause-err : goal.returns-then-is_err-clause-err

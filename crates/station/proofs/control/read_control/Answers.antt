@@ -1,7 +1,7 @@
 use Rattle.std.proofs.Common.{◌≡◌, ◌∙◌, ◌+◌, ◌≤◌, ℕ, List, length, take, drop, sym, ap, refl, subst, arith}
 use Rattle.outside.specs.Objects.{used}
 use Rattle.station.proofs.EndLemmas.{shelf_same, sink_same, source_same, shelf_then, sink_then, source_gave, gave_count, last_ends, piece_ends, goes_on, cut_over, cut_short, cut_none}
-use Rattle.crossbeam_queue.specs.Passes.{view}
+use Rattle.turn_lock.specs.Passes.{own_of}
 use Rattle.std.specs.Prelude.{Option, Ok, IfSome}
 use Rattle.std.proofs.lemmas.List.{length-take}
 use Rattle.outside.specs.declared.objects.StoredFile.{StoredFile}
@@ -15,7 +15,7 @@ pub loop-init : goal.loop-init
 loop-init g c = record {
   can = tt;
   finite = tt;
-  own = c.requires.own;
+  lock = refl;
   seat = c.requires.seat;
   room = c.in-Ok.ensures.len;
   few = omega arith;
@@ -24,7 +24,7 @@ loop-init g c = record {
   err = sink_same (g.E.Sink.seen c.args.err.now);
   control = source_same (g.C.Source.seen c.args.control.now);
   before = omega arith;
-  eaten = eaten_first (g.S.Shelf.seen c.args.shelf.now).files g.B.Room.start (g.C.Source.seen c.args.control.now).left (view c.args.seat) (g.E.Sink.seen c.args.err.now) _ c.new.ensures.items refl;
+  eaten = eaten_first (g.S.Shelf.seen c.args.shelf.now).files g.B.Asked.start (g.C.Source.seen c.args.control.now).left (own_of c.args.seat.now.pass) (g.E.Sink.seen c.args.err.now) _ c.new.ensures.items refl;
 }
 
 pub do_last-requires-clause-few : goal.do_last-requires-clause-few
@@ -36,31 +36,31 @@ do_piece-done-requires-clause-few g c =
 
 pub returns-then-count-eq0-clause-did : goal.returns-then-count-eq0-clause-did
 returns-then-count-eq0-clause-did g c =
-    let start = g.B.Room.start in
+    let start = g.B.Asked.start in
     let o = (g.S.Shelf.seen c.args.shelf.now).files in
     let left = (g.C.Source.seen c.args.control.now).left in
     let mid = (g.C.Source.seen c.loop.control).left in
-    let v = view c.args.seat in
-    let w = view c.loop.seat in
-    let u = view c.do_last.result.1 in
+    let v = own_of c.args.seat.now.pass in
+    let w = own_of c.loop.seat.pass in
+    let u = own_of c.do_last.new.seat.pass in
     let a = g.E.Sink.seen c.args.err.now in
     let b = g.E.Sink.seen c.loop.err in
     let e = g.E.Sink.seen c.do_last.new.err in
     let s = g.S.Shelf.seen c.do_last.new.shelf in
-    eaten_done c.do_last.result.0 o start c.loop.given c.loop.reader left mid v w u a b e (used (g.S.Shelf.seen c.args.shelf.now) s) (used (g.S.Shelf.seen c.loop.shelf) s) (used b e) c.loop.invariant.eaten
+    eaten_done c.do_last.result o start c.loop.given c.loop.reader left mid v w u a b e (used (g.S.Shelf.seen c.args.shelf.now) s) (used (g.S.Shelf.seen c.loop.shelf) s) (used b e) c.loop.invariant.eaten
     (c.in-Ok-read.ensures.end (ap Ok c.if-count-eq0.true)) c.do_last.ensures.ends
     (λ done. subst (λ (p : Option (List StoredFile)). IfSome p (λ files. HasDone (last_did files (jobs_known start w) c.loop.reader) w u (used b e))) c.loop.invariant.shelf.files (c.do_last.ensures.did done))
 
 pub returns-in-Some-end_after-clause-did : goal.returns-in-Some-end_after-clause-did
 returns-in-Some-end_after-clause-did g c =
-    let start = g.B.Room.start in
+    let start = g.B.Asked.start in
     let o = (g.S.Shelf.seen c.args.shelf.now).files in
     let left = (g.C.Source.seen c.args.control.now).left in
     let mid = (g.C.Source.seen c.loop.control).left in
     let now = (g.C.Source.seen c.read.new.self).left in
-    let v = view c.args.seat in
-    let w = view c.loop.seat in
-    let u = view c.do_piece-done.result.1 in
+    let v = own_of c.args.seat.now.pass in
+    let w = own_of c.loop.seat.pass in
+    let u = own_of c.do_piece-done.new.seat.pass in
     let a = g.E.Sink.seen c.args.err.now in
     let b = g.E.Sink.seen c.loop.err in
     let e = g.E.Sink.seen c.do_piece-done.new.err in
@@ -69,11 +69,11 @@ returns-in-Some-end_after-clause-did g c =
     let room = c.read.new.room in
     let all = c.deref.result.now in
     let same = room_is c.loop.room.len room _ all c.deref.ensures.value (c.read.auto.room ∙ c.deref_mut.ensures.len) in
-    eaten_long c.do_piece-done.result.0 _ c.in-Some-end_after.end (g.S.Shelf.seen c.args.shelf.now) (g.S.Shelf.seen c.loop.shelf) (g.S.Shelf.seen c.do_piece-done.new.shelf) (used b e) o start c.loop.given c.loop.reader left mid now v w u a b e
+    eaten_long c.do_piece-done.result _ c.in-Some-end_after.end (g.S.Shelf.seen c.args.shelf.now) (g.S.Shelf.seen c.loop.shelf) (g.S.Shelf.seen c.do_piece-done.new.shelf) (used b e) o start c.loop.given c.loop.reader left mid now v w u a b e
     (take k all) (drop k (take n room)) c.loop.invariant.shelf.faults c.do_piece-done.ensures.stops (sym c.end_after.ensures ∙ c.in-Some-end_after.is) c.loop.invariant.eaten
     (kept_gives k n room all mid now same (kept_less n c.loop.given k c.min-kept.ensures) c.in-Ok-read.ensures.gave.left)
     (cut_full n c.loop.given k (length all) _ c.min-kept.ensures c.loop.invariant.few (omega (arith, c.in-Ok-read.ensures.within, ap (λ (xs : List ℕ). length xs) same)) (length-take k all))
-    (on_ok_map c.do_piece-done.result.0 (λ h. subst (λ (p : Option (List StoredFile)). IfSome p (λ files. HasDone (piece_did files (jobs_known start w) c.loop.reader (take k all)) w u (used b e))) c.loop.invariant.shelf.files h) c.do_piece-done.ensures.did)
+    (on_ok_map c.do_piece-done.result (λ h. subst (λ (p : Option (List StoredFile)). IfSome p (λ files. HasDone (piece_did files (jobs_known start w) c.loop.reader (take k all)) w u (used b e))) c.loop.invariant.shelf.files h) c.do_piece-done.ensures.did)
 
 pub returns-then-count-eq0-clause-err : goal.returns-then-count-eq0-clause-err
 returns-then-count-eq0-clause-err g c = sink_then (g.E.Sink.seen c.args.err.now) (g.E.Sink.seen c.loop.err) (g.E.Sink.seen c.do_last.new.err) c.loop.invariant.err c.do_last.ensures.err
@@ -83,7 +83,7 @@ returns-then-count-eq0-clause-ends g c =
     let z = g.C.Source.seen c.loop.control in
     let w = g.C.Source.seen c.read.new.self in
     last_ends
-    c.do_last.result.0
+    c.do_last.result
     (g.S.Shelf.seen c.args.shelf.now)
     (g.S.Shelf.seen c.loop.shelf)
     (g.S.Shelf.seen c.do_last.new.shelf)
@@ -107,7 +107,7 @@ returns-in-Some-end_after-clause-ends g c =
     let n = c.in-Ok-read.count in
     let gave = gave_count n c.read.new.room (used z w) c.in-Ok-read.ensures.within c.in-Ok-read.ensures.gave ∙ ap (λ k. k + n) c.loop.invariant.given in
     piece_ends
-    c.do_piece-done.result.0
+    c.do_piece-done.result
     _
     c.in-Some-end_after.end
     (g.S.Shelf.seen c.args.shelf.now)
@@ -131,21 +131,21 @@ loop-preserved g c =
     let w = g.C.Source.seen c.read.new.self in
     let n = c.in-Ok-read.count in
     let gave = gave_count n c.read.new.room (used z w) c.in-Ok-read.ensures.within c.in-Ok-read.ensures.gave ∙ ap (λ k. k + n) c.loop.invariant.given in
-    let all = cut_none n c.loop.given c.min-kept.result c.min-kept.ensures (goes_on c.do_piece-done.result.0 _ (sym c.end_after.ensures ∙ c.in_default-end_after.is)) in
-    let start = g.B.Room.start in
+    let all = cut_none n c.loop.given c.min-kept.result c.min-kept.ensures (goes_on c.do_piece-done.result _ (sym c.end_after.ensures ∙ c.in_default-end_after.is)) in
+    let start = g.B.Asked.start in
     let o = (g.S.Shelf.seen c.args.shelf.now).files in
-    let v = view c.args.seat in
-    let m = view c.loop.seat in
-    let u = view c.do_piece-done.result.1 in
+    let v = own_of c.args.seat.now.pass in
+    let m = own_of c.loop.seat.pass in
+    let u = own_of c.do_piece-done.new.seat.pass in
     let b = g.E.Sink.seen c.loop.err in
     let e = g.E.Sink.seen c.do_piece-done.new.err in
     let same = room_is c.loop.room.len c.read.new.room _ c.deref.result.now c.deref.ensures.value (c.read.auto.room ∙ c.deref_mut.ensures.len) in
     let within : n ≤ length c.deref.result.now = omega (arith, c.in-Ok-read.ensures.within, ap (λ (xs : List ℕ). length xs) same) in
-    let ok = goes_ok c.do_piece-done.result.0 _ (sym c.end_after.ensures ∙ c.in_default-end_after.is) in
+    let ok = goes_ok c.do_piece-done.result _ (sym c.end_after.ensures ∙ c.in_default-end_after.is) in
     record {
       can = tt;
       finite = tt;
-      own = c.do_piece-done.ensures.own;
+      lock = c.do_piece-done.ensures.lock ∙ c.loop.invariant.lock;
       seat = c.do_piece-done.ensures.seat;
       room = c.loop.invariant.room;
       few = omega (arith, c.min-kept.ensures, c.loop.invariant.few);
@@ -156,7 +156,7 @@ loop-preserved g c =
       before = omega (arith, c.do_piece-done.ensures.few, c.loop.invariant.before, length-take c.min-kept.result c.deref.result.now, cut_whole n c.loop.given c.min-kept.result (length c.deref.result.now) _ c.min-kept.ensures within (length-take c.min-kept.result c.deref.result.now));
       eaten = eaten_next o start c.loop.given (c.loop.given + c.min-kept.result) c.loop.reader c.do_piece-done.new.reader x.left z.left w.left v m u (g.E.Sink.seen c.args.err.now) b e (take c.min-kept.result c.deref.result.now) c.loop.invariant.eaten
           (all_gives c.min-kept.result n c.read.new.room c.deref.result.now z.left w.left same all c.in-Ok-read.ensures.gave.left)
-          (done_ok c.do_piece-done.result.0 ok c.do_piece-done.ensures.read)
+          (done_ok c.do_piece-done.result ok c.do_piece-done.ensures.read)
           (cut_whole n c.loop.given c.min-kept.result (length c.deref.result.now) _ c.min-kept.ensures within (length-take c.min-kept.result c.deref.result.now))
-          (subst (λ (p : Option (List StoredFile)). IfSome p (λ files. HasDone (piece_did files (jobs_known start m) c.loop.reader (take c.min-kept.result c.deref.result.now)) m u (used b e))) c.loop.invariant.shelf.files (done_ok c.do_piece-done.result.0 ok c.do_piece-done.ensures.did));
+          (subst (λ (p : Option (List StoredFile)). IfSome p (λ files. HasDone (piece_did files (jobs_known start m) c.loop.reader (take c.min-kept.result c.deref.result.now)) m u (used b e))) c.loop.invariant.shelf.files (done_ok c.do_piece-done.result ok c.do_piece-done.ensures.did));
     }

@@ -1,5 +1,5 @@
 use Rattle.std.proofs.Common.{◌∙◌, sym, refl}
-use Rattle.crossbeam_queue.specs.Passes.{view}
+use Rattle.turn_lock.specs.Passes.{own_of}
 use Rattle.jobs_in_force.specs.Jobs.{loaded}
 use Rattle.run_lock.specs.Callers.{IsAnswered, jobs_known}
 use Rattle.run_lock.specs.declared.tasks.Order.TheVariants.{Load}
@@ -8,18 +8,18 @@ use Rattle.station.proofs.orders.load_text.Goals as goal
 
 pub returns-in-Some-fault_of-clause-does : goal.returns-in-Some-fault_of-clause-does
 returns-in-Some-fault_of-clause-does g c =
-    let jobs = jobs_known g.B.Room.start (view c.args.seat) in
+    let jobs = jobs_known g.B.Asked.start (own_of c.args.seat.now.pass) in
     let text = c.args.text in
-    load_refused (g.S.Shelf.seen c.args.shelf.now).files jobs text c.in-Some-fault_of.fault (view c.args.seat) (view c.carry_out-answer.result.1)
-    (sym c.in-Some-fault_of.is ∙ c.fault_of.ensures (loaded jobs text) (if_some_is (IsAnswered jobs (Load text)) c.carry_out-answer.result.0 c.in-Some.answer c.in-Some.is c.carry_out-answer.ensures.answer))
-    (on_some c.carry_out-answer.result.0 c.in-Some.answer c.in-Some.is c.carry_out-answer.ensures.told)
+    load_refused (g.S.Shelf.seen c.args.shelf.now).files jobs text c.in-Some-fault_of.fault (own_of c.args.seat.now.pass) (own_of c.carry_out-answer.new.self.pass)
+    (sym c.in-Some-fault_of.is ∙ c.fault_of.ensures (loaded jobs text) (if_some_is (IsAnswered jobs (Load text)) c.carry_out-answer.result c.in-Some.answer c.in-Some.is c.carry_out-answer.ensures.answer))
+    (on_some c.carry_out-answer.result c.in-Some.answer c.in-Some.is c.carry_out-answer.ensures.told)
 
 pub returns-in-Ok-clause-does : goal.returns-in-Ok-clause-does
 returns-in-Ok-clause-does g c =
-    let jobs = jobs_known g.B.Room.start (view c.args.seat) in
+    let jobs = jobs_known g.B.Asked.start (own_of c.args.seat.now.pass) in
     let text = c.args.text in
     let o = (g.S.Shelf.seen c.args.shelf.now).files in
-    load_done o o g.B.Room.start text (view c.args.seat) (view c.carry_out-answer.result.1) (view c.read_listed-done.result.1) refl
-    (sym c.in_default-fault_of.is ∙ c.fault_of.ensures (loaded jobs text) (if_some_is (IsAnswered jobs (Load text)) c.carry_out-answer.result.0 c.in-Some.answer c.in-Some.is c.carry_out-answer.ensures.answer))
-    (on_some c.carry_out-answer.result.0 c.in-Some.answer c.in-Some.is c.carry_out-answer.ensures.told)
-    (on_ok_is c.read_listed-done.result.0 c.in-Ok.field-0 c.in-Ok.is c.read_listed-done.ensures.orders)
+    load_done o o g.B.Asked.start text (own_of c.args.seat.now.pass) (own_of c.carry_out-answer.new.self.pass) (own_of c.read_listed-done.new.seat.pass) refl
+    (sym c.in_default-fault_of.is ∙ c.fault_of.ensures (loaded jobs text) (if_some_is (IsAnswered jobs (Load text)) c.carry_out-answer.result c.in-Some.answer c.in-Some.is c.carry_out-answer.ensures.answer))
+    (on_some c.carry_out-answer.result c.in-Some.answer c.in-Some.is c.carry_out-answer.ensures.told)
+    (on_ok_is c.read_listed-done.result c.in-Ok.field-0 c.in-Ok.is c.read_listed-done.ensures.orders)

@@ -1,7 +1,7 @@
 use Rattle.std.proofs.Common.{◌≡◌, ◌∙◌, sym, refl, subst, List, arith}
 use Rattle.std.specs.Prelude.{Some, Option, IfSome}
 use Rattle.std.proofs.lemmas.List.Elements.{All-pop}
-use Rattle.crossbeam_queue.specs.Passes.{view}
+use Rattle.turn_lock.specs.Passes.{own_of}
 use Rattle.outside.specs.declared.objects.StoredFile.{StoredFile}
 use Rattle.run_lock.specs.Listed.{IsListed}
 use Rattle.station.specs.Control.{HasOrdered, update_in}
@@ -12,7 +12,7 @@ use Rattle.station.proofs.orders.read_backwards.Goals as goal
 pub loop-one-init : goal.loop-one-init
 loop-one-init g c = record {
   fit = c.requires.fit;
-  own = c.requires.own;
+  lock = refl;
   seat = c.requires.seat;
   shelf = shelf_same (g.S.Shelf.seen c.args.shelf.now);
   orders = if_all (g.S.Shelf.seen c.args.shelf.now).files (λ files. refl);
@@ -27,13 +27,13 @@ loop-one-preserved g c =
     let was = c.loop-one.invariant in
     record {
       fit = (All-pop IsListed c.loop-one.listed.items c.pop.new.self.items (Some c.in-Some.one) c.in-Some.ensures.items was.fit).0;
-      own = c.read_one-done.ensures.own;
+      lock = c.read_one-done.ensures.lock ∙ was.lock;
       seat = c.read_one-done.ensures.seat;
       shelf = shelf_then (g.S.Shelf.seen c.args.shelf.now) (g.S.Shelf.seen c.loop-one.shelf) (g.S.Shelf.seen c.read_one-done.new.shelf) was.shelf c.read_one-done.ensures.shelf;
-      orders = if_both o (λ files now more. rest_next files c.loop-one.listed.items c.pop.new.self.items c.in-Some.one _ (view c.loop-one.seat) (view c.read_one-done.result.1) c.in-Some.ensures.items now more) was.orders
-          (subst (λ (p : Option (List StoredFile)). IfSome p (λ files. HasOrdered (update_in files c.in-Some.one) (view c.loop-one.seat) (view c.read_one-done.result.1))) was.shelf.files
-          (on_ok c.read_one-done.result.0 (sym c.is_err.ensures.value ∙ c.if-is_err.false) c.read_one-done.ensures.orders));
+      orders = if_both o (λ files now more. rest_next files c.loop-one.listed.items c.pop.new.self.items c.in-Some.one _ (own_of c.loop-one.seat.pass) (own_of c.read_one-done.new.seat.pass) c.in-Some.ensures.items now more) was.orders
+          (subst (λ (p : Option (List StoredFile)). IfSome p (λ files. HasOrdered (update_in files c.in-Some.one) (own_of c.loop-one.seat.pass) (own_of c.read_one-done.new.seat.pass))) was.shelf.files
+          (on_ok c.read_one-done.result (sym c.is_err.ensures.value ∙ c.if-is_err.false) c.read_one-done.ensures.orders));
     }
 
 pub returns-clause-orders : goal.returns-clause-orders
-returns-clause-orders g c = rest_done (g.S.Shelf.seen c.args.shelf.now).files (view c.args.seat) (view c.loop-one.seat) c.args.listed.items c.loop-one.listed.items (omega (arith, c.loop-one.listed.ok.0, c.in_default.ensures.cases.0)) c.loop-one.invariant.orders
+returns-clause-orders g c = rest_done (g.S.Shelf.seen c.args.shelf.now).files (own_of c.args.seat.now.pass) (own_of c.loop-one.seat.pass) c.args.listed.items c.loop-one.listed.items (omega (arith, c.loop-one.listed.ok.0, c.in_default.ensures.cases.0)) c.loop-one.invariant.orders

@@ -1,0 +1,42 @@
+use Rattle.std.proofs.Common.{◌≡◌, ℕ, ℤ, List, [], ◌∷◌, ◌++◌, ◌+◌, ◌<◌, length, set, replicate, sym, refl, ap, ◌∙◌, subst, arith, true, false, pos}
+use Rattle.std.specs.Prelude.{Option, Some, None}
+use Rattle.journal_text.specs.declared.events.Event.{Event}
+use Rattle.journal_text.specs.declared.events.Event.TheVariants.{Finish, Sweep, Halt}
+use Rattle.journal_text.specs.Events.{now_of}
+use Rattle.journal_text.specs.Lines.{number}
+use Rattle.run_lock.specs.declared.marks.Entry.{Entry}
+use Rattle.run_lock.specs.declared.marks.Mark.{Mark}
+use Rattle.run_lock.specs.declared.marks.Mark.TheVariants as mark
+use Rattle.run_lock.specs.declared.marks.Note.TheVariants.{Before, Took, Brought, Ended, Failed}
+use Rattle.run_lock.specs.Entries.{entries_of}
+use Rattle.run_lock.specs.Running.{Known, IsRun, marked_by}
+use Rattle.run_lock.specs.Tasks.{sweep_moment}
+use Rattle.run_lock.proofs.EntryLemmas.{entries_length, entries_begun, goes_one}
+use Rattle.run_lock.proofs.RunLemmas.{taken, took_log, run_took, failed, failed_log, run_failed, ended, ended_log, run_ended, finished, finished_log, run_finished, swept, swept_log, run_swept, slot_held, run_first, run_whole, halted_seats, halted_other, halted_own}
+use Rattle.run_lock.proofs.SlotLemmas.{held_left}
+use Rattle.run_lock.proofs.state.RunState.take_ready.Goals as goal
+
+pub invariant_of-self-2-clause-run : goal.invariant_of-self-2-clause-run
+invariant_of-self-2-clause-run g c =
+    let old = c.args.self.now in
+    let k : Known = record { events = old.core; marks = old.marks.items; next = old.next; started = old.started; slots = old.slots.items; out = old.out; sweeps_left = old.sweeps_left; ended = old.ended } in
+    let seat = 2 + c.args.place in
+    let marks : c.push_reserved.new.self.items ≡ old.marks.items ++ mark.Took seat old.next ∷ [] = c.push_reserved.ensures.items ∙ ap (λ (ms : List Mark). ms ++ mark.Took seat old.next ∷ []) c.reserve.ensures.items in
+    subst (λ (ms : List Mark). IsRun g.B.Asked.workers g.B.Asked.turns g.B.Asked.start (marked_by (taken g.B.Asked.workers g.B.Asked.turns g.B.Asked.start k c.args.place seat) ms)) (sym marks)
+    (run_took g.B.Asked.workers g.B.Asked.turns g.B.Asked.start k c.args.place seat old.run c.requires.few refl c.requires.free c.requires.ready)
+
+pub returns-clause-goes : goal.returns-clause-goes
+returns-clause-goes g c =
+    let old = c.args.self.now in
+    let k : Known = record { events = old.core; marks = old.marks.items; next = old.next; started = old.started; slots = old.slots.items; out = old.out; sweeps_left = old.sweeps_left; ended = old.ended } in
+    let seat = 2 + c.args.place in
+    let marks : c.push_reserved.new.self.items ≡ old.marks.items ++ mark.Took seat old.next ∷ [] = c.push_reserved.ensures.items ∙ ap (λ (ms : List Mark). ms ++ mark.Took seat old.next ∷ []) c.reserve.ensures.items in
+    goes_one _ _ seat (Took old.next) (ap (entries_of old.core) marks ∙ took_log g.B.Asked.workers g.B.Asked.turns g.B.Asked.start k c.args.place seat old.run)
+
+pub returns-clause-task : goal.returns-clause-task
+returns-clause-task g c =
+    let old = c.args.self.now in
+    let k : Known = record { events = old.core; marks = old.marks.items; next = old.next; started = old.started; slots = old.slots.items; out = old.out; sweeps_left = old.sweeps_left; ended = old.ended } in
+    let seat = 2 + c.args.place in
+    let marks : c.push_reserved.new.self.items ≡ old.marks.items ++ mark.Took seat old.next ∷ [] = c.push_reserved.ensures.items ∙ ap (λ (ms : List Mark). ms ++ mark.Took seat old.next ∷ []) c.reserve.ensures.items in
+    ap (entries_of old.core) marks ∙ took_log g.B.Asked.workers g.B.Asked.turns g.B.Asked.start k c.args.place seat old.run
