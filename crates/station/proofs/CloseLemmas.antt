@@ -14,7 +14,7 @@ use Rattle.run_lock.specs.Entries.{entry, entries_of, events_in, own_by, seats_i
 use Rattle.run_lock.specs.Held.{any_end, events_of}
 use Rattle.run_lock.specs.Seats.{IsOwn, AreFresh, AreOwn}
 use Rattle.run_lock.proofs.EntryLemmas.{end_seen, entries_events, own_else}
-use Rattle.turn_lock.specs.Passes.{own_of, own_in, seen_by, part_of, fresh_parts, AreAll, InOrder, Gathers}
+use Rattle.turn_lock.specs.Passes.{own_of, own_in, seen_by, part_of, fresh_parts, InOrder, Gathers}
 use Rattle.turn_lock.specs.Turns.{part}
 use Rattle.turn_lock.specs.declared.lock.Pass.{Pass}
 use Rattle.turn_lock.specs.declared.lock.TurnLock.{TurnLock}

@@ -1,30 +1,27 @@
 -- The lines of an input that comes in pieces, and what is done with them one after another.
-use Rattle.std.proofs.Common.{◌≡◌, ◌≢◌, ℕ, zero, suc, ◌+◌, ◌≤◌, ◌==◌, List, [], ◌∷◌, ◌++◌, length, length-append, take, Bool, true, false, cond, refl, sym, ap, ap₂, ◌∙◌, subst, arith, append_assoc, append-nil}
-use Rattle.std.specs.Prelude.{Option, Some, None, All, IfSome}
+use Rattle.std.proofs.Common.{◌≡◌, ◌≢◌, ℕ, ◌+◌, List, [], ◌∷◌, ◌++◌, length, length-append, Bool, true, false, cond, refl, sym, ap, ap₂, ◌∙◌, subst, arith, append_assoc, append-nil}
+use Rattle.std.specs.Prelude.{Option, Some, None, Result, Ok, Err, All, IfSome, is_err}
 use Rattle.std.specs.List.{slice_split, onto_first}
-use Rattle.std.proofs.lemmas.List.Elements.{All-nil, All-cons, All-head, All-tail, All-push}
+use Rattle.std.proofs.lemmas.List.Elements.{All-push}
 use Rattle.std.proofs.lemmas.List.Splits.{slice_split_none, slice_split_at}
 use Rattle.jobs_in_force.specs.declared.jobs.InForce.{InForce}
 use Rattle.journal_text.specs.declared.events.Event.{Event}
-use Rattle.outside.specs.Objects.{ShelfSeen, SinkSeen, Use, used, Adds}
+use Rattle.outside.specs.Objects.{ShelfSeen, SinkSeen, Use, used, Rose}
+use Rattle.outside.specs.Sources.{SourceSeen}
 use Rattle.outside.specs.declared.objects.StoredFile.{StoredFile}
-use Rattle.run_lock.specs.Callers.{IsOfCaller, jobs_after, jobs_known, ordered}
-use Rattle.run_lock.specs.Entries.{brought_in}
-use Rattle.run_lock.specs.Listed.{listed_in}
-use Rattle.run_lock.specs.declared.listed.Listed.{Listed}
+use Rattle.run_lock.specs.Callers.{jobs_after, jobs_known}
 use Rattle.run_lock.specs.declared.tasks.Order.{Order}
 use Rattle.run_lock.proofs.CallerLemmas.{jobs_join}
-use Rattle.scrape_machine.specs.Machine.{world_of}
 use Rattle.run_lock.specs.declared.marks.Entry.{Entry}
-use Rattle.station.specs.Control.{Did, did, both, line_does, line_did, lines_did, updates_in, update_in, rereads, control_did, caller_did, IsSound, HasOrdered, HasDone, HasRead, piece_did, last_did, ControlDid, CallerDid, TellsControl, CallerTells}
+use Rattle.station.specs.Control.{Did, did, both, line_did, lines_did, rereads, control_lines, given_lines, caller_did, Fits, Came, HasOrdered, HasOrderedSome, StoppedIn, HasDone, IsFrontOf, DoesSo, LastDoes, HasRead, piece_did, last_did, ControlDid, CallerDid}
 use Rattle.station.specs.InputLines.{is_feed, all_but_last, last_of, ended_lines, open_line, unless_empty, all_lines}
 use Rattle.station.specs.declared.reader.Reader.{Reader}
 use Rattle.station.specs.declared.ends.RunEnd.{RunEnd}
 use Rattle.station.specs.declared.ends.RunEnd.TheVariants.{Done, ReadFault, WriteFault, TooLong, NoMemory}
 use Rattle.station.specs.declared.ends.Stop.{Stop}
 use Rattle.station.specs.declared.ends.Stop.TheVariants as stop
-use Rattle.station.specs.Ends.{end_of, run_end}
-use Rattle.station.proofs.EndLemmas.{adds_then, rose_last}
+use Rattle.station.specs.Ends.{FileStop, end_of, last_end}
+use Rattle.station.proofs.FrontLemmas.{known_after, adds_nothing, done_none, done_both, both_assoc, both_none, front_both, front_first, begun_then, does_then, stop_longer, last_stops}
 
 -- the parts at line feeds: there is one at least, and the last has none
 abbrev parts : List ℕ → List (List ℕ)
@@ -92,32 +89,6 @@ feed_ends line b unfed is = ap all_but_last (slice_split_at is_feed line b [] un
 pub feed_opens : (line : List ℕ) (b : ℕ) → IsOpen line → is_feed b ≡ true → open_line (line ++ b ∷ []) ≡ []
 feed_opens line b unfed is = ap last_of (slice_split_at is_feed line b [] unfed is)
 
--- two things that are done, one after the other
-pub adds_nothing : (a b : SinkSeen) → b ≡ a → Adds [] (used a b)
-adds_nothing a b same = of a.bytes refl
-  where
-    of : (o : Option (List ℕ)) → a.bytes ≡ o → IfSome o (λ had. b.bytes ≡ Some (had ++ []))
-    of None is = tt
-    of (Some had) is = ap (λ (s : SinkSeen). s.bytes) same ∙ (is ∙ ap Some (sym (append-nil had)))
-
-pub done_none : (v w : List Entry) (a b : SinkSeen) → w ≡ v → b ≡ a → HasDone (did [] []) v w (used a b)
-done_none v w a b same still = record { orders = ap ordered same ∙ sym (append-nil (ordered v)); said = adds_nothing a b still }
-
-pub done_both : (x y : Did) (v w u : List Entry) (a b c : SinkSeen) → HasDone x v w (used a b) → HasDone y w u (used b c) → HasDone (both x y) v u (used a c)
-done_both x y v w u a b c one next = record {
-  orders = next.orders ∙ (ap (λ os. os ++ y.orders) one.orders ∙ append_assoc (ordered v) x.orders y.orders);
-  said = adds_then x.said y.said a b c one.said next.said;
-}
-
-pub known_after : (start : List Event) (os : List Order) (v w : List Entry) → HasOrdered os v w → jobs_known start w ≡ jobs_after (jobs_known start v) os
-known_after start os v w has = ap (jobs_after (world_of start).jobs) has ∙ jobs_join (world_of start).jobs (ordered v) os
-
-both_assoc : (x y z : Did) → both x (both y z) ≡ both (both x y) z
-both_assoc x y z = ap₂ did (sym (append_assoc x.orders y.orders z.orders)) (sym (append_assoc x.said y.said z.said))
-
-pub both_none : (x : Did) → both x (did [] []) ≡ x
-both_none x = ap₂ did (append-nil x.orders) (append-nil x.said)
-
 pub lines_join : (files : List StoredFile) (jobs : List InForce) (n : ℕ) (xs ys : List (List ℕ)) → lines_did files jobs n (xs ++ ys) ≡ both (lines_did files jobs n xs) (lines_did files (jobs_after jobs (lines_did files jobs n xs).orders) (n + length xs) ys)
 lines_join files jobs n [] ys = ap (λ m. lines_did files jobs m ys) (omega arith)
 lines_join files jobs n (x ∷ xs) ys =
@@ -151,17 +122,32 @@ read_both r s t xs ys one next = record {
   before_is = omega (arith, next.before_is, one.before_is, length-append (ended_lines (r.line.items ++ xs)) (ended_lines (s.line.items ++ ys)), ap (λ (ls : List (List ℕ)). length ls) (more_ended r s xs ys one));
 }
 
-pub piece_both : (files : List StoredFile) (start : List Event) (r s : Reader) (xs ys : List ℕ) (v w u : List Entry) (a b c : SinkSeen) → HasRead xs r s → HasDone (piece_did files (jobs_known start v) r xs) v w (used a b)
-    → HasDone (piece_did files (jobs_known start w) s ys) w u (used b c) → HasDone (piece_did files (jobs_known start v) r (xs ++ ys)) v u (used a c)
-piece_both files start r s xs ys v w u a b c had one next =
+pub piece_both : {A : Type 0} (d : Result A Stop) (files : List StoredFile) (start : List Event) (r s : Reader) (xs ys : List ℕ) (v w u : List Entry) (a b c : SinkSeen) → HasRead xs r s → HasDone (piece_did files (jobs_known start v) r xs) v w (used a b)
+    → DoesSo d (piece_did files (jobs_known start w) s ys) w u (used b c) → DoesSo d (piece_did files (jobs_known start v) r (xs ++ ys)) v u (used a c)
+piece_both d files start r s xs ys v w u a b c had one next =
     let jobs = jobs_known start v in
     let first = ended_lines (r.line.items ++ xs) in
     let rest = ended_lines (s.line.items ++ ys) in
     let x = lines_did files jobs (r.before + 1) first in
     let at : s.before + 1 ≡ (r.before + 1) + length first = omega (arith, had.before_is) in
     let y = lines_did files (jobs_after jobs x.orders) ((r.before + 1) + length first) rest in
-    let second : HasDone y w u (used b c) = subst (λ (d : Did). HasDone d w u (used b c)) (ap₂ (λ js n. lines_did files js n rest) (known_after start x.orders v w one.orders) at) next in
-    subst (λ (d : Did). HasDone d v u (used a c)) (sym (ap (lines_did files jobs (r.before + 1)) (more_ended r s xs ys had) ∙ lines_join files jobs (r.before + 1) first rest)) (done_both x y v w u a b c one second)
+    let second : DoesSo d y w u (used b c) = subst (λ (e : Did). DoesSo d e w u (used b c)) (ap₂ (λ js n. lines_did files js n rest) (known_after start x.orders v w one.orders) at) next in
+    subst (λ (e : Did). DoesSo d e v u (used a c)) (sym (ap (lines_did files jobs (r.before + 1)) (more_ended r s xs ys had) ∙ lines_join files jobs (r.before + 1) first rest)) (does_then d x y v w u a b c one second)
+
+-- a front of the lines, and what was done with the lines of a front of a piece where something stopped it
+pub lines_front : (files : List StoredFile) (jobs : List InForce) (n : ℕ) (xs ys : List (List ℕ)) → IsFrontOf (lines_did files jobs n xs) (lines_did files jobs n (xs ++ ys))
+lines_front files jobs n xs ys =
+    let x = lines_did files jobs n xs in
+    subst (λ (d : Did). IsFrontOf x d) (sym (lines_join files jobs n xs ys)) (front_first x (lines_did files (jobs_after jobs x.orders) (n + length xs) ys))
+
+pub piece_longer : {A : Type 0} (d : Result A Stop) (files : List StoredFile) (jobs : List InForce) (r : Reader) (xs ys : List ℕ) (v w : List Entry) (err : Use SinkSeen) → is_err d ≡ true
+    → DoesSo d (piece_did files jobs r xs) v w err → DoesSo d (piece_did files jobs r (xs ++ ys)) v w err
+piece_longer (Ok x) files jobs r xs ys v w err fails h = absurd (cc)
+piece_longer (Err s) files jobs r xs ys v w err fails h =
+    let first = r.line.items ++ xs in
+    let more : ended_lines (r.line.items ++ (xs ++ ys)) ≡ ended_lines first ++ ended_lines (open_line first ++ ys) = ap ended_lines (sym (append_assoc r.line.items xs ys)) ∙ ended_join first ys in
+    stop_longer s (piece_did files jobs r xs) (piece_did files jobs r (xs ++ ys)) v w err
+    (subst (λ ls. IsFrontOf (piece_did files jobs r xs) (lines_did files jobs (r.before + 1) ls)) (sym more) (lines_front files jobs (r.before + 1) (ended_lines first) (ended_lines (open_line first ++ ys)))) h
 
 -- one more byte
 pub other_read : (r s : Reader) (b : ℕ) → is_feed b ≡ false → s.line.items ≡ r.line.items ++ b ∷ [] → s.before ≡ r.before → HasRead (b ∷ []) r s
@@ -180,9 +166,10 @@ feed_read r s b is line more = record {
   before_is = more ∙ sym (ap (λ ls. r.before + length ls) (feed_ends r.line.items b r.unfed is));
 }
 
-pub feed_did : (files : List StoredFile) (jobs : List InForce) (r : Reader) (b : ℕ) (v w : List Entry) (u : Use SinkSeen) → is_feed b ≡ true → HasDone (line_did files jobs (r.before + 1) r.line.items) v w u → HasDone (piece_did files jobs r (b ∷ [])) v w u
-feed_did files jobs r b v w u is done =
-    subst (λ (d : Did). HasDone d v w u) (sym (ap (lines_did files jobs (r.before + 1)) (feed_ends r.line.items b r.unfed is) ∙ both_none (line_did files jobs (r.before + 1) r.line.items))) done
+pub feed_did : {A : Type 0} (d : Result A Stop) (files : List StoredFile) (jobs : List InForce) (r : Reader) (b : ℕ) (v w : List Entry) (u : Use SinkSeen) → is_feed b ≡ true → DoesSo d (line_did files jobs (r.before + 1) r.line.items) v w u
+    → DoesSo d (piece_did files jobs r (b ∷ [])) v w u
+feed_did d files jobs r b v w u is done =
+    subst (λ (e : Did). DoesSo d e v w u) (sym (ap (lines_did files jobs (r.before + 1)) (feed_ends r.line.items b r.unfed is) ∙ both_none (line_did files jobs (r.before + 1) r.line.items))) done
 
 -- an unfed line at the end
 pub last_none : (files : List StoredFile) (jobs : List InForce) (r : Reader) (v w : List Entry) (a b : SinkSeen) → length r.line.items ≡ 0 → w ≡ v → b ≡ a → HasDone (last_did files jobs r) v w (used a b)
@@ -192,75 +179,89 @@ last_none files jobs r v w a b none same still = subst (λ ls. HasDone (lines_di
     of [] h = refl
     of (x ∷ line) h = absurd (omega (arith, h))
 
-pub last_one : (files : List StoredFile) (jobs : List InForce) (r : Reader) (v w : List Entry) (u : Use SinkSeen) → length r.line.items ≢ 0 → HasDone (line_did files jobs (r.before + 1) r.line.items) v w u → HasDone (last_did files jobs r) v w u
-last_one files jobs r v w u some done =
-    subst (λ (d : Did). HasDone d v w u) (sym (ap (lines_did files jobs (r.before + 1)) (of r.line.items some) ∙ both_none (line_did files jobs (r.before + 1) r.line.items))) done
+pub last_one : {A : Type 0} (d : Result A Stop) (files : List StoredFile) (jobs : List InForce) (r : Reader) (v w : List Entry) (u : Use SinkSeen) → length r.line.items ≢ 0 → DoesSo d (line_did files jobs (r.before + 1) r.line.items) v w u
+    → DoesSo d (last_did files jobs r) v w u
+last_one d files jobs r v w u some done =
+    subst (λ (e : Did). DoesSo d e v w u) (sym (ap (lines_did files jobs (r.before + 1)) (of r.line.items some) ∙ both_none (line_did files jobs (r.before + 1) r.line.items))) done
   where
     of : (line : List ℕ) → length line ≢ 0 → unless_empty line ≡ line ∷ []
     of [] h = absurd (h refl)
     of (x ∷ line) h = refl
+
+-- how the loop ends with the last line
+pub last_ended : (d : Result (Unit {0}) Stop) (end : RunEnd) (x : Did) (v w : List Entry) (err : Use SinkSeen) → end ≡ last_end d → DoesSo d x v w err → LastDoes end x v w err
+last_ended d end x v w err is h = subst (λ (e : RunEnd). LastDoes e x v w err) (sym is) (of d h)
+  where
+    of : (d : Result (Unit {0}) Stop) → DoesSo d x v w err → LastDoes (last_end d) x v w err
+    of (Ok t) h = h
+    of (Err s) h = last_stops s x v w err h
 
 -- what the caller did in all, and what its events tell of that at the end
 if_some : {A : Type 0} {P Q : A → Type 0} (o : Option A) → ((x : A) → P x → Q x) → IfSome o P → IfSome o Q
 if_some None f h = tt
 if_some (Some x) f h = f x h
 
-pub caller_end : (start : List Event) (end : RunEnd) (a b : ShelfSeen) (after : ShelfSeen) (left : Option (List ℕ)) (v w u : List Entry) (d e f : SinkSeen) → b.files ≡ a.files → a.faults ≤ b.faults → e ≡ d
-    → IfSome a.files (λ files. HasOrdered (rereads files (jobs_known start v)) v w) → ControlDid start end (used b after) left w u (used e f) → CallerDid start end (used a after) left v u (used d f)
-caller_end start end a b after left v w u d e f same faults still read done sound =
-    let done' = done (sound_later end a b after faults sound) in
-    both_some a.files b.files same read done'
-  where
-    sound_later : (end : RunEnd) (a b after : ShelfSeen) → a.faults ≤ b.faults → IsSound end (used a after) → IsSound end (used b after)
-    sound_later Done a b after le h = h
-    sound_later ReadFault a b after le h = h
-    sound_later WriteFault a b after le h = h
-    sound_later TooLong a b after le h = λ rose. h (rose_last a.faults b.faults after.faults le rose)
-    sound_later NoMemory a b after le h = h
+if_every : {A : Type 0} {Q : A → Type 0} (o : Option A) → ((x : A) → Q x) → IfSome o Q
+if_every None f = tt
+if_every (Some x) f = f x
 
-    one : (files : List StoredFile) → HasOrdered (rereads files (jobs_known start v)) v w → (bytes : List ℕ) → HasDone (control_did files (jobs_known start w) end bytes) w u (used e f)
-        → HasDone (caller_did files (jobs_known start v) end bytes) v u (used d f)
-    one files read bytes h =
-        let os = rereads files (jobs_known start v) in
-        done_both (did os []) (control_did files (jobs_after (jobs_known start v) os) end bytes) v w u d e f (record { orders = read; said = adds_nothing d e still })
-        (subst (λ js. HasDone (control_did files js end bytes) w u (used e f)) (known_after start os v w read) h)
+fits_later : (end : RunEnd) (a b after : ShelfSeen) (x whole given d : Did) → b.faults ≡ a.faults → Fits end (used b after) whole given d → Fits end (used a after) (both x whole) (both x given) (both x d)
+fits_later Done a b after x whole given d same h = ap (both x) h
+fits_later ReadFault a b after x whole given d same h = (front_both x d whole h.0, λ calm. ap (both x) (h.1 (λ rose. calm (subst (λ (n : ℕ). Rose n after.faults) same rose))))
+fits_later WriteFault a b after x whole given d same h = front_both x d whole h
+fits_later TooLong a b after x whole given d same h = (front_both x d whole h.0, λ calm. ap (both x) (h.1 (λ rose. calm (subst (λ (n : ℕ). Rose n after.faults) same rose))))
+fits_later NoMemory a b after x whole given d same h = tt
 
-    both_some : (x y : Option (List StoredFile)) → y ≡ x → IfSome x (λ files. HasOrdered (rereads files (jobs_known start v)) v w)
-        → IfSome y (λ files. IfSome left (λ bytes. HasDone (control_did files (jobs_known start w) end bytes) w u (used e f)))
-        → IfSome x (λ files. IfSome left (λ bytes. HasDone (caller_did files (jobs_known start v) end bytes) v u (used d f)))
-    both_some None y is r h = tt
-    both_some (Some files) y is r h = if_some left (one files r) (subst (λ o. IfSome o (λ files. IfSome left (λ bytes. HasDone (control_did files (jobs_known start w) end bytes) w u (used e f)))) is h)
+module _ (start : List Event) (control : Use SourceSeen) (v w u : List Entry) where
+  -- the listed files were read, and then control
+  pub caller_end : (end : RunEnd) (a b after : ShelfSeen) (d e f : SinkSeen) → b.files ≡ a.files → b.faults ≡ a.faults → e ≡ d
+      → IfSome a.files (λ files. HasOrdered (rereads files (jobs_known start v)) v w) → ControlDid start end (used b after) control w u (used e f) → CallerDid start end (used a after) control v u (used d f)
+  caller_end end a b after d e f same faults still read done more = of a.files b.files same read (done more)
+    where
+      one : (files : List StoredFile) (bytes : List ℕ) → HasOrdered (rereads files (jobs_known start v)) v w
+          → Came end (used b after) (lines_did files (jobs_known start w) 1 (control_lines bytes)) (lines_did files (jobs_known start w) 1 (given_lines control bytes)) w u (used e f)
+          → Came end (used a after) (caller_did files (jobs_known start v) (control_lines bytes)) (caller_did files (jobs_known start v) (given_lines control bytes)) v u (used d f)
+      one files bytes read was =
+          let os = rereads files (jobs_known start v) in
+          let jobs = jobs_after (jobs_known start v) os in
+          let whole = lines_did files jobs 1 (control_lines bytes) in
+          let given = lines_did files jobs 1 (given_lines control bytes) in
+          let came : Came end (used b after) whole given w u (used e f) =
+          subst (λ js. Came end (used b after) (lines_did files js 1 (control_lines bytes)) (lines_did files js 1 (given_lines control bytes)) w u (used e f)) (known_after start os v w read) was in
+          record {
+            what = both (did os []) came.what;
+            fits = fits_later end a b after (did os []) whole given came.what faults came.fits;
+            done = done_both (did os []) came.what v w u d e f (record { orders = read; said = adds_nothing d e still }) came.done;
+          }
 
--- an end by a stop is no sound one
-pub unsound : (s : Stop) (shelf : Use ShelfSeen) → IsSound (end_of s) shelf → ⊥
-unsound stop.ReadFault shelf h = h
-unsound stop.WriteFault shelf h = h
-unsound stop.NoMemory shelf h = h
+      of : (x y : Option (List StoredFile)) → y ≡ x → IfSome x (λ files. HasOrdered (rereads files (jobs_known start v)) v w)
+          → IfSome y (λ files. IfSome control.before.left (λ bytes. Came end (used b after) (lines_did files (jobs_known start w) 1 (control_lines bytes)) (lines_did files (jobs_known start w) 1 (given_lines control bytes)) w u (used e f)))
+          → IfSome x (λ files. IfSome control.before.left (λ bytes. Came end (used a after) (caller_did files (jobs_known start v) (control_lines bytes)) (caller_did files (jobs_known start v) (given_lines control bytes)) v u (used d f)))
+      of None y is r h = tt
+      of (Some files) y is r h =
+          if_some control.before.left (λ bytes. one files bytes r)
+          (subst (λ o. IfSome o (λ files. IfSome control.before.left (λ bytes. Came end (used b after) (lines_did files (jobs_known start w) 1 (control_lines bytes)) (lines_did files (jobs_known start w) 1 (given_lines control bytes)) w u (used e f)))) is h)
 
-pub stopped_did : (start : List Event) (end : RunEnd) (s : Stop) (shelf : Use ShelfSeen) (left : Option (List ℕ)) (v w : List Entry) (err : Use SinkSeen) → end ≡ end_of s → CallerDid start end shelf left v w err
-stopped_did start end s shelf left v w err is sound = absurd (unsound s shelf (subst (λ (e : RunEnd). IsSound e shelf) is sound))
+  -- the reading of the listed files was stopped
+  some_listed : (a b : ShelfSeen) (d e : SinkSeen) (files : List StoredFile) (lines : List (List ℕ)) (given : Did) → e ≡ d → Rose a.faults b.faults → HasOrderedSome (rereads files (jobs_known start v)) v w
+      → Came ReadFault (used a b) (caller_did files (jobs_known start v) lines) given v w (used d e)
+  some_listed a b d e files lines given still rose h =
+      let rest = lines_did files (jobs_after (jobs_known start v) (rereads files (jobs_known start v))) 1 lines in
+      record {
+        what = did h.front [];
+        fits = (record { rest = did (h.more ++ rest.orders) rest.said; orders = ap (λ (os : List Order). os ++ rest.orders) h.whole ∙ append_assoc h.front h.more rest.orders; said = refl }, λ calm. absurd (calm rose));
+        done = record { orders = h.has; said = adds_nothing d e still };
+      }
 
-pub tells_over : {S E : Type 0} (seen : S → ShelfSeen) (held : E → SinkSeen) (whole : Bool) (end result : RunEnd) (a : ShelfSeen) (b : SinkSeen) (s s' : S) (e e' : E) (left : Option (List ℕ)) (start es : List Event) (seats : List ℕ) (v w : List Entry)
-    → result ≡ run_end whole end → s' ≡ s → e' ≡ e → ordered v ≡ [] → (whole ≡ true → IsOfCaller start es seats w)
-    → CallerDid start end (used a (seen s)) left v w (used b (held e)) → CallerTells start result (used a (seen s')) left es seats (used b (held e'))
-tells_over {S} {E} seen held whole end result a b s s' e e' left start es seats v w is shelf err none brought done =
-    subst (λ (t : RunEnd × S × E). CallerTells start t.0 (used a (seen t.1)) left es seats (used b (held t.2))) (λ i. (sym is i, sym shelf i, sym err i)) (of whole brought)
-  where
-    tells : (files : List StoredFile) (bytes : List ℕ) → IsOfCaller start es seats w → HasDone (caller_did files (jobs_known start v) end bytes) v w (used b (held e)) → TellsControl start es seats (caller_did files (world_of start).jobs end bytes) (used b (held e))
-    tells files bytes of h =
-        let jobs : jobs_known start v ≡ (world_of start).jobs = ap (jobs_after (world_of start).jobs) none in
-        let h' = subst (λ js. HasDone (caller_did files js end bytes) v w (used b (held e))) jobs h in
-        record {
-          brought = brought_in w;
-          halted = of.halted;
-          events = of.events;
-          orders = h'.orders ∙ ap (λ os. os ++ (caller_did files (world_of start).jobs end bytes).orders) none;
-          said = h'.said;
-        }
-
-    of : (x : Bool) → (x ≡ true → IsOfCaller start es seats w) → CallerTells start (run_end x end) (used a (seen s)) left es seats (used b (held e))
-    of true own sound = if_some a.files (λ files h. if_some left (λ bytes g. tells files bytes (own refl) g) h) (done sound)
-    of false own sound = absurd sound
+  pub stopped_did : (s : Stop) (end : RunEnd) (a b : ShelfSeen) (d e : SinkSeen) → end ≡ end_of s → e ≡ d → FileStop s (used a b) → IfSome a.files (λ files. StoppedIn s (rereads files (jobs_known start v)) v w)
+      → CallerDid start end (used a b) control v w (used d e)
+  stopped_did s end a b d e is still stops h = subst (λ (x : RunEnd). CallerDid start x (used a b) control v w (used d e)) (sym is) (of s stops h)
+    where
+      of : (s : Stop) → FileStop s (used a b) → IfSome a.files (λ files. StoppedIn s (rereads files (jobs_known start v)) v w) → CallerDid start (end_of s) (used a b) control v w (used d e)
+      of stop.ReadFault rose h more =
+          if_some a.files (λ files had. if_every control.before.left (λ bytes. some_listed a b d e files (control_lines bytes) (caller_did files (jobs_known start v) (given_lines control bytes)) still rose had)) h
+      of stop.WriteFault rose h more = absurd rose
+      of stop.NoMemory rose h more = absurd (more refl)
 
 -- where control has been read so far: the reader has what follows the last line feed, and counted the lines before it
 pub record IsAt (eaten : List ℕ) (r : Reader) : Type 0 where
@@ -273,28 +274,37 @@ at_more eaten bytes r s at read = record {
   before_is = omega (arith, read.before_is, at.before_is, length-append (ended_lines eaten) (ended_lines (open_line eaten ++ bytes)), ap (λ (ls : List (List ℕ)). length ls) (ended_join eaten bytes), ap (λ l. length (ended_lines (l ++ bytes))) at.line);
 }
 
--- after further lines
-lines_more : (files : List StoredFile) (start : List Event) (n m : ℕ) (xs ys : List (List ℕ)) (v w u : List Entry) (a b c : SinkSeen) → m ≡ n + length xs → HasDone (lines_did files (jobs_known start v) n xs) v w (used a b)
-    → HasDone (lines_did files (jobs_known start w) m ys) w u (used b c) → HasDone (lines_did files (jobs_known start v) n (xs ++ ys)) v u (used a c)
-lines_more files start n m xs ys v w u a b c at one next =
+-- after further lines, however far these came
+lines_more : (Q R : Did → Type 0) (files : List StoredFile) (start : List Event) (n m : ℕ) (xs ys : List (List ℕ)) (v w : List Entry) (err : Use SinkSeen) → m ≡ n + length xs → HasDone (lines_did files (jobs_known start v) n xs) v w err
+    → Q (lines_did files (jobs_known start w) m ys) → ((x y : Did) → HasDone x v w err → Q y → R (both x y)) → R (lines_did files (jobs_known start v) n (xs ++ ys))
+lines_more Q R files start n m xs ys v w err at one next join =
     let jobs = jobs_known start v in
     let x = lines_did files jobs n xs in
     let y = lines_did files (jobs_after jobs x.orders) (n + length xs) ys in
-    let second : HasDone y w u (used b c) = subst (λ (d : Did). HasDone d w u (used b c)) (ap₂ (λ js k. lines_did files js k ys) (known_after start x.orders v w one.orders) at) next in
-    subst (λ (d : Did). HasDone d v u (used a c)) (sym (lines_join files jobs n xs ys)) (done_both x y v w u a b c one second)
+    let second : Q y = subst Q (ap₂ (λ js k. lines_did files js k ys) (known_after start x.orders v w one.orders) at) next in
+    subst R (sym (lines_join files jobs n xs ys)) (join x y one second)
 
-pub eaten_more : (files : List StoredFile) (start : List Event) (eaten bytes : List ℕ) (r : Reader) (v w u : List Entry) (a b c : SinkSeen) → IsAt eaten r → HasDone (lines_did files (jobs_known start v) 1 (ended_lines eaten)) v w (used a b)
-    → HasDone (piece_did files (jobs_known start w) r bytes) w u (used b c) → HasDone (lines_did files (jobs_known start v) 1 (ended_lines (eaten ++ bytes))) v u (used a c)
-eaten_more files start eaten bytes r v w u a b c at one next =
-    subst (λ ls. HasDone (lines_did files (jobs_known start v) 1 ls) v u (used a c)) (sym (ended_join eaten bytes))
-    (lines_more files start 1 (r.before + 1) (ended_lines eaten) (ended_lines (open_line eaten ++ bytes)) v w u a b c (omega (arith, at.before_is)) one
-    (subst (λ l. HasDone (lines_did files (jobs_known start w) (r.before + 1) (ended_lines (l ++ bytes))) w u (used b c)) at.line next))
+pub eaten_more : {A : Type 0} (d : Result A Stop) (files : List StoredFile) (start : List Event) (eaten bytes : List ℕ) (r : Reader) (v w u : List Entry) (a b c : SinkSeen) → IsAt eaten r → HasDone (lines_did files (jobs_known start v) 1 (ended_lines eaten)) v w (used a b)
+    → DoesSo d (piece_did files (jobs_known start w) r bytes) w u (used b c) → DoesSo d (lines_did files (jobs_known start v) 1 (ended_lines (eaten ++ bytes))) v u (used a c)
+eaten_more d files start eaten bytes r v w u a b c at one next =
+    subst (λ ls. DoesSo d (lines_did files (jobs_known start v) 1 ls) v u (used a c)) (sym (ended_join eaten bytes))
+    (lines_more (λ (e : Did). DoesSo d e w u (used b c)) (λ (e : Did). DoesSo d e v u (used a c)) files start 1 (r.before + 1) (ended_lines eaten) (ended_lines (open_line eaten ++ bytes)) v w (used a b) (omega (arith, at.before_is)) one
+    (subst (λ l. DoesSo d (lines_did files (jobs_known start w) (r.before + 1) (ended_lines (l ++ bytes))) w u (used b c)) at.line next)
+    (λ x y h k. does_then d x y v w u a b c h k))
 
-pub eaten_all : (files : List StoredFile) (start : List Event) (eaten : List ℕ) (r : Reader) (v w u : List Entry) (a b c : SinkSeen) → IsAt eaten r → HasDone (lines_did files (jobs_known start v) 1 (ended_lines eaten)) v w (used a b)
-    → HasDone (last_did files (jobs_known start w) r) w u (used b c) → HasDone (lines_did files (jobs_known start v) 1 (all_lines eaten)) v u (used a c)
-eaten_all files start eaten r v w u a b c at one next =
-    lines_more files start 1 (r.before + 1) (ended_lines eaten) (unless_empty (open_line eaten)) v w u a b c (omega (arith, at.before_is)) one
-    (subst (λ l. HasDone (lines_did files (jobs_known start w) (r.before + 1) (unless_empty l)) w u (used b c)) at.line next)
+last_then : (end : RunEnd) (x y : Did) (v w u : List Entry) (a b c : SinkSeen) → HasDone x v w (used a b) → LastDoes end y w u (used b c) → LastDoes end (both x y) v u (used a c)
+last_then Done x y v w u a b c one next = done_both x y v w u a b c one next
+last_then ReadFault x y v w u a b c one next = begun_then x y v w u a b c one next
+last_then WriteFault x y v w u a b c one next = begun_then x y v w u a b c one next
+last_then TooLong x y v w u a b c one next = begun_then x y v w u a b c one next
+last_then NoMemory x y v w u a b c one next = tt
+
+pub eaten_all : (end : RunEnd) (files : List StoredFile) (start : List Event) (eaten : List ℕ) (r : Reader) (v w u : List Entry) (a b c : SinkSeen) → IsAt eaten r → HasDone (lines_did files (jobs_known start v) 1 (ended_lines eaten)) v w (used a b)
+    → LastDoes end (last_did files (jobs_known start w) r) w u (used b c) → LastDoes end (lines_did files (jobs_known start v) 1 (all_lines eaten)) v u (used a c)
+eaten_all end files start eaten r v w u a b c at one next =
+    lines_more (λ (e : Did). LastDoes end e w u (used b c)) (λ (e : Did). LastDoes end e v u (used a c)) files start 1 (r.before + 1) (ended_lines eaten) (unless_empty (open_line eaten)) v w (used a b) (omega (arith, at.before_is)) one
+    (subst (λ l. LastDoes end (lines_did files (jobs_known start w) (r.before + 1) (unless_empty l)) w u (used b c)) at.line next)
+    (λ x y h k. last_then end x y v w u a b c h k)
 
 pub eaten_none : (files : List StoredFile) (start : List Event) (v w : List Entry) (a b : SinkSeen) → w ≡ v → b ≡ a → HasDone (lines_did files (jobs_known start v) 1 (ended_lines [])) v w (used a b)
 eaten_none files start v w a b same still = done_none v w a b same still

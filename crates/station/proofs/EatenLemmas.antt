@@ -1,25 +1,26 @@
 -- What was read of control so far, and what was done with it.
-use Rattle.std.proofs.Common.{◌≡◌, ℕ, zero, suc, ◌+◌, ◌-◌, ◌≤◌, List, [], ◌∷◌, ◌++◌, length, length-append, take, drop, Bool, true, false, refl, sym, ap, ap₂, ◌∙◌, subst, arith, append_assoc, append-nil}
-use Rattle.std.specs.Prelude.{Option, Some, None, Result, Ok, Err, OnOk, IfSome, min, nat_lt}
+use Rattle.std.proofs.Common.{◌≡◌, ◌≢◌, ◌<◌, ℕ, zero, suc, ◌+◌, ◌-◌, ◌≤◌, List, [], ◌∷◌, ◌++◌, length, length-append, take, drop, Bool, true, false, refl, sym, ap, ap₂, ◌∙◌, subst, arith, append_assoc, append-nil}
+use Rattle.std.specs.Prelude.{Option, Some, None, Result, Ok, Err, OnOk, IfSome, is_err, min, nat_lt, if◌then◌else◌}
 use Rattle.std.proofs.lemmas.Bool.Decides.{nat_tests}
 use Rattle.std.proofs.Math.Seq.{take-append_seam}
-use Rattle.std.proofs.lemmas.List.{take-append-drop, length-take}
+use Rattle.std.proofs.lemmas.List.{take-append-drop}
 use Rattle.journal_text.specs.declared.events.Event.{Event}
 use Rattle.outside.specs.Objects.{ShelfSeen, SinkSeen, Use, used, Rose}
-use Rattle.outside.specs.Sources.{Gives, IsAtEnd}
+use Rattle.outside.specs.Sources.{SourceSeen, Gives, IsAtEnd}
 use Rattle.outside.specs.declared.objects.StoredFile.{StoredFile}
 use Rattle.run_lock.specs.Callers.{jobs_known}
 use Rattle.run_lock.specs.declared.marks.Entry.{Entry}
-use Rattle.station.specs.Control.{lines_did, control_did, last_did, piece_did, most_control_bytes, HasDone, HasRead, IsSound}
+use Rattle.station.specs.Control.{Did, lines_did, control_lines, given_lines, last_did, piece_did, most_control_bytes, HasDone, HasBegun, HasRead, IsFrontOf, DoesSo, LastDoes, Came, ControlDid}
 use Rattle.station.specs.Ends.{LastEnds, LineStops, end_after}
-use Rattle.station.specs.InputLines.{all_lines, ended_lines}
+use Rattle.station.specs.InputLines.{all_lines, ended_lines, open_line, unless_empty}
 use Rattle.station.specs.declared.ends.RunEnd.{RunEnd}
 use Rattle.station.specs.declared.ends.RunEnd.TheVariants.{Done, ReadFault, WriteFault, TooLong, NoMemory}
 use Rattle.station.specs.declared.ends.Stop.{Stop}
 use Rattle.station.specs.declared.ends.Stop.TheVariants as stop
 use Rattle.station.specs.declared.reader.Reader.{Reader}
-use Rattle.station.proofs.ControlLemmas.{IsAt, at_more, eaten_more, eaten_all, eaten_none}
-use Rattle.station.proofs.EndLemmas.{rose_last}
+use Rattle.station.proofs.ControlLemmas.{IsAt, at_more, eaten_more, eaten_all, eaten_none, ended_join, lines_front}
+use Rattle.station.proofs.EndLemmas.{rose_after}
+use Rattle.station.proofs.FrontLemmas.{front_self, begun_longer}
 use Rattle.station.proofs.OrderLemmas.{if_all, if_map, if_both}
 
 pub record HasEaten (files : Option (List StoredFile)) (start : List Event) (given : ℕ) (r : Reader) (left now : Option (List ℕ)) (v w : List Entry) (err : Use SinkSeen) : Type 0 where
@@ -62,8 +63,62 @@ eaten_next files start n m r s left mid now v w u a b c bytes was gives read cou
   count = length-append was.eaten bytes ∙ omega (arith, was.count, count);
   at = at_more was.eaten bytes r s was.at read;
   gives = gives_both was.eaten bytes left mid now was.gives gives;
-  done = if_both files (λ fs one next. eaten_more fs start was.eaten bytes r v w u a b c was.at one next) was.done done;
+  done = if_both files (λ fs one next. eaten_more {A = Unit {0}} (Ok tt) fs start was.eaten bytes r v w u a b c was.at one next) was.done done;
 }
+
+-- what control had begins with what was read
+gives_front : (eaten : List ℕ) (left mid : Option (List ℕ)) → Gives eaten left mid → IfSome left (λ had. (rest : List ℕ) × (had ≡ eaten ++ rest))
+gives_front eaten None mid gives = tt
+gives_front eaten (Some had) mid gives = (gives.0, gives.2)
+
+take_past : (n : ℕ) (xs ys : List ℕ) → length xs ≤ n → (more : List ℕ) × (take n (xs ++ ys) ≡ xs ++ more)
+take_past n [] ys le = (take n ys, refl)
+take_past zero (x ∷ xs) ys le = absurd (omega (arith, le))
+take_past (suc n) (x ∷ xs) ys le = let r = take_past n xs ys (omega (arith, le)) in (r.0, ap (λ (zs : List ℕ). x ∷ zs) r.1)
+
+-- the lines that ended within its first bytes begin its lines
+abbrev BeginsLines : List ℕ → List (List ℕ) → Type 0
+BeginsLines xs ls = (more : List (List ℕ)) × (ls ≡ ended_lines xs ++ more)
+
+ended_front : (xs ys : List ℕ) → BeginsLines xs (ended_lines (xs ++ ys))
+ended_front xs ys = (ended_lines (open_line xs ++ ys), ended_join xs ys)
+
+all_front : (xs ys : List ℕ) → BeginsLines xs (all_lines (xs ++ ys))
+all_front xs ys =
+    let last = unless_empty (open_line (xs ++ ys)) in
+    (ended_lines (open_line xs ++ ys) ++ last, ap (λ ls. ls ++ last) (ended_join xs ys) ∙ append_assoc (ended_lines xs) (ended_lines (open_line xs ++ ys)) last)
+
+lines_begin : (xs ys : List ℕ) → length xs ≤ most_control_bytes → BeginsLines xs (control_lines (xs ++ ys))
+lines_begin xs ys le = of (nat_lt most_control_bytes (length (xs ++ ys)))
+  where
+    of : (b : Bool) → BeginsLines xs (if b then ended_lines (take most_control_bytes (xs ++ ys)) else all_lines (xs ++ ys))
+    of true = let r = take_past most_control_bytes xs ys le in subst (λ (zs : List ℕ). BeginsLines xs (ended_lines zs)) (sym r.1) (ended_front xs r.0)
+    of false = all_front xs ys
+
+abbrev doing : List StoredFile → List Event → List Entry → List (List ℕ) → Did
+doing files start v lines = lines_did files (jobs_known start v) 1 lines
+
+front_of_all : (files : List StoredFile) (start : List Event) (v : List Entry) (xs ys bytes : List ℕ) → length xs ≤ most_control_bytes → bytes ≡ xs ++ ys → IsFrontOf (doing files start v (ended_lines xs)) (doing files start v (control_lines bytes))
+front_of_all files start v xs ys bytes le is =
+    let r = lines_begin xs ys le in
+    subst (λ ls. IsFrontOf (doing files start v (ended_lines xs)) (doing files start v ls)) (sym (ap control_lines is ∙ r.1)) (lines_front files (jobs_known start v) 1 (ended_lines xs) r.0)
+
+-- control failed to give: what was done is what the lines come to that it gave
+pub eaten_failed : (start : List Event) (n : ℕ) (r : Reader) (mid : Option (List ℕ)) (v w : List Entry) (err : Use SinkSeen) (s : Use ShelfSeen) (c : Use SourceSeen) → HasEaten s.before.files start n r c.before.left mid v w err
+    → c.after.given ≡ c.before.given + n → n ≤ most_control_bytes → ControlDid start ReadFault s c v w err
+eaten_failed start n r mid v w err s c was gave le more =
+    if_map s.before.files (λ files one. if_map c.before.left (λ bytes is. came files bytes is one) (gives_front was.eaten c.before.left mid was.gives)) was.done
+  where
+    came : (files : List StoredFile) (bytes : List ℕ) → (rest : List ℕ) × (bytes ≡ was.eaten ++ rest) → HasDone (doing files start v (ended_lines was.eaten)) v w err
+        → Came ReadFault s (doing files start v (control_lines bytes)) (doing files start v (given_lines c bytes)) v w err
+    came files bytes is one =
+        let many : c.after.given - c.before.given ≡ length was.eaten = omega (arith, gave, was.count) in
+        let given : given_lines c bytes ≡ ended_lines was.eaten = ap ended_lines (ap₂ (λ k zs. take k zs) many is.1 ∙ take-append_seam was.eaten is.0) in
+        record {
+          what = doing files start v (ended_lines was.eaten);
+          fits = (front_of_all files start v was.eaten is.0 bytes (omega (arith, was.count, le)) is.1, λ calm. ap (doing files start v) (sym given));
+          done = one;
+        }
 
 -- at the end of the input
 all_eaten : (eaten : List ℕ) (left mid : Option (List ℕ)) → Gives eaten left mid → IsAtEnd mid → IfSome left (λ had. had ≡ eaten)
@@ -74,58 +129,109 @@ all_eaten eaten (Some had) mid gives ended = of mid gives.1 ended
     of None is h = absurd (cc)
     of (Some rest) is h = gives.2 ∙ (ap (λ zs. eaten ++ zs) (sym (some_is rest gives.0 is) ∙ h) ∙ append-nil eaten)
 
-pub eaten_done : (end : RunEnd) (files : Option (List StoredFile)) (start : List Event) (n : ℕ) (r : Reader) (left mid : Option (List ℕ)) (v w u : List Entry) (a b c : SinkSeen) (s t : Use ShelfSeen) (e : Use SinkSeen) → HasEaten files start n r left mid v w (used a b)
-    → IsAtEnd mid → LastEnds end t e → (end ≡ Done → IfSome files (λ (fs : List StoredFile). HasDone (last_did fs (jobs_known start w) r) w u (used b c))) → IsSound end s
-    → IfSome files (λ (fs : List StoredFile). IfSome left (λ bytes. HasDone (control_did fs (jobs_known start v) end bytes) v u (used a c)))
-eaten_done Done files start n r left mid v w u a b c s t e was ended ends last sound =
-    if_both files
-    (λ fs one next. if_map left (λ bytes is. subst (λ (bs : List ℕ). HasDone (lines_did fs (jobs_known start v) 1 (all_lines bs)) v u (used a c)) (sym is) (eaten_all fs start was.eaten r v w u a b c was.at one next)) (all_eaten was.eaten left mid was.gives ended))
-    was.done (last refl)
-eaten_done ReadFault files start n r left mid v w u a b c s t e was ended ends last sound = absurd sound
-eaten_done WriteFault files start n r left mid v w u a b c s t e was ended ends last sound = absurd sound
-eaten_done TooLong files start n r left mid v w u a b c s t e was ended ends last sound = absurd ends
-eaten_done NoMemory files start n r left mid v w u a b c s t e was ended ends last sound = absurd sound
+lines_of_few : (bytes : List ℕ) → length bytes ≤ most_control_bytes → control_lines bytes ≡ all_lines bytes
+lines_of_few bytes le =
+    let no : nat_lt most_control_bytes (length bytes) ≡ false = grind (arith, nat_tests) in
+    ap (λ (b : Bool). if b then ended_lines (take most_control_bytes bytes) else all_lines bytes) no
 
--- where it gives more than may be: a piece of the last read is kept
-first_eaten : (eaten bytes more : List ℕ) (left mid now : Option (List ℕ)) → Gives eaten left mid → Gives (bytes ++ more) mid now → length (eaten ++ bytes) ≡ most_control_bytes → IfSome left (λ had. take most_control_bytes had ≡ eaten ++ bytes)
-first_eaten eaten bytes more None mid now gives next count = tt
-first_eaten eaten bytes more (Some had) mid now gives next count = of (gives_both eaten (bytes ++ more) (Some had) mid now gives next)
+last_came : (end : RunEnd) (s : Use ShelfSeen) (whole given : Did) (v u : List Entry) (err : Use SinkSeen) → end ≢ NoMemory → (end ≡ ReadFault → Rose s.before.faults s.after.faults) → end ≢ TooLong → LastDoes end whole v u err → Came end s whole given v u err
+last_came Done s whole given v u err more rose short h = record { what = whole; fits = refl; done = h }
+last_came ReadFault s whole given v u err more rose short h = record { what = h.part; fits = (h.front, λ calm. absurd (calm (rose refl))); done = h.done }
+last_came WriteFault s whole given v u err more rose short h = record { what = h.part; fits = h.front; done = h.done }
+last_came TooLong s whole given v u err more rose short h = absurd (short refl)
+last_came NoMemory s whole given v u err more rose short h = absurd (more refl)
+
+last_rose : (end : RunEnd) (t : Use ShelfSeen) (e : Use SinkSeen) → LastEnds end t e → end ≡ ReadFault → Rose t.before.faults t.after.faults
+last_rose Done t e ends is = absurd (cc)
+last_rose ReadFault t e ends is = ends.0
+last_rose WriteFault t e ends is = absurd (cc)
+last_rose TooLong t e ends is = absurd ends
+last_rose NoMemory t e ends is = absurd (cc)
+
+last_short : (end : RunEnd) (t : Use ShelfSeen) (e : Use SinkSeen) → LastEnds end t e → end ≢ TooLong
+last_short Done t e ends = λ is. absurd (cc)
+last_short ReadFault t e ends = λ is. absurd (cc)
+last_short WriteFault t e ends = λ is. absurd (cc)
+last_short TooLong t e ends = λ is. ends
+last_short NoMemory t e ends = λ is. absurd (cc)
+
+pub eaten_done : (end : RunEnd) (start : List Event) (n : ℕ) (r : Reader) (mid : Option (List ℕ)) (v w u : List Entry) (a b d : SinkSeen) (s t : Use ShelfSeen) (e : Use SinkSeen) (c : Use SourceSeen) → HasEaten s.before.files start n r c.before.left mid v w (used a b)
+    → n ≤ most_control_bytes → IsAtEnd mid → t.before.faults ≡ s.before.faults → t.after ≡ s.after → LastEnds end t e → IfSome s.before.files (λ (fs : List StoredFile). LastDoes end (last_did fs (jobs_known start w) r) w u (used b d))
+    → ControlDid start end s c v u (used a d)
+eaten_done end start n r mid v w u a b d s t e c was le ended same still ends last more =
+    if_both s.before.files
+    (λ files one next. if_map c.before.left (λ bytes is. of files bytes is (eaten_all end files start was.eaten r v w u a b d was.at one next)) (all_eaten was.eaten c.before.left mid was.gives ended))
+    was.done last
   where
-    of : (rest : List ℕ) × (now ≡ Some rest) × (had ≡ (eaten ++ (bytes ++ more)) ++ rest) → take most_control_bytes had ≡ eaten ++ bytes
-    of h =
-        let whole : had ≡ (eaten ++ bytes) ++ (more ++ h.0) = h.2 ∙ (ap (λ zs. zs ++ h.0) (sym (append_assoc eaten bytes more)) ∙ append_assoc (eaten ++ bytes) more h.0) in
-        ap₂ (λ k zs. take k zs) (sym count) whole ∙ take-append_seam (eaten ++ bytes) (more ++ h.0)
+    of : (files : List StoredFile) (bytes : List ℕ) → bytes ≡ was.eaten → LastDoes end (doing files start v (all_lines was.eaten)) v u (used a d) → Came end s (doing files start v (control_lines bytes)) (doing files start v (given_lines c bytes)) v u (used a d)
+    of files bytes is h =
+        let all : control_lines bytes ≡ all_lines was.eaten = ap control_lines is ∙ lines_of_few was.eaten (omega (arith, was.count, le)) in
+        last_came end s (doing files start v (control_lines bytes)) (doing files start v (given_lines c bytes)) v u (used a d) more
+        (λ fault. rose_after s.before.faults t.before.faults s.after.faults same (subst (λ (x : ShelfSeen). Rose t.before.faults x.faults) still (last_rose end t e ends fault)))
+        (last_short end t e ends)
+        (subst (λ ls. LastDoes end (doing files start v ls) v u (used a d)) (sym all) h)
 
-long_done : (files : Option (List StoredFile)) (start : List Event) (n : ℕ) (r : Reader) (left mid now : Option (List ℕ)) (v w u : List Entry) (a b c : SinkSeen) (bytes more : List ℕ) → HasEaten files start n r left mid v w (used a b) → Gives (bytes ++ more) mid now
-    → n + length bytes ≡ most_control_bytes → IfSome files (λ (fs : List StoredFile). HasDone (piece_did fs (jobs_known start w) r bytes) w u (used b c))
-    → IfSome files (λ (fs : List StoredFile). IfSome left (λ given. HasDone (control_did fs (jobs_known start v) TooLong given) v u (used a c)))
-long_done files start n r left mid now v w u a b c bytes more was gives count done =
-    if_both files
-    (λ fs one next. if_map left (λ given is. subst (λ (bs : List ℕ). HasDone (lines_did fs (jobs_known start v) 1 (ended_lines bs)) v u (used a c)) (sym is) (eaten_more fs start was.eaten bytes r v w u a b c was.at one next))
-    (first_eaten was.eaten bytes more left mid now was.gives gives (length-append was.eaten bytes ∙ omega (arith, was.count, count))))
-    was.done done
+-- a piece of the last read was kept, and a line of it was stopped, or the input gave more than may be
+lines_of_many : (xs ys bytes : List ℕ) → length xs ≡ most_control_bytes → 0 < length ys → bytes ≡ xs ++ ys → control_lines bytes ≡ ended_lines xs
+lines_of_many xs ys bytes many some is =
+    let long : most_control_bytes < length bytes = omega (arith, many, some, ap (λ (zs : List ℕ). length zs) is, length-append xs ys) in
+    let yes : nat_lt most_control_bytes (length bytes) ≡ true = grind (arith, nat_tests) in
+    ap (λ (b : Bool). if b then ended_lines (take most_control_bytes bytes) else all_lines bytes) yes ∙ ap ended_lines (ap₂ (λ k zs. take k zs) (sym many) is ∙ take-append_seam xs ys)
 
--- how the loop ends with a piece, by a sound end
-sound_long : (done : Result (Unit {0}) Stop) (long : Bool) (end : RunEnd) (a b c : ShelfSeen) (e : Use SinkSeen) → a.faults ≤ b.faults → LineStops done (used b c) e → end_after done long ≡ Some end → IsSound end (used a c) → (end ≡ TooLong) × (long ≡ true) × (done ≡ Ok tt)
-sound_long (Ok x) true end a b c e le stops is sound = (sym (some_is TooLong end is), refl, refl)
-sound_long (Ok x) false end a b c e le stops is sound = absurd (cc)
-sound_long (Err stop.ReadFault) true end a b c e le stops is sound = absurd (subst (λ (x : RunEnd). IsSound x (used a c)) (sym (some_is TooLong end is)) sound (rose_last a.faults b.faults c.faults le stops))
-sound_long (Err stop.ReadFault) false end a b c e le stops is sound = absurd (subst (λ (x : RunEnd). IsSound x (used a c)) (sym (some_is ReadFault end is)) sound)
-sound_long (Err stop.WriteFault) long end a b c e le stops is sound = absurd (subst (λ (x : RunEnd). IsSound x (used a c)) (sym (some_is WriteFault end is)) sound)
-sound_long (Err stop.NoMemory) long end a b c e le stops is sound = absurd (subst (λ (x : RunEnd). IsSound x (used a c)) (sym (some_is NoMemory end is)) sound)
+module _ (start : List Event) (n : ℕ) (r : Reader) (mid now : Option (List ℕ)) (v w u : List Entry) (a b d : SinkSeen) (s t : Use ShelfSeen) (e : Use SinkSeen) (c : Use SourceSeen) (bytes more : List ℕ) where
+  pub eaten_piece : (done : Result (Unit {0}) Stop) (long : Bool) (end : RunEnd) → HasEaten s.before.files start n r c.before.left mid v w (used a b) → Gives (bytes ++ more) mid now → n + length bytes ≤ most_control_bytes
+      → (long ≡ true → (n + length bytes ≡ most_control_bytes) × (0 < length more)) → t.before.faults ≡ s.before.faults → t.after ≡ s.after → LineStops done t e → end_after done long ≡ Some end
+      → IfSome s.before.files (λ (fs : List StoredFile). DoesSo done (piece_did fs (jobs_known start w) r bytes) w u (used b d)) → ControlDid start end s c v u (used a d)
+  eaten_piece done long end was gives le full same still stops is did more' =
+      if_both s.before.files
+      (λ files one next. if_map c.before.left (λ had split. at files had split done long full is stops (eaten_more done files start was.eaten bytes r v w u a b d was.at one next))
+      (gives_front (was.eaten ++ (bytes ++ more)) c.before.left now (gives_both was.eaten (bytes ++ more) c.before.left mid now was.gives gives)))
+      was.done did
+    where
+      xs : List ℕ
+      xs = was.eaten ++ bytes
+
+      few : length xs ≤ most_control_bytes
+      few = omega (arith, length-append was.eaten bytes, was.count, le)
+
+      rose : Rose t.before.faults t.after.faults → Rose s.before.faults s.after.faults
+      rose h = rose_after s.before.faults t.before.faults s.after.faults same (subst (λ (x : ShelfSeen). Rose t.before.faults x.faults) still h)
+
+      ends : (x : RunEnd) (files : List StoredFile) (had : List ℕ) → x ≡ end → Came x s (doing files start v (control_lines had)) (doing files start v (given_lines c had)) v u (used a d)
+          → Came end s (doing files start v (control_lines had)) (doing files start v (given_lines c had)) v u (used a d)
+      ends x files had is h = subst (λ (y : RunEnd). Came y s (doing files start v (control_lines had)) (doing files start v (given_lines c had)) v u (used a d)) is h
+
+      part : (files : List StoredFile) (had rest : List ℕ) → had ≡ xs ++ rest → HasBegun (doing files start v (ended_lines xs)) v u (used a d) → HasBegun (doing files start v (control_lines had)) v u (used a d)
+      part files had rest whole h = begun_longer (doing files start v (ended_lines xs)) (doing files start v (control_lines had)) v u (used a d) (front_of_all files start v xs rest had few whole) h
+
+      split_at : (had : List ℕ) → (rest : List ℕ) × (had ≡ (was.eaten ++ (bytes ++ more)) ++ rest) → (rest : List ℕ) × (had ≡ xs ++ (more ++ rest))
+      split_at had h = (h.0, h.1 ∙ (ap (λ zs. zs ++ h.0) (sym (append_assoc was.eaten bytes more)) ∙ append_assoc xs more h.0))
+
+      at : (files : List StoredFile) (had : List ℕ) → (rest : List ℕ) × (had ≡ (was.eaten ++ (bytes ++ more)) ++ rest) → (done : Result (Unit {0}) Stop) (long : Bool) → (long ≡ true → (n + length bytes ≡ most_control_bytes) × (0 < length more))
+          → end_after done long ≡ Some end → LineStops done t e → DoesSo done (doing files start v (ended_lines xs)) v u (used a d)
+          → Came end s (doing files start v (control_lines had)) (doing files start v (given_lines c had)) v u (used a d)
+      at files had split (Ok x) true full is stops h =
+          let all = doing files start v (control_lines had) in
+          let p = split_at had split in
+          let f = full refl in
+          let lines = lines_of_many xs (more ++ p.0) had (omega (arith, length-append was.eaten bytes, was.count, f.0)) (omega (arith, f.1, length-append more p.0)) p.1 in
+          ends TooLong files had (some_is TooLong end is)
+          (record { what = all; fits = (front_self all, λ calm. refl); done = subst (λ ls. HasDone (doing files start v ls) v u (used a d)) (sym lines) h })
+      at files had split (Ok x) false full is stops h = absurd (cc)
+      at files had split (Err stop.ReadFault) true full is stops h =
+          let p = part files had (more ++ (split_at had split).0) (split_at had split).1 h in
+          ends TooLong files had (some_is TooLong end is) (record { what = p.part; fits = (p.front, λ calm. absurd (calm (rose stops.0))); done = p.done })
+      at files had split (Err stop.ReadFault) false full is stops h =
+          let p = part files had (more ++ (split_at had split).0) (split_at had split).1 h in
+          ends ReadFault files had (some_is ReadFault end is) (record { what = p.part; fits = (p.front, λ calm. absurd (calm (rose stops.0))); done = p.done })
+      at files had split (Err stop.WriteFault) long full is stops h =
+          let p = part files had (more ++ (split_at had split).0) (split_at had split).1 h in
+          ends WriteFault files had (some_is WriteFault end is) (record { what = p.part; fits = p.front; done = p.done })
+      at files had split (Err stop.NoMemory) long full is stops h = absurd (more' (sym (some_is NoMemory end is)))
 
 pub done_ok : {P : Type 0} (done : Result (Unit {0}) Stop) → done ≡ Ok tt → OnOk done P → P
 done_ok (Ok x) is h = h
 done_ok (Err e) is h = absurd (cc)
-
-pub eaten_long : (done : Result (Unit {0}) Stop) (long : Bool) (end : RunEnd) (s0 s1 s2 : ShelfSeen) (e : Use SinkSeen) (files : Option (List StoredFile)) (start : List Event) (n : ℕ) (r : Reader) (left mid now : Option (List ℕ)) (v w u : List Entry) (a b c : SinkSeen)
-    (bytes more : List ℕ) → s0.faults ≤ s1.faults → LineStops done (used s1 s2) e → end_after done long ≡ Some end → HasEaten files start n r left mid v w (used a b) → Gives (bytes ++ more) mid now → (long ≡ true → n + length bytes ≡ most_control_bytes)
-    → OnOk done (IfSome files (λ (fs : List StoredFile). HasDone (piece_did fs (jobs_known start w) r bytes) w u (used b c))) → IsSound end (used s0 s2)
-    → IfSome files (λ (fs : List StoredFile). IfSome left (λ given. HasDone (control_did fs (jobs_known start v) end given) v u (used a c)))
-eaten_long done long end s0 s1 s2 e files start n r left mid now v w u a b c bytes more le stops is was gives count did sound =
-    let so = sound_long done long end s0 s1 s2 e le stops is sound in
-    subst (λ (x : RunEnd). IfSome files (λ (fs : List StoredFile). IfSome left (λ given. HasDone (control_did fs (jobs_known start v) x given) v u (used a c)))) (sym so.0)
-    (long_done files start n r left mid now v w u a b c bytes more was gives (count so.1) (done_ok done so.2 did))
 
 -- where the loop goes on the piece was done
 pub goes_ok : (done : Result (Unit {0}) Stop) (long : Bool) → end_after done long ≡ None → done ≡ Ok tt
@@ -144,9 +250,12 @@ take_less (suc k) zero xs le = absurd (omega (arith, le))
 take_less (suc k) (suc n) [] le = refl
 take_less (suc k) (suc n) (x ∷ xs) le = ap (λ ys. x ∷ ys) (take_less k n xs (omega (arith, le)))
 
+pub kept_whole : (k n : ℕ) (room all : List ℕ) → all ≡ room → k ≤ n → take k all ++ drop k (take n room) ≡ take n room
+kept_whole k n room all same le = sym (ap (λ xs. xs ++ drop k (take n room)) (take_less k n room le ∙ ap (take k) (sym same))) ∙ take-append-drop k (take n room)
+
 pub kept_gives : (k n : ℕ) (room all : List ℕ) (mid now : Option (List ℕ)) → all ≡ room → k ≤ n → Gives (take n room) mid now → Gives (take k all ++ drop k (take n room)) mid now
 kept_gives k n room all mid now same le gives =
-    subst (λ bs. Gives bs mid now) (sym (take-append-drop k (take n room)) ∙ ap (λ xs. xs ++ drop k (take n room)) (take_less k n room le ∙ ap (take k) (sym same))) gives
+    subst (λ bs. Gives bs mid now) (sym (kept_whole k n room all same le)) gives
 
 pub all_gives : (k n : ℕ) (room all : List ℕ) (mid now : Option (List ℕ)) → all ≡ room → k ≡ n → Gives (take n room) mid now → Gives (take k all) mid now
 all_gives k n room all mid now same is gives = subst (λ bs. Gives bs mid now) (ap₂ (λ m xs. take m xs) (sym is) (sym same)) gives
@@ -156,6 +265,27 @@ kept_less count given kept is = grind (arith, nat_tests)
 
 pub cut_full : (count given kept size len : ℕ) → kept ≡ min count (1048576 - given) → given ≤ 1048576 → count ≤ size → len ≡ min kept size → nat_lt kept count ≡ true → given + len ≡ 1048576
 cut_full count given kept size len is few within has long = grind (arith, nat_tests)
+
+pub cut_more : (count kept : ℕ) (front more whole all room : List ℕ) → length front ≡ min kept (length all) → length whole ≡ min count (length room) → count ≤ length room → front ++ more ≡ whole → nat_lt kept count ≡ true → 0 < length more
+cut_more count kept front more whole all room front_is whole_is within same long =
+    let both : length front + length more ≡ length whole = sym (length-append front more) ∙ ap (λ (xs : List ℕ). length xs) same in
+    grind (arith, nat_tests)
+
+-- a read at the end leaves nothing
+nothing_left : (xs ys : List ℕ) → xs ++ ys ≡ [] → ys ≡ []
+nothing_left [] ys is = is
+nothing_left (x ∷ xs) ys is = absurd (cc)
+
+pub ends_gone : (eaten bytes : List ℕ) (left mid now : Option (List ℕ)) → Gives eaten left mid → IsAtEnd mid → Gives bytes mid now → IfSome left (λ had. now ≡ Some [])
+ends_gone eaten bytes None mid now gives ended next = tt
+ends_gone eaten bytes (Some had) mid now gives ended next = of mid gives.1 ended next
+  where
+    of : (o : Option (List ℕ)) → o ≡ Some gives.0 → IsAtEnd o → Gives bytes o now → now ≡ Some []
+    of None is end more = absurd (cc)
+    of (Some m) is end more = more.1 ∙ ap Some (nothing_left bytes more.0 (sym more.2 ∙ end))
+
+pub err_none : (done : Result (Unit {0}) Stop) → done ≡ Ok tt → is_err done ≡ false
+err_none done is = ap is_err is
 
 pub cut_few : (count given kept size len before : ℕ) → kept ≡ min count (1048576 - given) → given ≤ 1048576 → len ≡ min kept size → before ≤ given → before + len ≤ 1048576
 cut_few count given kept size len before is few has le = grind (arith, nat_tests)

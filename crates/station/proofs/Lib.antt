@@ -3,5 +3,8 @@ pub mod ControlLemmas
 pub mod CrewLemmas
 pub mod EatenLemmas
 pub mod EndLemmas
+pub mod FrontLemmas
 pub mod OrderLemmas
+pub mod RecordLemmas
+pub mod SharingLemmas
 pub mod WorkLemmas

@@ -1,6 +1,6 @@
 -- What the caller of a run does, and says on the error output: first it reads the listed files of the configuration in force, and then it does
 -- the lines of the control input ("Configuration" of the Prometheus documentation: file_sd_config, and what a reload does).
-use Rattle.std.specs.Prelude.{◌≡◌, ℕ, ◌+◌, ℤ, List, [], ◌∷◌, ◌++◌, length, take, map, nat_lt, Option, Some, None, Result, Ok, Err, IfSome, if◌then◌else◌}
+use Rattle.std.specs.Prelude.{◌≡◌, ◌≢◌, ℕ, ◌+◌, ◌-◌, pos, List, [], ◌∷◌, ◌++◌, length, take, drop, map, nat_lt, Option, Some, None, Result, Ok, Err, IfSome, if◌then◌else◌}
 use Rattle.config_fields.specs.declared.fault.ConfFault.{ConfFault}
 use Rattle.control_lines.specs.Commands.{command_in}
 use Rattle.control_lines.specs.Messages.{said_of}
@@ -13,22 +13,28 @@ use Rattle.jobs_in_force.specs.declared.jobs.Filed.{Filed}
 use Rattle.jobs_in_force.specs.declared.jobs.InForce.{InForce}
 use Rattle.journal_text.specs.declared.events.Event.{Event}
 use Rattle.journal_text.specs.declared.events.Event.TheVariants.{Halt}
-use Rattle.outside.specs.Objects.{ShelfSeen, SinkSeen, Use, Adds, Rose, file_of}
+use Rattle.outside.specs.Objects.{ShelfSeen, SinkSeen, Use, Adds, AddsFront, Rose, file_of}
 use Rattle.outside.specs.Sizes.{most_text_bytes}
+use Rattle.outside.specs.Sources.{SourceSeen}
 use Rattle.outside.specs.declared.objects.StoredFile.{StoredFile}
-use Rattle.run_lock.specs.Callers.{jobs_after, jobs_known, ordered, orders_in}
+use Rattle.run_lock.specs.Callers.{jobs_after, jobs_known}
+use Rattle.run_lock.specs.Entries.{entry}
 use Rattle.run_lock.specs.Held.{events_of}
 use Rattle.run_lock.specs.Listed.{listed_in}
 use Rattle.run_lock.specs.declared.listed.Listed.{Listed}
 use Rattle.run_lock.specs.declared.tasks.Order.{Order}
 use Rattle.run_lock.specs.declared.tasks.Order.TheVariants.{Load, Update}
+use Rattle.run_lock.specs.Tasks.{event_at, order_brought}
 use Rattle.scrape_config.specs.declared.conf.Group.{Group}
 use Rattle.scrape_machine.specs.Machine.{world_of}
 use Rattle.run_lock.specs.declared.marks.Entry.{Entry}
+use Rattle.station.specs.Crews.{Behind, behind_of}
 use Rattle.station.specs.InputLines.{all_lines, ended_lines, open_line, unless_empty}
 use Rattle.station.specs.declared.reader.Reader.{Reader}
 use Rattle.station.specs.declared.ends.RunEnd.{RunEnd}
 use Rattle.station.specs.declared.ends.RunEnd.TheVariants.{Done, ReadFault, WriteFault, NoMemory, TooLong as TooMuch}
+use Rattle.station.specs.declared.ends.Stop.{Stop}
+use Rattle.station.specs.declared.ends.Stop.TheVariants as stop
 use Rattle.station.specs.declared.orders.Found.{Found}
 use Rattle.station.specs.declared.orders.Found.TheVariants as found
 
@@ -116,16 +122,72 @@ lines_did files jobs n (line ∷ lines) = both (line_did files jobs n line) (lin
 abbrev pub most_control_bytes : ℕ
 most_control_bytes = 1048576
 
--- the caller's pass after these further orders, and after what it did and said
-abbrev pub HasOrdered : List Order → List Entry → List Entry → Type 0
-HasOrdered orders v w = ordered w ≡ ordered v ++ orders
+-- an order that was carried out, and the last moment before its event
+pub record Ordered : Type 0 where
+  pub order : Order
+  pub last : ℕ
 
-abbrev pub Does : Doing → List Entry → List Entry → Option Refusal → Type 0
-Does d v w why = HasOrdered d.orders v w × (why ≡ d.why)
+abbrev pub order_of : Ordered → Order
+order_of o = o.order
 
+abbrev pub entry_for : Ordered → Entry
+entry_for o = entry 0 (order_brought o.order o.last)
+
+-- the caller's entries after these further orders, and nothing else
+pub record HasOrdered (orders : List Order) (v w : List Entry) : Type 0 where
+  pub carried : List Ordered
+  pub these : map order_of carried ≡ orders
+  pub added : w ≡ v ++ map entry_for carried
+
+-- the same after a front of them
+pub record HasOrderedSome (orders : List Order) (v w : List Entry) : Type 0 where
+  pub front : List Order
+  pub more : List Order
+  pub whole : orders ≡ front ++ more
+  pub has : HasOrdered front v w
+
+-- where something stopped it: after a front of them; where memory ran out nothing is said
+abbrev pub StoppedIn : Stop → List Order → List Entry → List Entry → Type 0
+StoppedIn stop.NoMemory orders v w = Unit {0}
+StoppedIn s orders v w = HasOrderedSome orders v w
+
+abbrev pub Orders : {A : Type 0} → Result A Stop → List Order → List Entry → List Entry → Type 0
+Orders (Ok x) orders v w = HasOrdered orders v w
+Orders (Err s) orders v w = StoppedIn s orders v w
+
+abbrev pub Does : Result (Option Refusal) Stop → Doing → List Entry → List Entry → Type 0
+Does (Ok why) d v w = HasOrdered d.orders v w × (why ≡ d.why)
+Does (Err s) d v w = StoppedIn s d.orders v w
+
+-- what the caller did and said
 pub record HasDone (d : Did) (v w : List Entry) (err : Use SinkSeen) : Type 0 where
   pub orders : HasOrdered d.orders v w
   pub said : Adds d.said err
+
+-- a front of something done: of its orders, and of what it says
+pub record IsFrontOf (x d : Did) : Type 0 where
+  pub rest : Did
+  pub orders : d.orders ≡ x.orders ++ rest.orders
+  pub said : d.said ≡ x.said ++ rest.said
+
+pub record HasBegun (d : Did) (v w : List Entry) (err : Use SinkSeen) : Type 0 where
+  pub part : Did
+  pub front : IsFrontOf part d
+  pub done : HasDone part v w err
+
+abbrev pub StoppedDoing : Stop → Did → List Entry → List Entry → Use SinkSeen → Type 0
+StoppedDoing stop.NoMemory d v w err = Unit {0}
+StoppedDoing s d v w err = HasBegun d v w err
+
+abbrev pub DoesSo : {A : Type 0} → Result A Stop → Did → List Entry → List Entry → Use SinkSeen → Type 0
+DoesSo (Ok x) d v w err = HasDone d v w err
+DoesSo (Err s) d v w err = StoppedDoing s d v w err
+
+-- what a message adds: a front of it, where writing it failed
+abbrev pub Says : {A : Type 0} → Result A Stop → List ℕ → Use SinkSeen → Type 0
+Says (Ok x) text err = Adds text err
+Says (Err stop.NoMemory) text err = Unit {0}
+Says (Err s) text err = AddsFront text err
 
 -- the reader after these bytes: what follows their last line feed is its line, and each line feed ended one
 pub record HasRead (bytes : List ℕ) (before after : Reader) : Type 0 where
@@ -139,40 +201,77 @@ piece_did files jobs r bytes = lines_did files jobs (r.before + 1) (ended_lines 
 abbrev pub last_did : List StoredFile → List InForce → Reader → Did
 last_did files jobs r = lines_did files jobs (r.before + 1) (unless_empty r.line.items)
 
--- what is done with the control input by its end: all lines, or those that are ended within its first MiB where it gives more
-abbrev pub control_did : List StoredFile → List InForce → RunEnd → List ℕ → Did
-control_did files jobs TooMuch bytes = lines_did files jobs 1 (ended_lines (take most_control_bytes bytes))
-control_did files jobs _ bytes = lines_did files jobs 1 (all_lines bytes)
+-- how a loop ends with the last line
+abbrev pub LastDoes : RunEnd → Did → List Entry → List Entry → Use SinkSeen → Type 0
+LastDoes Done d v w err = HasDone d v w err
+LastDoes NoMemory d v w err = Unit {0}
+LastDoes e d v w err = HasBegun d v w err
 
--- an end by which nothing failed: control was read to its end, or gave too much and no reading of a file failed
-abbrev pub IsSound : RunEnd → Use ShelfSeen → Type 0
-IsSound Done shelf = Unit {0}
-IsSound ReadFault shelf = ⊥
-IsSound WriteFault shelf = ⊥
-IsSound TooMuch shelf = ¬ (Rose shelf.before.faults shelf.after.faults)
-IsSound NoMemory shelf = ⊥
+-- the lines of the control input: all, or those that end within its first MiB where it has more
+abbrev pub control_lines : List ℕ → List (List ℕ)
+control_lines bytes = if nat_lt most_control_bytes (length bytes) then ended_lines (take most_control_bytes bytes) else all_lines bytes
 
--- what the caller did in all
-abbrev pub caller_did : List StoredFile → List InForce → RunEnd → List ℕ → Did
-caller_did files jobs end bytes = both (did (rereads files jobs) []) (control_did files (jobs_after jobs (rereads files jobs)) end bytes)
+-- the lines that ended within what it gave
+abbrev pub given_lines : Use SourceSeen → List ℕ → List (List ℕ)
+given_lines control bytes = ended_lines (take (control.after.given - control.before.given) bytes)
 
--- by a sound end, where the shelf tells its files and control what it has left: what the reading of control did, and what the caller did in all
-abbrev pub ControlDid : List Event → RunEnd → Use ShelfSeen → Option (List ℕ) → List Entry → List Entry → Use SinkSeen → Type 0
-ControlDid start end shelf left v w err =
-    IsSound end shelf → IfSome shelf.before.files (λ files. IfSome left (λ bytes. HasDone (control_did files (jobs_known start v) end bytes) v w err))
+-- what was done by the end, where all lines come to `whole`, and those that control gave to `given`: all of it where nothing failed; a front where the
+-- shelf or the sink failed; and where control alone failed, what its lines come to
+abbrev pub Fits : RunEnd → Use ShelfSeen → Did → Did → Did → Type 0
+Fits Done shelf whole given d = d ≡ whole
+Fits ReadFault shelf whole given d = IsFrontOf d whole × (¬ Rose shelf.before.faults shelf.after.faults → d ≡ given)
+Fits WriteFault shelf whole given d = IsFrontOf d whole
+Fits TooMuch shelf whole given d = IsFrontOf d whole × (¬ Rose shelf.before.faults shelf.after.faults → d ≡ whole)
+Fits NoMemory shelf whole given d = Unit {0}
 
-abbrev pub CallerDid : List Event → RunEnd → Use ShelfSeen → Option (List ℕ) → List Entry → List Entry → Use SinkSeen → Type 0
-CallerDid start end shelf left v w err =
-    IsSound end shelf → IfSome shelf.before.files (λ files. IfSome left (λ bytes. HasDone (caller_did files (jobs_known start v) end bytes) v w err))
+-- what the caller does in all: it reads the listed files, and then does the lines
+abbrev pub caller_did : List StoredFile → List InForce → List (List ℕ) → Did
+caller_did files jobs lines = both (did (rereads files jobs) []) (lines_did files (jobs_after jobs (rereads files jobs)) 1 lines)
 
--- the events of the caller's seat are those that came before the run, what it ordered, and the halt; and it said what it had to say
+-- what it came to by its end
+pub record Came (end : RunEnd) (shelf : Use ShelfSeen) (whole given : Did) (v w : List Entry) (err : Use SinkSeen) : Type 0 where
+  pub what : Did
+  pub fits : Fits end shelf whole given what
+  pub done : HasDone what v w err
+
+-- where memory didn't run out, the shelf tells its files and control what it has
+abbrev pub WhereTold : RunEnd → Use ShelfSeen → Use SourceSeen → (List StoredFile → List ℕ → Type 0) → Type 0
+WhereTold end shelf control P = end ≢ NoMemory → IfSome shelf.before.files (λ files. IfSome control.before.left (P files))
+
+-- what the reading of control did, and what the caller did in all
+abbrev pub ControlDid : List Event → RunEnd → Use ShelfSeen → Use SourceSeen → List Entry → List Entry → Use SinkSeen → Type 0
+ControlDid start end shelf control v w err = WhereTold end shelf control (λ files bytes.
+    let doing = lines_did files (jobs_known start v) 1 in
+    Came end shelf (doing (control_lines bytes)) (doing (given_lines control bytes)) v w err)
+
+abbrev pub CallerDid : List Event → RunEnd → Use ShelfSeen → Use SourceSeen → List Entry → List Entry → Use SinkSeen → Type 0
+CallerDid start end shelf control v w err = WhereTold end shelf control (λ files bytes.
+    let doing = caller_did files (jobs_known start v) in
+    Came end shelf (doing (control_lines bytes)) (doing (given_lines control bytes)) v w err)
+
+-- an event that the caller brought, behind the last moment
+abbrev pub event_for : Ordered → Event
+event_for o = event_at o.last o.order
+
+abbrev pub behind_for : Ordered → Behind
+behind_for o = record { last = o.last; event = event_for o }
+
+-- the events of the caller's seat are those that came before the run, what it ordered, each at the moment of the event before, and the halt at the
+-- last moment; nothing else; and it said what it had to say
 pub record TellsControl (start es : List Event) (seats : List ℕ) (d : Did) (err : Use SinkSeen) : Type 0 where
-  pub brought : List Event
-  pub halted : ℤ
-  pub events : events_of 0 es seats ≡ start ++ (brought ++ Halt halted ∷ [])
-  pub orders : orders_in brought ≡ d.orders
+  pub carried : List Ordered
+  pub halted : ℕ
+  pub orders : map order_of carried ≡ d.orders
+  pub events : events_of 0 es seats ≡ start ++ (map event_for carried ++ Halt (pos halted) ∷ [])
+  pub moments : drop (length start) (behind_of 0 0 es seats) ≡ map behind_for carried ++ record { last = halted; event = Halt (pos halted) } ∷ []
   pub said : Adds d.said err
 
-abbrev pub CallerTells : List Event → RunEnd → Use ShelfSeen → Option (List ℕ) → List Event → List ℕ → Use SinkSeen → Type 0
-CallerTells start end shelf left es seats err =
-    IsSound end shelf → IfSome shelf.before.files (λ files. IfSome left (λ bytes. TellsControl start es seats (caller_did files (world_of start).jobs end bytes) err))
+pub record Told (end : RunEnd) (shelf : Use ShelfSeen) (whole given : Did) (start es : List Event) (seats : List ℕ) (err : Use SinkSeen) : Type 0 where
+  pub what : Did
+  pub fits : Fits end shelf whole given what
+  pub tells : TellsControl start es seats what err
+
+abbrev pub CallerTells : List Event → RunEnd → Use ShelfSeen → Use SourceSeen → List Event → List ℕ → Use SinkSeen → Type 0
+CallerTells start end shelf control es seats err = WhereTold end shelf control (λ files bytes.
+    let doing = caller_did files (world_of start).jobs in
+    Told end shelf (doing (control_lines bytes)) (doing (given_lines control bytes)) start es seats err)

@@ -1,7 +1,7 @@
 -- What the workers and the ticker of a run did, by the calls of their fetchers and the readings of the clock.
-use Rattle.std.specs.Prelude.{◌≡◌, ◌≤◌, ℕ, ◌+◌, ◌==◌, ℤ, true, List, [], ◌∷◌, ◌++◌, length, map, Option, Some, IfSome, if◌then◌else◌}
+use Rattle.std.specs.Prelude.{◌≡◌, ◌≤◌, ℕ, ◌+◌, ◌==◌, ℤ, pos, true, List, [], ◌∷◌, ◌++◌, length, map, Option, Some, IfSome, if◌then◌else◌}
 use Rattle.journal_text.specs.declared.events.Event.{Event}
-use Rattle.journal_text.specs.declared.events.Event.TheVariants.{Sweep}
+use Rattle.journal_text.specs.declared.events.Event.TheVariants.{Sweep, Halt}
 use Rattle.journal_text.specs.Events.{now_after}
 use Rattle.outside.specs.declared.calls.Call.{Call}
 use Rattle.outside.specs.declared.requests.Request.{Request}
@@ -112,7 +112,9 @@ pub record Behind : Type 0 where
 abbrev pub behind_of : ℕ → ℕ → List Event → List ℕ → List Behind
 behind_of q now [] ss = []
 behind_of q now (e ∷ es) [] = []
-behind_of q now (e ∷ es) (s ∷ ss) = if s == q then record { last = now; event = e } ∷ behind_of q (now_after now e) es ss else behind_of q (now_after now e) es ss
+behind_of q now (e ∷ es) (s ∷ ss) =
+    let more = behind_of q (now_after now e) es ss in
+    if s == q then record { last = now; event = e } ∷ more else more
 
 -- the same of what entries say was brought
 abbrev pub behind_in : Note → List Behind
@@ -135,6 +137,26 @@ pub record TellsSweeps (turns : ℕ) (es : List Event) (seats : List ℕ) (earli
   pub many : length sweeps ≡ turns
   pub gave : IfSome earlier.readings (λ readings. GaveReadings sweeps readings later.readings)
   pub events : behind_of 1 0 es seats ≡ map sweep_of sweeps
+
+-- the events of a seat are those of its entries, those that it brought behind these last moments
+abbrev pub BehindNote : Note → List Behind → (List Behind → Type 0) → Type 0
+BehindNote (Before e) [] rest = ⊥
+BehindNote (Before e) (b ∷ bs) rest = (b.event ≡ e) × rest bs
+BehindNote (Took k) bs rest = rest bs
+BehindNote (Brought now e) [] rest = ⊥
+BehindNote (Brought now e) (b ∷ bs) rest = (b ≡ record { last = now; event = e }) × rest bs
+BehindNote Ended bs rest = rest bs
+BehindNote Failed bs rest = rest bs
+
+abbrev pub IsBehind : List Entry → List Behind → Type 0
+IsBehind [] bs = bs ≡ []
+IsBehind (x ∷ xs) bs = BehindNote x.note bs (IsBehind xs)
+
+-- the caller's events are those of its entries, and then the halt at the last moment
+pub record IsByCaller (es : List Event) (seats : List ℕ) (own : List Entry) : Type 0 where
+  pub halted : ℕ
+  pub events : events_of 0 es seats ≡ events_in own ++ Halt (pos halted) ∷ []
+  pub behind : IsBehind (own ++ entry 0 (Brought halted (Halt (pos halted))) ∷ []) (behind_of 0 0 es seats)
 
 -- the first of some passes shows the end of all work
 abbrev pub FirstEnded : {T : Type 0} → List (Pass T Entry) → Type 0

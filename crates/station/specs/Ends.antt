@@ -1,5 +1,5 @@
 -- What a run leaves of the outside objects that its caller has, and why its control loop ended.
-use Rattle.std.specs.Prelude.{◌≡◌, ◌≤◌, ◌<◌, ◌⊎◌, ℕ, ◌+◌, Bool, List, Option, Some, None, Result, Ok, Err, if◌then◌else◌}
+use Rattle.std.specs.Prelude.{◌≡◌, ◌≤◌, ◌<◌, ◌⊎◌, ℕ, ◌+◌, Bool, List, [], Option, Some, None, IfSome, Result, Ok, Err, if◌then◌else◌}
 use Rattle.outside.specs.Objects.{ShelfSeen, SinkSeen, Use, Adds, Rose}
 use Rattle.outside.specs.Sources.{SourceSeen}
 use Rattle.station.specs.declared.ends.Stop.{Stop}
@@ -28,24 +28,47 @@ pub record SourceWent (u : Use SourceSeen) : Type 0 where
 abbrev pub IsShort : Use SourceSeen → Type 0
 IsShort u = u.after.given ≤ u.before.given + 1048576
 
--- why a control loop ended: where it was read to its end, the input gave at most 1 MiB; so it did where reading failed, and the shelf or the
--- input counted that; where writing failed, the sink counted that; and it was too long exactly where the input gave more
+-- a count is as it was
+abbrev pub IsSame : ℕ → ℕ → Type 0
+IsSame before now = now ≡ before
+
+-- either the shelf failed to read, or the input did: the other counted no fault
+abbrev pub OneFailed : Use ShelfSeen → Use SourceSeen → Type 0
+OneFailed shelf control =
+    (Rose shelf.before.faults shelf.after.faults × IsSame control.before.faults control.after.faults)
+    ⊎ (IsSame shelf.before.faults shelf.after.faults × Rose control.before.faults control.after.faults)
+
+-- where the input told what it had, nothing of it is left
+abbrev pub IsEmptied : Use SourceSeen → Type 0
+IsEmptied u = IfSome u.before.left (λ had. u.after.left ≡ Some [])
+
+-- the input gave all that it had, at most 1 MiB, and nothing failed
+pub record WasRead (shelf : Use ShelfSeen) (err : Use SinkSeen) (control : Use SourceSeen) : Type 0 where
+  pub short : IsShort control
+  pub emptied : IsEmptied control
+  pub shelf_same : IsSame shelf.before.faults shelf.after.faults
+  pub err_same : IsSame err.before.faults err.after.faults
+  pub control_same : IsSame control.before.faults control.after.faults
+
+-- why a control loop ended: the first fault ends it, and so does a byte past 1 MiB; then the shelf may have failed before, at the last lines
 abbrev pub EndsSo : RunEnd → Use ShelfSeen → Use SinkSeen → Use SourceSeen → Type 0
-EndsSo Done shelf err control = IsShort control
-EndsSo ReadFault shelf err control = IsShort control × (Rose shelf.before.faults shelf.after.faults ⊎ Rose control.before.faults control.after.faults)
-EndsSo WriteFault shelf err control = Rose err.before.faults err.after.faults
-EndsSo TooLong shelf err control = control.before.given + 1048576 < control.after.given
+EndsSo Done shelf err control = WasRead shelf err control
+EndsSo ReadFault shelf err control = IsShort control × IsSame err.before.faults err.after.faults × OneFailed shelf control
+EndsSo WriteFault shelf err control =
+    Rose err.before.faults err.after.faults × IsSame shelf.before.faults shelf.after.faults × IsSame control.before.faults control.after.faults
+EndsSo TooLong shelf err control =
+    (control.before.given + 1048576 < control.after.given) × IsSame err.before.faults err.after.faults × IsSame control.before.faults control.after.faults
 EndsSo NoMemory shelf err control = Unit {0}
 
--- what a stop says of the shelf, and of the sink
-abbrev pub StopSo : Stop → Use ShelfSeen → Use SinkSeen → Type 0
-StopSo stop.ReadFault shelf err = Rose shelf.before.faults shelf.after.faults
-StopSo stop.WriteFault shelf err = Rose err.before.faults err.after.faults
-StopSo stop.NoMemory shelf err = Unit {0}
+-- what a line says of the shelf, and of the sink: where it went well neither counted a fault, and where one failed the other didn't
+abbrev pub LineStop : Stop → Use ShelfSeen → Use SinkSeen → Type 0
+LineStop stop.ReadFault shelf err = Rose shelf.before.faults shelf.after.faults × IsSame err.before.faults err.after.faults
+LineStop stop.WriteFault shelf err = IsSame shelf.before.faults shelf.after.faults × Rose err.before.faults err.after.faults
+LineStop stop.NoMemory shelf err = Unit {0}
 
 abbrev pub LineStops : {A : Type 0} → Result A Stop → Use ShelfSeen → Use SinkSeen → Type 0
-LineStops (Ok x) shelf err = Unit {0}
-LineStops (Err s) shelf err = StopSo s shelf err
+LineStops (Ok x) shelf err = IsSame shelf.before.faults shelf.after.faults × IsSame err.before.faults err.after.faults
+LineStops (Err s) shelf err = LineStop s shelf err
 
 -- the same of what reads a file alone, and of what writes alone
 abbrev pub FileStop : Stop → Use ShelfSeen → Type 0
@@ -54,7 +77,7 @@ FileStop stop.WriteFault shelf = ⊥
 FileStop stop.NoMemory shelf = Unit {0}
 
 abbrev pub FileStops : {A : Type 0} → Result A Stop → Use ShelfSeen → Type 0
-FileStops (Ok x) shelf = Unit {0}
+FileStops (Ok x) shelf = IsSame shelf.before.faults shelf.after.faults
 FileStops (Err s) shelf = FileStop s shelf
 
 abbrev pub SaidStop : Stop → Use SinkSeen → Type 0
@@ -63,18 +86,8 @@ SaidStop stop.WriteFault err = Rose err.before.faults err.after.faults
 SaidStop stop.NoMemory err = Unit {0}
 
 abbrev pub SaidStops : {A : Type 0} → Result A Stop → Use SinkSeen → Type 0
-SaidStops (Ok x) err = Unit {0}
+SaidStops (Ok x) err = IsSame err.before.faults err.after.faults
 SaidStops (Err s) err = SaidStop s err
-
--- want of memory is the only stop
-abbrev pub OnlyMemory : Stop → Type 0
-OnlyMemory stop.ReadFault = ⊥
-OnlyMemory stop.WriteFault = ⊥
-OnlyMemory stop.NoMemory = Unit {0}
-
-abbrev pub NoStop : {A : Type 0} → Result A Stop → Type 0
-NoStop (Ok x) = Unit {0}
-NoStop (Err s) = OnlyMemory s
 
 -- how a loop ends with a stop, and after a piece
 abbrev pub end_of : Stop → RunEnd
@@ -89,10 +102,14 @@ end_after (Err stop.WriteFault) long = Some WriteFault
 end_after (Err stop.NoMemory) long = Some NoMemory
 
 -- how it ends with the last line
+abbrev pub last_end : Result (Unit {0}) Stop → RunEnd
+last_end (Ok x) = Done
+last_end (Err s) = end_of s
+
 abbrev pub LastEnds : RunEnd → Use ShelfSeen → Use SinkSeen → Type 0
-LastEnds Done shelf err = Unit {0}
-LastEnds ReadFault shelf err = Rose shelf.before.faults shelf.after.faults
-LastEnds WriteFault shelf err = Rose err.before.faults err.after.faults
+LastEnds Done shelf err = IsSame shelf.before.faults shelf.after.faults × IsSame err.before.faults err.after.faults
+LastEnds ReadFault shelf err = LineStop stop.ReadFault shelf err
+LastEnds WriteFault shelf err = LineStop stop.WriteFault shelf err
 LastEnds TooLong shelf err = ⊥
 LastEnds NoMemory shelf err = Unit {0}
 

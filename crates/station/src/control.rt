@@ -5,7 +5,7 @@ ghost use Rattle.run_lock.specs.Callers.{jobs_known};
 ghost use Rattle.run_lock.specs.Seats.{IsOwn};
 ghost use Rattle.turn_lock.specs.Passes.{own_of};
 ghost use Rattle.station.specs.Control as control;
-ghost use Rattle.station.specs.Control.{CallerDid, ControlDid, HasDone, HasRead};
+ghost use Rattle.station.specs.Control.{CallerDid, ControlDid, DoesSo, HasRead, LastDoes};
 ghost use Rattle.station.specs.Ends as spec;
 ghost use Rattle.station.specs.Ends.{ShelfWent, SinkWent, SourceWent, EndsSo, LineStops, LastEnds};
 
@@ -40,8 +40,9 @@ fn do_byte<'r, L: Ledger, B: Asked, R: Wait, S: Shelf, E: Sink>(
     ensures stops { LineStops result (used (S.seen shelf.old) (S.seen shelf.new)) (used (E.seen err.old) (E.seen err.new)) }
     ensures few { reader.new.before ≤ reader.old.before + 1 }
     ensures read { OnOk result (HasRead (byte ∷ []) reader.old reader.new) }
-    ensures did { OnOk result (IfSome (S.seen shelf.old).files (λ files.
-        HasDone (control.piece_did files (jobs_known B.start (own_of seat.old.pass)) reader.old (byte ∷ [])) (own_of seat.old.pass) (own_of seat.new.pass) (used (E.seen err.old) (E.seen err.new)))) }
+    ensures did { IfSome (S.seen shelf.old).files (λ files.
+        DoesSo result (control.piece_did files (jobs_known B.start (own_of seat.old.pass)) reader.old (byte ∷ []))
+        (own_of seat.old.pass) (own_of seat.new.pass) (used (E.seen err.old) (E.seen err.new))) }
 {
     if byte != b'\n' {
         return match reader.line.push(byte) {
@@ -76,8 +77,9 @@ fn do_piece<'r, L: Ledger, B: Asked, R: Wait, S: Shelf, E: Sink>(
     ensures stops { LineStops result (used (S.seen shelf.old) (S.seen shelf.new)) (used (E.seen err.old) (E.seen err.new)) }
     ensures few { reader.new.before ≤ reader.old.before + length piece.now }
     ensures read { OnOk result (HasRead piece.now reader.old reader.new) }
-    ensures did { OnOk result (IfSome (S.seen shelf.old).files (λ files.
-        HasDone (control.piece_did files (jobs_known B.start (own_of seat.old.pass)) reader.old piece.now) (own_of seat.old.pass) (own_of seat.new.pass) (used (E.seen err.old) (E.seen err.new)))) }
+    ensures did { IfSome (S.seen shelf.old).files (λ files.
+        DoesSo result (control.piece_did files (jobs_known B.start (own_of seat.old.pass)) reader.old piece.now)
+        (own_of seat.old.pass) (own_of seat.new.pass) (used (E.seen err.old) (E.seen err.new))) }
 {
     for byte in piece {
         let done = do_byte(seat, shelf, err, reader, *byte);
@@ -135,8 +137,9 @@ fn do_last<'r, L: Ledger, B: Asked, R: Wait, S: Shelf, E: Sink>(
     ensures shelf { ShelfWent (used (S.seen shelf.old) (S.seen shelf.new)) }
     ensures err { SinkWent (used (E.seen err.old) (E.seen err.new)) }
     ensures ends { LastEnds result (used (S.seen shelf.old) (S.seen shelf.new)) (used (E.seen err.old) (E.seen err.new)) }
-    ensures did { result ≡ RunEnd.Done → IfSome (S.seen shelf.old).files (λ files.
-        HasDone (control.last_did files (jobs_known B.start (own_of seat.old.pass)) reader.now) (own_of seat.old.pass) (own_of seat.new.pass) (used (E.seen err.old) (E.seen err.new))) }
+    ensures did { IfSome (S.seen shelf.old).files (λ files.
+        LastDoes result (control.last_did files (jobs_known B.start (own_of seat.old.pass)) reader.now)
+        (own_of seat.old.pass) (own_of seat.new.pass) (used (E.seen err.old) (E.seen err.new))) }
 {
     if reader.line.is_empty() {
         return RunEnd::Done;
@@ -162,8 +165,11 @@ fn read_control<'r, L: Ledger, B: Asked, R: Wait, S: Shelf, E: Sink, C: Source>(
     ensures shelf { ShelfWent (used (S.seen shelf.old) (S.seen shelf.new)) }
     ensures err { SinkWent (used (E.seen err.old) (E.seen err.new)) }
     ensures control { SourceWent (used (C.seen control.old) (C.seen control.new)) }
-    ensures ends { EndsSo result (used (S.seen shelf.old) (S.seen shelf.new)) (used (E.seen err.old) (E.seen err.new)) (used (C.seen control.old) (C.seen control.new)) }
-    ensures did { ControlDid B.start result (used (S.seen shelf.old) (S.seen shelf.new)) (C.seen control.old).left (own_of seat.old.pass) (own_of seat.new.pass) (used (E.seen err.old) (E.seen err.new)) }
+    ensures ends { EndsSo result (used (S.seen shelf.old) (S.seen shelf.new))
+        (used (E.seen err.old) (E.seen err.new)) (used (C.seen control.old) (C.seen control.new)) }
+    ensures did { ControlDid B.start result (used (S.seen shelf.old) (S.seen shelf.new))
+        (used (C.seen control.old) (C.seen control.new))
+        (own_of seat.old.pass) (own_of seat.new.pass) (used (E.seen err.old) (E.seen err.new)) }
 {
     let rt = seat.rt;
     let Ok(mut room) = Vec::from_elem(seat.alloc, 0u8, ROOM) else {
@@ -204,8 +210,11 @@ fn read_all<'r, L: Ledger, B: Asked, R: Wait, S: Shelf, E: Sink, C: Source>(
     ensures shelf { ShelfWent (used (S.seen shelf.old) (S.seen shelf.new)) }
     ensures err { SinkWent (used (E.seen err.old) (E.seen err.new)) }
     ensures control { SourceWent (used (C.seen control.old) (C.seen control.new)) }
-    ensures ends { EndsSo result (used (S.seen shelf.old) (S.seen shelf.new)) (used (E.seen err.old) (E.seen err.new)) (used (C.seen control.old) (C.seen control.new)) }
-    ensures did { CallerDid B.start result (used (S.seen shelf.old) (S.seen shelf.new)) (C.seen control.old).left (own_of seat.old.pass) (own_of seat.new.pass) (used (E.seen err.old) (E.seen err.new)) }
+    ensures ends { EndsSo result (used (S.seen shelf.old) (S.seen shelf.new))
+        (used (E.seen err.old) (E.seen err.new)) (used (C.seen control.old) (C.seen control.new)) }
+    ensures did { CallerDid B.start result (used (S.seen shelf.old) (S.seen shelf.new))
+        (used (C.seen control.old) (C.seen control.new))
+        (own_of seat.old.pass) (own_of seat.new.pass) (used (E.seen err.old) (E.seen err.new)) }
 {
     let done = read_listed(seat, shelf);
     match done {
@@ -227,8 +236,11 @@ pub fn take_commands<'r, L: Ledger, B: Asked, R: Wait, S: Shelf, E: Sink, C: Sou
     ensures shelf { ShelfWent (used (S.seen shelf.old) (S.seen shelf.new)) }
     ensures err { SinkWent (used (E.seen err.old) (E.seen err.new)) }
     ensures control { SourceWent (used (C.seen control.old) (C.seen control.new)) }
-    ensures ends { EndsSo result (used (S.seen shelf.old) (S.seen shelf.new)) (used (E.seen err.old) (E.seen err.new)) (used (C.seen control.old) (C.seen control.new)) }
-    ensures did { CallerDid B.start result (used (S.seen shelf.old) (S.seen shelf.new)) (C.seen control.old).left (own_of seat.old.pass) (own_of seat.new.pass) (used (E.seen err.old) (E.seen err.new)) }
+    ensures ends { EndsSo result (used (S.seen shelf.old) (S.seen shelf.new))
+        (used (E.seen err.old) (E.seen err.new)) (used (C.seen control.old) (C.seen control.new)) }
+    ensures did { CallerDid B.start result (used (S.seen shelf.old) (S.seen shelf.new))
+        (used (C.seen control.old) (C.seen control.new))
+        (own_of seat.old.pass) (own_of seat.new.pass) (used (E.seen err.old) (E.seen err.new)) }
 {
     let end = read_all(seat, shelf, err, control);
     if end != RunEnd::NoMemory {

@@ -188,7 +188,8 @@ pub fn work_and_tick<
             requires turns { ticker.turns ≡ B.turns }
             requires seat { IsOwn ticker.seat.lock.now 1 ticker.seat.pass × (own_of ticker.seat.pass ≡ []) }
             ensures seat { IsOwn ticker.entry.seat.lock.now 1 result.pass }
-            ensures ticked { result.done ≡ true → HasTicked ticker.entry.turns (K.seen ticker.entry.clock) (K.seen result.clock) (own_of result.pass) }
+            ensures ticked { result.done ≡ true → HasTicked ticker.entry.turns
+                (K.seen ticker.entry.clock) (K.seen result.clock) (own_of result.pass) }
         { ticker.tick() },
     )
 }

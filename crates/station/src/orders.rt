@@ -1,17 +1,17 @@
 //! What a control line does: it loads or updates what it names.
-ghost use Rattle.std.specs.Prelude.{◌≡◌, List, length, Result, All, IfOk, IfSome, OnOk};
+ghost use Rattle.std.specs.Prelude.{◌≡◌, List, length, Result, All, IfOk, IfSome};
 ghost use mathlib.Core.List.{reverse};
 ghost use Rattle.control_lines.specs.Messages.{message};
 ghost use Rattle.jobs_in_force.specs.Jobs.{Unlisted, loaded};
 ghost use Rattle.journal_text.specs.Lines.{IsNameLength, IsTextLength};
-ghost use Rattle.outside.specs.Objects.{Adds, used};
+ghost use Rattle.outside.specs.Objects.{used};
 ghost use Rattle.run_lock.specs.Callers.{UpdateAnswered, jobs_known};
 ghost use Rattle.run_lock.specs.Listed.{IsListed};
 ghost use Rattle.run_lock.specs.Seats.{IsOwn};
 ghost use Rattle.scrape_config.specs.declared.conf.Group.{Group};
 ghost use Rattle.turn_lock.specs.Passes.{own_of};
 ghost use Rattle.station.specs.Control as spec;
-ghost use Rattle.station.specs.Control.{Does, HasDone, HasOrdered};
+ghost use Rattle.station.specs.Control.{Does, DoesSo, Orders, Says};
 ghost use Rattle.station.specs.Ends.{ShelfWent, SinkWent, FileStops, SaidStops, LineStops};
 ghost use Rattle.station.specs.Lines.{IsShortText};
 
@@ -54,7 +54,7 @@ fn read_text<S: Shelf>(alloc: Global, shelf: &mut S, file: &Name) -> Result<Foun
 fn refuse<E: Sink>(alloc: Global, err: &mut E, line: u64, refusal: &Refusal) -> Result<(), Stop>
     ensures err { SinkWent (used (E.seen err.old) (E.seen err.new)) }
     ensures stops { SaidStops result (used (E.seen err.old) (E.seen err.new)) }
-    ensures said { OnOk result (Adds (message line refusal.now) (used (E.seen err.old) (E.seen err.new))) }
+    ensures said { Says result (message line refusal.now) (used (E.seen err.old) (E.seen err.new)) }
 {
     let text = message_of(alloc, line, refusal)?;
     match err.put(text.as_bytes()) {
@@ -75,7 +75,8 @@ fn read_one<'r, L: Ledger, B: Asked, R: Wait, S: Shelf>(
     ensures seat { IsOwn seat.new.lock.now 0 seat.new.pass }
     ensures shelf { ShelfWent (used (S.seen shelf.old) (S.seen shelf.new)) }
     ensures stops { FileStops result (used (S.seen shelf.old) (S.seen shelf.new)) }
-    ensures orders { OnOk result (IfSome (S.seen shelf.old).files (λ files. HasOrdered (spec.update_in files listed) (own_of seat.old.pass) (own_of seat.new.pass))) }
+    ensures orders { IfSome (S.seen shelf.old).files (λ files. Orders result (spec.update_in files listed)
+        (own_of seat.old.pass) (own_of seat.new.pass)) }
 {
     let text = match read_text(seat.alloc, shelf, &listed.file) {
         Ok(Found::Text(text)) => text,
@@ -106,7 +107,8 @@ fn read_backwards<'r, L: Ledger, B: Asked, R: Wait, S: Shelf>(
     ensures seat { IsOwn seat.new.lock.now 0 seat.new.pass }
     ensures shelf { ShelfWent (used (S.seen shelf.old) (S.seen shelf.new)) }
     ensures stops { FileStops result (used (S.seen shelf.old) (S.seen shelf.new)) }
-    ensures orders { OnOk result (IfSome (S.seen shelf.old).files (λ files. HasOrdered (spec.updates_in files (reverse listed.items)) (own_of seat.old.pass) (own_of seat.new.pass))) }
+    ensures orders { IfSome (S.seen shelf.old).files (λ files. Orders result (spec.updates_in files (reverse listed.items))
+        (own_of seat.old.pass) (own_of seat.new.pass)) }
 {
     let mut listed = listed;
     while let Some(one) = listed.pop() {
@@ -128,7 +130,8 @@ pub fn read_listed<'r, L: Ledger, B: Asked, R: Wait, S: Shelf>(
     ensures seat { IsOwn seat.new.lock.now 0 seat.new.pass }
     ensures shelf { ShelfWent (used (S.seen shelf.old) (S.seen shelf.new)) }
     ensures stops { FileStops result (used (S.seen shelf.old) (S.seen shelf.new)) }
-    ensures orders { OnOk result (IfSome (S.seen shelf.old).files (λ files. HasOrdered (spec.rereads files (jobs_known B.start (own_of seat.old.pass))) (own_of seat.old.pass) (own_of seat.new.pass))) }
+    ensures orders { IfSome (S.seen shelf.old).files (λ files. Orders result (spec.rereads files (jobs_known B.start (own_of seat.old.pass)))
+        (own_of seat.old.pass) (own_of seat.new.pass)) }
 {
     let listed = seat.listed();
     let Ok(mut listed) = listed else {
@@ -150,8 +153,9 @@ fn load_text<'r, L: Ledger, B: Asked, R: Wait, S: Shelf>(
     ensures seat { IsOwn seat.new.lock.now 0 seat.new.pass }
     ensures shelf { ShelfWent (used (S.seen shelf.old) (S.seen shelf.new)) }
     ensures stops { FileStops result (used (S.seen shelf.old) (S.seen shelf.new)) }
-    ensures does { IfOk result (λ why. IfSome (S.seen shelf.old).files (λ files.
-        Does (spec.load_taken files text (loaded (jobs_known B.start (own_of seat.old.pass)) text)) (own_of seat.old.pass) (own_of seat.new.pass) why)) }
+    ensures does { IfSome (S.seen shelf.old).files (λ files.
+        Does result (spec.load_taken files text (loaded (jobs_known B.start (own_of seat.old.pass)) text))
+        (own_of seat.old.pass) (own_of seat.new.pass)) }
 {
     let answer = seat.carry_out(Order::Load { text });
     let Some(answer) = answer else {
@@ -178,8 +182,9 @@ fn load_file<'r, L: Ledger, B: Asked, R: Wait, S: Shelf>(
     ensures seat { IsOwn seat.new.lock.now 0 seat.new.pass }
     ensures shelf { ShelfWent (used (S.seen shelf.old) (S.seen shelf.new)) }
     ensures stops { FileStops result (used (S.seen shelf.old) (S.seen shelf.new)) }
-    ensures does { IfOk result (λ why. IfSome (S.seen shelf.old).files (λ files.
-        Does (spec.load_does files (jobs_known B.start (own_of seat.old.pass)) (spec.found_in files file.now)) (own_of seat.old.pass) (own_of seat.new.pass) why)) }
+    ensures does { IfSome (S.seen shelf.old).files (λ files.
+        Does result (spec.load_does files (jobs_known B.start (own_of seat.old.pass)) (spec.found_in files file.now))
+        (own_of seat.old.pass) (own_of seat.new.pass)) }
 {
     match read_text(seat.alloc, shelf, file) {
         Ok(Found::Text(text)) => load_text(seat, shelf, text),
@@ -214,8 +219,9 @@ fn update_file<'r, L: Ledger, B: Asked, R: Wait, S: Shelf>(
     ensures seat { IsOwn seat.new.lock.now 0 seat.new.pass }
     ensures shelf { ShelfWent (used (S.seen shelf.old) (S.seen shelf.new)) }
     ensures stops { FileStops result (used (S.seen shelf.old) (S.seen shelf.new)) }
-    ensures does { IfOk result (λ why. IfSome (S.seen shelf.old).files (λ files.
-        Does (spec.update_does (jobs_known B.start (own_of seat.old.pass)) job file (spec.found_in files file)) (own_of seat.old.pass) (own_of seat.new.pass) why)) }
+    ensures does { IfSome (S.seen shelf.old).files (λ files.
+        Does result (spec.update_does (jobs_known B.start (own_of seat.old.pass)) job file (spec.found_in files file))
+        (own_of seat.old.pass) (own_of seat.new.pass)) }
 {
     let text = match read_text(seat.alloc, shelf, &file) {
         Ok(Found::Text(text)) => text,
@@ -240,8 +246,8 @@ fn do_command<'r, L: Ledger, B: Asked, R: Wait, S: Shelf>(
     ensures seat { IsOwn seat.new.lock.now 0 seat.new.pass }
     ensures shelf { ShelfWent (used (S.seen shelf.old) (S.seen shelf.new)) }
     ensures stops { FileStops result (used (S.seen shelf.old) (S.seen shelf.new)) }
-    ensures does { IfOk result (λ why. IfSome (S.seen shelf.old).files (λ files.
-        Does (spec.line_does files (jobs_known B.start (own_of seat.old.pass)) line.now) (own_of seat.old.pass) (own_of seat.new.pass) why)) }
+    ensures does { IfSome (S.seen shelf.old).files (λ files.
+        Does result (spec.line_does files (jobs_known B.start (own_of seat.old.pass)) line.now) (own_of seat.old.pass) (own_of seat.new.pass)) }
 {
     let Ok(command) = command_in(seat.alloc, line) else {
         return Err(Stop::NoMemory);
@@ -267,8 +273,9 @@ pub fn do_line<'r, L: Ledger, B: Asked, R: Wait, S: Shelf, E: Sink>(
     ensures shelf { ShelfWent (used (S.seen shelf.old) (S.seen shelf.new)) }
     ensures err { SinkWent (used (E.seen err.old) (E.seen err.new)) }
     ensures stops { LineStops result (used (S.seen shelf.old) (S.seen shelf.new)) (used (E.seen err.old) (E.seen err.new)) }
-    ensures did { OnOk result (IfSome (S.seen shelf.old).files (λ files.
-        HasDone (spec.line_did files (jobs_known B.start (own_of seat.old.pass)) number line.now) (own_of seat.old.pass) (own_of seat.new.pass) (used (E.seen err.old) (E.seen err.new)))) }
+    ensures did { IfSome (S.seen shelf.old).files (λ files.
+        DoesSo result (spec.line_did files (jobs_known B.start (own_of seat.old.pass)) number line.now)
+        (own_of seat.old.pass) (own_of seat.new.pass) (used (E.seen err.old) (E.seen err.new))) }
 {
     let done = do_command(seat, shelf, line);
     match done {

@@ -1,13 +1,13 @@
 //! A run: the caller reads control, a ticker sweeps, and a worker for each fetcher scrapes, all over one journal.
-ghost use Rattle.std.specs.Prelude.{◌≡◌, ◌≢◌, ◌<◌, ◌≤◌, ◌+◌, ◌^◌, ◌∷◌, [], length, map, true, is_some, vec_len, vec_capacity, IfErr, IfOk, IfSome, IsTrue};
+ghost use Rattle.std.specs.Prelude.{◌≡◌, ◌≢◌, ◌<◌, ◌≤◌, ◌+◌, ◌^◌, ◌∷◌, [], length, map, true, is_some, vec_len, vec_capacity, All, IfErr, IfOk, IfSome, IsTrue};
 ghost use Rattle.std.specs.Thread.{IsSync};
 ghost use Rattle.outside.specs.Objects.{used};
-ghost use Rattle.run_lock.specs.Callers.{BeginsWith, IsOfCaller};
+ghost use Rattle.run_lock.specs.Callers.{BeginsWith};
 ghost use Rattle.run_lock.specs.Entries.{begun_with, seats_in};
 ghost use Rattle.run_lock.specs.Seats.{AreFresh, AreOwn, IsOwn};
 ghost use Rattle.scrape_core.specs.Records.{IsFresh, IsWhole};
 ghost use Rattle.station.specs.Control.{CallerTells};
-ghost use Rattle.station.specs.Crews.{AllFinished, AllTell, AllTold, FirstEnded, HasTicked, TellsSweeps, behind_of, behinds_in};
+ghost use Rattle.station.specs.Crews.{AllFinished, AllTell, AllTold, FirstEnded, HasTicked, IsByCaller, TellsSweeps, behind_of, behinds_in};
 ghost use Rattle.station.specs.Ends as spec;
 ghost use Rattle.station.specs.Ends.{ShelfWent, SinkWent, SourceWent, EndsSo};
 ghost use Rattle.turn_lock.specs.Passes.{made_of, own_of};
@@ -129,7 +129,8 @@ fn close_run<L: Ledger, B: Asked>(
     ensures done { result.whole ≡ true → IsWhole result.core }
     ensures seats { length (seats_in result.marks.items) ≡ length result.core }
     ensures begins { BeginsWith B.start result.core }
-    ensures caller { result.whole ≡ true → IsOfCaller B.start result.core (seats_in result.marks.items) (own_of caller) }
+    ensures caller { result.whole ≡ true → IsByCaller result.core (seats_in result.marks.items) (own_of caller) }
+    ensures known { result.whole ≡ true → All (λ q. q < 2 + vec_len workers) (seats_in result.marks.items) }
     ensures ticker { result.whole ≡ true → behind_of 1 0 result.core (seats_in result.marks.items) ≡ behinds_in (own_of ticker) }
     ensures told { result.whole ≡ true → AllTold result.core (seats_in result.marks.items) 2 workers.items }
 {
@@ -188,15 +189,18 @@ fn run_with<
     requires few { length core ≤ 2 ^ 39 }
     ensures done { result.end ≢ RunEnd.NoMemory → IsWhole result.core }
     ensures seats { length result.seats ≡ length result.core }
+    ensures known { result.end ≢ RunEnd.NoMemory → All (λ q. q < 2 + vec_len fetchers) result.seats }
     ensures back { IsTrue (is_some result.control) × IsTrue (is_some result.clock) × (vec_len result.fetchers ≡ vec_len fetchers) }
     ensures workers { result.end ≢ RunEnd.NoMemory → AllTell 0 result.core result.seats (map F.seen fetchers.items) (map F.seen result.fetchers.items) }
     ensures sweeps { result.end ≢ RunEnd.NoMemory → IfSome result.clock (λ k. TellsSweeps turns result.core result.seats (K.seen clock) (K.seen k)) }
     ensures shelf { ShelfWent (used (S.seen shelf.old) (S.seen shelf.new)) }
     ensures err { SinkWent (used (E.seen err.old) (E.seen err.new)) }
     ensures control { IfSome result.control (λ c. SourceWent (used (C.seen control) (C.seen c))) }
-    ensures ends { IfSome result.control (λ c. EndsSo result.end (used (S.seen shelf.old) (S.seen shelf.new)) (used (E.seen err.old) (E.seen err.new)) (used (C.seen control) (C.seen c))) }
+    ensures ends { IfSome result.control (λ c. EndsSo result.end (used (S.seen shelf.old) (S.seen shelf.new))
+        (used (E.seen err.old) (E.seen err.new)) (used (C.seen control) (C.seen c))) }
     ensures begins { BeginsWith core result.core }
-    ensures caller { CallerTells core result.end (used (S.seen shelf.old) (S.seen shelf.new)) (C.seen control).left result.core result.seats (used (E.seen err.old) (E.seen err.new)) }
+    ensures caller { IfSome result.control (λ c. CallerTells core result.end (used (S.seen shelf.old) (S.seen shelf.new))
+        (used (C.seen control) (C.seen c)) result.core result.seats (used (E.seen err.old) (E.seen err.new))) }
 {
     let Opened {
         lock,
@@ -252,7 +256,8 @@ fn run_with<
             ensures passes_room { vec_capacity result.0.passes ≡ vec_capacity workers }
             ensures own { AreOwn ticker.entry.seat.lock.now 2 result.0.passes.items × IsOwn ticker.entry.seat.lock.now 1 result.1.pass }
             ensures worked { result.0.ended ≡ true → AllFinished 0 (map F.seen fetchers.items) (map F.seen result.0.fetchers.items) result.0.passes.items }
-            ensures ticked { result.1.done ≡ true → HasTicked ticker.entry.turns (K.seen ticker.entry.clock) (K.seen result.1.clock) (own_of result.1.pass) }
+            ensures ticked { result.1.done ≡ true → HasTicked ticker.entry.turns
+                (K.seen ticker.entry.clock) (K.seen result.1.clock) (own_of result.1.pass) }
         { work_and_tick(fetchers, workers, ticker) },
         side,
     );
@@ -287,8 +292,9 @@ fn run_with<
 ///
 /// # Errors
 ///
-/// A fault of the control input or of the shelf, more than 1 MiB of control input, or a fault of `err`, ends the caller's loop alone, and is the end of
-/// the run. Where memory runs out all loops stop.
+/// The first fault of the control input, of the shelf or of `err` ends the caller's loop alone, and is the end of the run; so does more than 1 MiB of
+/// control input. What the caller did and said by then is a front of what control asks for. Where memory runs out all loops stop, and the core comes back
+/// with the events made so far.
 pub fn run_station<
     W: Threads + Wait + Sync,
     S: Shelf,
@@ -313,15 +319,18 @@ pub fn run_station<
     requires few { length core ≤ 2 ^ 39 }
     ensures done { result.end ≢ RunEnd.NoMemory → IsWhole result.core }
     ensures seats { length result.seats ≡ length result.core }
+    ensures known { result.end ≢ RunEnd.NoMemory → All (λ q. q < 2 + vec_len fetchers) result.seats }
     ensures back { IsTrue (is_some result.control) × IsTrue (is_some result.clock) × (vec_len result.fetchers ≡ vec_len fetchers) }
     ensures workers { result.end ≢ RunEnd.NoMemory → AllTell 0 result.core result.seats (map F.seen fetchers.items) (map F.seen result.fetchers.items) }
     ensures sweeps { result.end ≢ RunEnd.NoMemory → IfSome result.clock (λ k. TellsSweeps turns result.core result.seats (K.seen clock) (K.seen k)) }
     ensures shelf { ShelfWent (used (S.seen shelf.old) (S.seen shelf.new)) }
     ensures err { SinkWent (used (E.seen err.old) (E.seen err.new)) }
     ensures control { IfSome result.control (λ c. SourceWent (used (C.seen control) (C.seen c))) }
-    ensures ends { IfSome result.control (λ c. EndsSo result.end (used (S.seen shelf.old) (S.seen shelf.new)) (used (E.seen err.old) (E.seen err.new)) (used (C.seen control) (C.seen c))) }
+    ensures ends { IfSome result.control (λ c. EndsSo result.end (used (S.seen shelf.old) (S.seen shelf.new))
+        (used (E.seen err.old) (E.seen err.new)) (used (C.seen control) (C.seen c))) }
     ensures begins { BeginsWith core result.core }
-    ensures caller { CallerTells core result.end (used (S.seen shelf.old) (S.seen shelf.new)) (C.seen control).left result.core result.seats (used (E.seen err.old) (E.seen err.new)) }
+    ensures caller { IfSome result.control (λ c. CallerTells core result.end (used (S.seen shelf.old) (S.seen shelf.new))
+        (used (C.seen control) (C.seen c)) result.core result.seats (used (E.seen err.old) (E.seen err.new))) }
 {
     run_with::<Brand, Brand, W, S, E, C, K, F>(
         rt,

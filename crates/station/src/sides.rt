@@ -78,7 +78,8 @@ impl<'r, 's, 'e, L: Ledger, B: Asked, R: Wait, S: Shelf, E: Sink, C: Source> Sid
         × SourceWent (used (C.seen c.control) (C.seen r.2.control))
         × EndsSo r.2.end (used (S.seen c.shelf.now) (S.seen r.0.now)) (used (E.seen c.err.now) (E.seen r.1.now)) (used (C.seen c.control) (C.seen r.2.control))
         × IsOwn c.seat.lock.now 0 r.2.pass
-        × CallerDid B.start r.2.end (used (S.seen c.shelf.now) (S.seen r.0.now)) (C.seen c.control).left (own_of c.seat.pass) (own_of r.2.pass) (used (E.seen c.err.now) (E.seen r.1.now)) };
+        × CallerDid B.start r.2.end (used (S.seen c.shelf.now) (S.seen r.0.now)) (used (C.seen c.control) (C.seen r.2.control))
+        (own_of c.seat.pass) (own_of r.2.pass) (used (E.seen c.err.now) (E.seen r.1.now)) };
 
     fn run(self) -> (&'s mut S, &'e mut E, Called<L, B, C>) {
         let Caller {

@@ -1,11 +1,12 @@
 use Rattle.turn_lock.specs.Passes.{own_of}
-use Rattle.std.proofs.Common.{◌∙◌, ◌+◌, ℕ, List, sym, refl, subst}
-use Rattle.std.specs.Prelude.{IfSome}
+use Rattle.std.proofs.Common.{◌+◌, ℕ, List, refl, subst}
+use Rattle.std.specs.Prelude.{IfSome, Result, Ok, Err}
 use Rattle.run_lock.specs.Callers.{jobs_known}
 use Rattle.outside.specs.Objects.{used}
-use Rattle.station.specs.Control.{HasDone, line_did}
+use Rattle.station.specs.Control.{HasDone, DoesSo, line_did}
+use Rattle.station.specs.declared.ends.Stop.{Stop}
 use Rattle.station.proofs.ControlLemmas.{other_read, other_did, feed_read, feed_did}
-use Rattle.station.proofs.OrderLemmas.{if_all, if_map, on_ok_is, no_feed, a_feed}
+use Rattle.station.proofs.OrderLemmas.{if_all, if_map, no_feed, a_feed}
 use Rattle.station.proofs.control.do_byte.Goals as goal
 
 pub returns-in-Ok-clause-read : goal.returns-in-Ok-clause-read
@@ -28,5 +29,18 @@ returns-clause-did g c =
     let w = own_of c.do_line-done.new.seat.pass in
     let u = used (g.E.Sink.seen c.args.err.now) (g.E.Sink.seen c.do_line-done.new.err) in
     let n = c.args.reader.now.before + 1 in
-    if_map o (λ files h. feed_did files jobs c.args.reader.now c.args.byte v w u (a_feed c.args.byte c.if-byte-ne10.false) h)
-    (subst (λ (line : List ℕ). IfSome o (λ files. HasDone (line_did files jobs n line) v w u)) c.deref.ensures.value (on_ok_is c.do_line-done.result c.in_default.field-0 c.in_default.is c.do_line-done.ensures.did))
+    if_map o (λ files h. feed_did {A = Unit {0}} (Ok tt) files jobs c.args.reader.now c.args.byte v w u (a_feed c.args.byte c.if-byte-ne10.false) h)
+    (subst (λ (line : List ℕ). IfSome o (λ files. HasDone (line_did files jobs n line) v w u)) c.deref.ensures.value (subst (λ (r : Result (Unit {0}) Stop). IfSome o (λ files. DoesSo r (line_did files jobs n c.deref.result.now) v w u)) c.in_default.is c.do_line-done.ensures.did))
+
+pub returns-in-Err-done-clause-did : goal.returns-in-Err-done-clause-did
+returns-in-Err-done-clause-did g c =
+    let o = (g.S.Shelf.seen c.args.shelf.now).files in
+    let v = own_of c.args.seat.now.pass in
+    let w = own_of c.do_line-done.new.seat.pass in
+    let jobs = jobs_known g.B.Asked.start v in
+    let u = used (g.E.Sink.seen c.args.err.now) (g.E.Sink.seen c.do_line-done.new.err) in
+    let n = c.args.reader.now.before + 1 in
+    let d : Result (Unit {0}) Stop = Err c.in-Err-done.stop in
+    if_map o (λ files h. feed_did d files jobs c.args.reader.now c.args.byte v w u (a_feed c.args.byte c.if-byte-ne10.false) h)
+    (subst (λ (line : List ℕ). IfSome o (λ files. DoesSo d (line_did files jobs n line) v w u)) c.deref.ensures.value
+    (subst (λ (r : Result (Unit {0}) Stop). IfSome o (λ files. DoesSo r (line_did files jobs n c.deref.result.now) v w u)) c.in-Err-done.is c.do_line-done.ensures.did))

@@ -5,7 +5,7 @@ use Rattle.outside.specs.Objects.{used}
 use Rattle.run_lock.specs.Callers.{jobs_known}
 use Rattle.run_lock.specs.Seats.{IsOwn}
 use Rattle.station.specs.Control.{HasDone, HasRead, piece_did}
-use Rattle.station.specs.Ends.{ShelfWent, SinkWent}
+use Rattle.station.specs.Ends.{IsSame, ShelfWent, SinkWent}
 use Rattle.station.proofs.control.do_piece.Given as goal
 
 abbrev pub invariant-loop-byte : goal.invariant-loop-byte
@@ -14,6 +14,8 @@ invariant-loop-byte g l = record {
   seat : IsOwn l.seat.lock.now 0 l.seat.pass;
   shelf : ShelfWent (used (g.S.Shelf.seen l.fn.shelf) (g.S.Shelf.seen l.shelf));
   err : SinkWent (used (g.E.Sink.seen l.fn.err) (g.E.Sink.seen l.err));
+  shelf_calm : IsSame (g.S.Shelf.seen l.fn.shelf).faults (g.S.Shelf.seen l.shelf).faults;
+  err_calm : IsSame (g.E.Sink.seen l.fn.err).faults (g.E.Sink.seen l.err).faults;
   few : l.reader.before ≤ l.fn.reader.before + l.byte-index;
   read : HasRead (take l.byte-index l.piece) l.fn.reader l.reader;
   did : IfSome (g.S.Shelf.seen l.fn.shelf).files (λ files.

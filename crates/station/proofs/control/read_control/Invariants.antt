@@ -1,7 +1,7 @@
-use Rattle.std.proofs.Common.{◌≡◌, ◌≤◌, ◌<◌, ◌+◌, vec_len}
+use Rattle.std.proofs.Common.{◌≡◌, ◌≤◌, ◌+◌, vec_len}
 use Rattle.turn_lock.specs.Passes.{own_of}
 use Rattle.outside.specs.Objects.{used}
-use Rattle.station.specs.Ends.{ShelfWent, SinkWent, SourceWent}
+use Rattle.station.specs.Ends.{IsSame, ShelfWent, SinkWent, SourceWent}
 use Rattle.run_lock.specs.Seats.{IsOwn}
 use Rattle.station.proofs.EatenLemmas.{HasEaten}
 use Rattle.station.proofs.control.read_control.Given as goal
@@ -18,6 +18,7 @@ invariant-loop g l = record {
   shelf : ShelfWent (used (g.S.Shelf.seen l.fn.shelf) (g.S.Shelf.seen l.shelf));
   err : SinkWent (used (g.E.Sink.seen l.fn.err) (g.E.Sink.seen l.err));
   control : SourceWent (used (g.C.Source.seen l.fn.control) (g.C.Source.seen l.control));
+  calm : IsSame (g.S.Shelf.seen l.fn.shelf).faults (g.S.Shelf.seen l.shelf).faults × IsSame (g.E.Sink.seen l.fn.err).faults (g.E.Sink.seen l.err).faults × IsSame (g.C.Source.seen l.fn.control).faults (g.C.Source.seen l.control).faults;
   before : l.reader.before ≤ l.given;
   eaten : HasEaten (g.S.Shelf.seen l.fn.shelf).files g.B.Asked.start l.given l.reader (g.C.Source.seen l.fn.control).left (g.C.Source.seen l.control).left (own_of l.fn.seat.pass) (own_of l.seat.pass) (used (g.E.Sink.seen l.fn.err) (g.E.Sink.seen l.err));
 }

@@ -1,4 +1,4 @@
-use Rattle.std.proofs.Common.{◌+◌, vec_len}
+use Rattle.std.proofs.Common.{vec_len}
 use Rattle.station.proofs.crew.+fn-work_all-join+arg2+work_all.Given as goal
 
 abbrev pub decreases-join+arg2 : goal.decreases-join+arg2

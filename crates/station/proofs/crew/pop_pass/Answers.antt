@@ -1,4 +1,4 @@
-use Rattle.std.proofs.Common.{◌≡◌, ◌∙◌, ◌+◌, ℕ, List, length, subst, sym, ap, arith, vec_len}
+use Rattle.std.proofs.Common.{◌≡◌, ◌+◌, ℕ, length, subst, arith, vec_len}
 use Rattle.run_lock.specs.Seats.{AreFresh, IsOwn}
 use Rattle.station.proofs.CrewLemmas.{fresh_front}
 use Rattle.station.proofs.crew.pop_pass.Goals as goal

@@ -1,11 +1,10 @@
-use Rattle.std.proofs.Common.{◌≡◌, ◌∙◌, ◌+◌, ◌<◌, ℕ, List, length, refl, rules, sym, ap, subst, arith, true}
+use Rattle.std.proofs.Common.{◌≡◌, ◌∙◌, ◌+◌, List, length, rules, sym, ap, subst, arith}
 use Rattle.std.specs.Prelude.{vec_len}
-use Rattle.journal_text.specs.declared.events.Event.{Event}
-use Rattle.run_lock.specs.declared.marks.Entry.{Entry}
-use Rattle.run_lock.specs.Callers.{IsOfCaller}
-use Rattle.run_lock.specs.Entries.{entries_of, seats_in}
+use Rattle.journal_text.specs.Events.{now_of}
+use Rattle.run_lock.specs.Entries.{entries_of}
 use Rattle.turn_lock.specs.Passes.{AreAll, own_of}
 use Rattle.station.proofs.CloseLemmas.{all_order, ended_log, parted, told_all, ticker_told}
+use Rattle.station.proofs.RecordLemmas.{caller_told, seats_known}
 use Rattle.station.proofs.run.close_run.Goals as goal
 
 pub close-state-requires-clause-all : goal.close-state-requires-clause-all
@@ -26,7 +25,14 @@ returns-clause-caller g c =
     let state = c.close-state.result in
     let log = entries_of state.core state.marks.items in
     let p = parted log c.args.caller c.args.ticker c.args.workers.items c.all_passes-passes.result.items c.all_passes-passes.ensures c.close-state.ensures.gathers in
-    λ h. subst (IsOfCaller g.B.Asked.start c.close-core.result.0 (seats_in c.close-core.result.1.items)) p.callers c.close-core.ensures.caller
+    λ h. caller_told c.close-core.result.0 c.close-core.result.1.items log (own_of c.args.caller) (now_of state.core) c.close-core.ensures.seats c.close-core.ensures.entries p.callers
+
+pub returns-clause-known : goal.returns-clause-known
+returns-clause-known g c =
+    let state = c.close-state.result in
+    let log = entries_of state.core state.marks.items in
+    let many : length c.all_passes-passes.result.items ≡ 2 + vec_len c.args.workers = ap (λ (ps : List _). length ps) c.all_passes-passes.ensures ∙ omega (arith, c.args.workers.ok.0) in
+    λ h. seats_known (2 + vec_len c.args.workers) c.close-core.result.0 c.close-core.result.1.items log _ (omega arith) c.close-core.ensures.seats c.close-core.ensures.entries (λ n le. c.close-state.ensures.others n (omega (arith, many, le)))
 
 pub returns-clause-ticker : goal.returns-clause-ticker
 returns-clause-ticker g c =

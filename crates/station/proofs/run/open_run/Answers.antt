@@ -1,4 +1,4 @@
-use Rattle.std.proofs.Common.{◌≡◌, ◌∙◌, ◌+◌, ℕ, List, length, sym, ap, subst, arith}
+use Rattle.std.proofs.Common.{◌≡◌, ◌∙◌, ◌+◌, List, sym, ap, subst}
 use Rattle.std.specs.Prelude.{All}
 use Rattle.run_lock.specs.declared.marks.Entry.{Entry}
 use Rattle.run_lock.specs.Entries.{begun_with}

@@ -1,19 +1,21 @@
-use Rattle.std.proofs.Common.{rules, ap, ◌≡◌, ◌≢◌, ◌∙◌, ◌<◌, ◌+◌, ℕ, Bool, true, false, List, [], length, map, refl, sym, subst, arith}
-use Rattle.std.specs.Prelude.{vec_len}
+use Rattle.std.proofs.Common.{rules, ap, ◌≡◌, ◌∙◌, ◌<◌, ◌+◌, ℕ, List, [], map, refl, sym, subst, arith, append-nil}
+use Rattle.std.specs.Prelude.{vec_len, All}
 use Rattle.std.proofs.lemmas.List.{length-map}
 use Rattle.journal_text.specs.declared.events.Event.{Event}
 use Rattle.outside.specs.Objects.{used}
-use Rattle.run_lock.specs.declared.marks.Entry.{Entry}
-use Rattle.run_lock.specs.Callers.{BeginsWith, ordered, orders_in}
-use Rattle.run_lock.specs.Entries.{seats_in}
-use Rattle.run_lock.proofs.EntryLemmas.{begun_brought}
+use Rattle.run_lock.specs.Callers.{BeginsWith}
+use Rattle.run_lock.specs.Entries.{begun_with, seats_in}
 use Rattle.turn_lock.specs.Passes.{own_of}
 use Rattle.station.specs.Control.{CallerTells}
 use Rattle.station.proofs.CloseLemmas.{all_tell, finished_first, ticker_tells, whole_end}
-use Rattle.station.proofs.ControlLemmas.{tells_over}
 use Rattle.station.proofs.CrewLemmas.{and_parts}
 use Rattle.station.proofs.EndLemmas.{ends_over}
+use Rattle.station.proofs.RecordLemmas.{tells_over}
+use mir.Syntax.{named}
+use denote.Param.Send.{param_send}
+use Rattle.station.proofs.SharingLemmas.{loops_back, loops_send}
 use Rattle.station.proofs.run.run_with.Goals as goal
+use Rattle.station.proofs.run.run_with.Lts as lts
 
 pub close_run-whole-requires-clause-came : goal.close_run-whole-requires-clause-came
 close_run-whole-requires-clause-came g c =
@@ -78,11 +80,30 @@ pub returns-clause-caller : goal.returns-clause-caller
 returns-clause-caller g c =
     let r = c.run_beside-crew.result.1 in
     let closed = c.close_run-whole.result in
-    let start = g.B.Asked.start in
-    let v = own_of c.in-Ok.opened.caller in
-    let none : ordered v ≡ [] = ap ordered c.in-Ok.ensures.caller.1 ∙ ap orders_in (begun_brought c.args.core) in
+    let control = used (g.C.Source.seen c.args.control) (g.C.Source.seen r.2.control) in
     subst
-    (λ (es : List Event). CallerTells es c.end_of.result (used (g.S.Shelf.seen c.args.shelf.now) (g.S.Shelf.seen c.shelf-1.given.0)) (g.C.Source.seen c.args.control).left closed.core (seats_in closed.marks.items) (used (g.E.Sink.seen c.args.err.now) (g.E.Sink.seen c.err-1.given.0)))
+    (λ (es : List Event). CallerTells es c.end_of.result (used (g.S.Shelf.seen c.args.shelf.now) (g.S.Shelf.seen c.shelf-1.given.0)) control closed.core (seats_in closed.marks.items) (used (g.E.Sink.seen c.args.err.now) (g.E.Sink.seen c.err-1.given.0)))
     (sym c.requires.start)
-    (tells_over g.S.Shelf.seen g.E.Sink.seen closed.whole r.2.end c.end_of.result (g.S.Shelf.seen c.args.shelf.now) (g.E.Sink.seen c.args.err.now) r.0.now _ r.1.now _ (g.C.Source.seen c.args.control).left start closed.core (seats_in closed.marks.items) v (own_of r.2.pass) c.end_of.ensures (search rules) (search rules)
-    none c.close_run-whole.ensures.caller c.run_beside-crew.ensures.1.7)
+    (tells_over g.S.Shelf.seen g.E.Sink.seen closed.whole r.2.end c.end_of.result (g.S.Shelf.seen c.args.shelf.now) (g.E.Sink.seen c.args.err.now) r.0.now _ r.1.now _ control g.B.Asked.start closed.core (seats_in closed.marks.items)
+    (own_of c.in-Ok.opened.caller) (own_of r.2.pass) c.end_of.ensures (search rules) (search rules)
+    (c.in-Ok.ensures.caller.1 ∙ ap begun_with c.requires.start) c.close_run-whole.ensures.caller c.run_beside-crew.ensures.1.7)
+
+pub returns-clause-known : goal.returns-clause-known
+returns-clause-known g c =
+    let crew = c.run_beside-crew.result.0.0 in
+    let closed = c.close_run-whole.result in
+    let many : vec_len crew.passes ≡ vec_len c.args.fetchers = omega (arith, c.run_beside-crew.ensures.0.1.0, c.in-Ok.ensures.count.0) in
+    λ h. subst (λ (k : ℕ). All (λ q. q < 2 + k) (seats_in closed.marks.items)) many (c.close_run-whole.ensures.known (whole_end closed.whole _ (λ e. h (c.end_of.ensures ∙ e))))
+
+pub run_beside-crew-requires-send-F : goal.run_beside-crew-requires-send-F
+run_beside-crew-requires-send-F g c κs within =
+    let taken = loops_send g.row.L g.row.B g.B.Asked g.L.Ledger g.row.W g.row.K g.row.F 6 7 (record { mir = named 6; lft = κs.1.1.1.1.1.1.0 }) c.type_bounds.send-L c.type_bounds.send-B c.type_bounds.sync-W c.type_bounds.send-K c.type_bounds.send-F in
+    param_send 1 (lts.arg-2-1 g.row.L g.row.B g.row.W g.row.S g.row.E g.row.C g.row.K g.row.F g.L.laws g.B.laws g.W.laws g.S.laws g.E.laws g.C.laws g.K.laws g.F.laws g.L.Ledger g.L.Ledger-dict g.B.Asked g.B.Asked-dict g.W.Threads g.W.Threads-dict g.W.Wait g.W.Wait-dict g.S.Shelf g.S.Shelf-dict g.E.Sink g.E.Sink-dict g.C.Source g.C.Source-dict g.K.Clock g.K.Clock-dict g.F.Fetch g.F.Fetch-dict g.C.Destruct-dict g.K.Destruct-dict g.F.Destruct-dict κs) (record { owned = taken.owned; leaving = λ k x w. (tt, (tt, ((tt, ((tt, (tt, (tt, ((tt, tt), tt)))), (tt, tt))), tt))) })
+
+pub run_beside-crew-requires-send-A : goal.run_beside-crew-requires-send-A
+run_beside-crew-requires-send-A g c κs within =
+    let back = loops_back g.row.L g.row.B g.B.Asked g.L.Ledger g.row.W g.row.K g.row.F 6 7 (record { mir = named 6; lft = κs.1.1.1.1.1.1.0 }) c.type_bounds.send-L c.type_bounds.send-B c.type_bounds.send-K c.type_bounds.send-F in
+    param_send 3 (lts.arg-2-3 g.row.L g.row.B g.row.W g.row.S g.row.E g.row.C g.row.K g.row.F g.L.laws g.B.laws g.W.laws g.S.laws g.E.laws g.C.laws g.K.laws g.F.laws g.L.Ledger g.L.Ledger-dict g.B.Asked g.B.Asked-dict g.W.Threads g.W.Threads-dict g.W.Wait g.W.Wait-dict g.S.Shelf g.S.Shelf-dict g.E.Sink g.E.Sink-dict g.C.Source g.C.Source-dict g.K.Clock g.K.Clock-dict g.F.Fetch g.F.Fetch-dict g.C.Destruct-dict g.K.Destruct-dict g.F.Destruct-dict κs) (record { owned = back.owned; leaving = λ k x w. ((tt, (tt, tt)), ((tt, ((tt, tt), tt)), tt)) })
+
+pub returns-in-Err-clause-begins : goal.returns-in-Err-clause-begins
+returns-in-Err-clause-begins g c = ([], c.in-Err.ensures.err.0 ∙ sym (append-nil c.args.core))

@@ -1,11 +1,10 @@
-use Rattle.std.proofs.Common.{◌≡◌, ◌∙◌, ◌<◌, ◌+◌, ℤ, List, length, sym, ap, subst, arith, rules}
+use Rattle.std.proofs.Common.{◌≡◌, ◌∙◌, ℤ, List, length, sym, ap, subst, arith, rules}
 use Rattle.std.specs.Prelude.{IfSome}
-use Rattle.std.proofs.lemmas.Bool.Decides.{nat_tests}
 use Rattle.outside.specs.Clocks.{ClockSeen, Reads}
 use Rattle.run_lock.specs.declared.marks.Entry.{Entry}
 use Rattle.run_lock.specs.Entries.{brought_in}
 use Rattle.turn_lock.specs.Passes.{own_of}
-use Rattle.station.specs.Crews.{HasTicked, sweeps_for}
+use Rattle.station.specs.Crews.{HasTicked}
 use Rattle.station.proofs.WorkLemmas.{sweep_count, ticked_more}
 use Rattle.station.proofs.ticker.Ticker.tick.Goals as goal
 

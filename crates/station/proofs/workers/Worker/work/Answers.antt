@@ -1,4 +1,4 @@
-use Rattle.std.proofs.Common.{◌≡◌, ◌∙◌, false}
+use Rattle.std.proofs.Common.{◌∙◌}
 use Rattle.outside.specs.Objects.{used}
 use Rattle.station.proofs.WorkLemmas.{free_worker, busy_worker, worked_more, worked_same, worked_end, counts_rise}
 use Rattle.station.proofs.workers.Worker.work.Goals as goal
