@@ -1,10 +1,9 @@
 -- The first load of a run.
-use Rattle.std.proofs.Common.{◌≡◌, ℕ, ℤ, List, [], ◌∷◌, ◌++◌, Bool, true, false, refl, sym, ap, subst, ◌∙◌, ◌||◌, ◌+◌}
+use Rattle.std.proofs.Common.{◌≡◌, ℕ, ℤ, List, [], ◌∷◌, refl, sym, subst, ◌∙◌}
 use Rattle.std.specs.Prelude.{Option, Some, None, Result, Ok, Err, IfOk}
 use Rattle.config_fields.specs.declared.fault.ConfFault.{ConfFault}
 use Rattle.jobs_in_force.specs.declared.jobs.Filed.{Filed}
 use Rattle.jobs_in_force.specs.Jobs.{loaded}
-use Rattle.journal_text.specs.declared.events.Event.{Event}
 use Rattle.journal_text.specs.declared.events.Event.TheVariants.{Load}
 use Rattle.live_run.specs.Runs.{IsTaken}
 use Rattle.run_lock.specs.Callers.{LoadAnswered, load_fault}
@@ -12,7 +11,6 @@ use Rattle.scrape_core.specs.Records.{IsFresh, is_live, started_of}
 use Rattle.scrape_core.proofs.RecordLemmas.{live_push, same_started}
 use Rattle.scrape_machine.specs.Machine.{answer, load_answer, world_of}
 use Rattle.scrape_machine.specs.declared.answers.Answer.{Answer}
-use Rattle.scrape_machine.specs.declared.answers.Answer.TheVariants.{Loaded, Refused}
 
 answered : (closed begun : ℕ) (r : Result (List Filed) ConfFault) → LoadAnswered r (load_answer closed begun r)
 answered closed begun (Ok jobs) = (closed, begun, refl)

@@ -1,6 +1,6 @@
 -- How a run from the command line ends, and what it leaves of each outside object ("Storage" of the Prometheus documentation: what was scraped
 -- outlives the process; "Configuration": a configuration that is refused starts nothing).
-use Rattle.std.specs.Prelude.{◌≡◌, ◌≤◌, ◌<◌, ◌⊎◌, ⊤, ℕ, ℤ, ◌+◌, Bool, List, [], ◌∷◌, ◌++◌, length, Option, IfSome, Ok, Err}
+use Rattle.std.specs.Prelude.{◌≡◌, ◌≤◌, ◌<◌, ◌⊎◌, ⊤, ℕ, ℤ, ◌+◌, Bool, List, [], ◌∷◌, length, All, IfSome, Ok, Err}
 use Rattle.config_fields.specs.declared.fault.ConfFault.{ConfFault}
 use Rattle.jobs_in_force.specs.Jobs.{loaded}
 use Rattle.jobs_in_force.specs.declared.jobs.Filed.{Filed}
@@ -9,7 +9,7 @@ use Rattle.journal_text.specs.declared.events.Event.TheVariants.{Load}
 use Rattle.journal_text.specs.Events.{journal_text}
 use Rattle.outside.specs.Clocks.{ClockSeen, Reads}
 use Rattle.outside.specs.Fetches.{FetchSeen}
-use Rattle.outside.specs.Objects.{ShelfSeen, SinkSeen, Use, Adds, Cut, FailedToRead, HasFile, HasLongerFile, IsUntouched, LacksFile, MetLonger, Missed, Rose, Took}
+use Rattle.outside.specs.Objects.{ShelfSeen, SinkSeen, Use, Cut, FailedToRead, HasFile, HasLongerFile, IsUntouched, LacksFile, MetLonger, Missed, Rose, Took}
 use Rattle.outside.specs.Sizes.{most_text_bytes}
 use Rattle.outside.specs.Sources.{SourceSeen}
 use Rattle.book_text.specs.Texts.{printed}
@@ -18,7 +18,7 @@ use Rattle.scrape_machine.specs.Machine.{book_of}
 use Rattle.run_lock.specs.Callers.{BeginsWith}
 use Rattle.station.specs.Control.{CallerTells}
 use Rattle.station.specs.Crews.{AllTell, TellsSweeps}
-use Rattle.station.specs.Ends.{ShelfWent, SinkWent, SourceWent, IsShort}
+use Rattle.station.specs.Ends.{ShelfWent, SinkWent, SourceWent, EndsSo}
 use Rattle.station.specs.declared.ends.RunEnd.{RunEnd}
 use Rattle.station.specs.declared.ends.RunEnd.TheVariants as run
 use Rattle.live_run.specs.declared.asked.LiveEnd.{LiveEnd}
@@ -54,7 +54,8 @@ IsTaken text = (jobs : List Filed) × (loaded [] text ≡ Ok jobs)
 
 -- the journal of one load: the file as it is, which is taken, at this moment
 abbrev pub IsFirst : ℤ → List ℕ → ShelfSeen → List Event → Type 0
-IsFirst moment file shelf es = (text : List ℕ) × HasFile shelf file text × IsTaken text × (es ≡ Load moment text ∷ [])
+IsFirst moment file shelf es =
+    (text : List ℕ) × HasFile shelf file text × (length text ≤ most_text_bytes) × IsTaken text × (es ≡ Load moment text ∷ [])
 
 -- a put failed: of the journal, and nothing was put of the book; or of the book
 abbrev pub WroteFront : Bool → List Event → Use SinkSeen → Use SinkSeen → Type 0
@@ -70,33 +71,36 @@ pub record Wanted : Type 0 where
 abbrev pub wanted : List ℕ → ℕ → Bool → Wanted
 wanted file turns kept = record { file = file; turns = turns; kept = kept }
 
--- what it made of the objects that it was lent, and of those that it was given; of control, what it had left, where it tells that
+-- what it made of the objects that it was lent, and of those that it was given
 pub record Touched : Type 0 where
   pub shelf : Use ShelfSeen
   pub out : Use SinkSeen
   pub err : Use SinkSeen
   pub trail : Use SinkSeen
-  pub control : Option (List ℕ)
+  pub control : Use SourceSeen
   pub clock : Use ClockSeen
   pub fetchers : Use (List FetchSeen)
 
-abbrev pub touched : Use ShelfSeen → Use SinkSeen → Use SinkSeen → Use SinkSeen → Option (List ℕ) → Use ClockSeen → Use (List FetchSeen) → Touched
-touched shelf out err trail control clock fetchers = record { shelf = shelf; out = out; err = err; trail = trail; control = control; clock = clock; fetchers = fetchers }
+abbrev pub touched : Use ShelfSeen → Use SinkSeen → Use SinkSeen → Use SinkSeen → Use SourceSeen → Use ClockSeen → Use (List FetchSeen) → Touched
+touched shelf out err trail control clock fetchers =
+    record { shelf = shelf; out = out; err = err; trail = trail; control = control; clock = clock; fetchers = fetchers }
 
 -- the journal of a run: it begins with the load of the file as it is, at the first reading of the clock; each started scrape has its one finish; and
--- for some seats of its events the ticker brought so many sweeps, at the readings that follow, the workers finishes of what their fetchers answered
--- to the requests of their tickets, and the caller loads and updates that control asked for
+-- for some seats of its events, each one of this run, the ticker brought so many sweeps, at the readings that follow, the workers finishes of what
+-- their fetchers answered to the requests of their tickets, and the caller loads and updates that control asked for
 pub record IsRunOf (end : RunEnd) (w : Wanted) (t : Touched) (es : List Event) : Type 0 where
   pub moment : ℤ
   pub later : ClockSeen
   pub reading : IfSome t.clock.before.readings (λ readings. Reads moment readings later.readings)
   pub text : List ℕ
   pub has : HasFile t.shelf.before w.file text
+  pub short : length text ≤ most_text_bytes
   pub taken : IsTaken text
   pub begins : BeginsWith (Load moment text ∷ []) es
   pub whole : IsWhole es
   pub seats : List ℕ
   pub each : length seats ≡ length es
+  pub known : All (λ q. q < 2 + length t.fetchers.before) seats
   pub sweeps : TellsSweeps w.turns es seats later t.clock.after
   pub workers : AllTell 0 es seats t.fetchers.before t.fetchers.after
   pub caller : CallerTells (Load moment text ∷ []) end t.shelf t.control es seats t.err
@@ -128,12 +132,12 @@ Writes ControlLong w t = Wrote run.TooLong w t
 Writes WriteFault w t = WroteSome w t ⊎ (WroteNothing t × Rose t.err.before.faults t.err.after.faults)
 Writes _ w t = WroteNothing t
 
--- why it ended so, where it began: what control gave, and which count rose
-abbrev pub Stopped : LiveEnd → Use ShelfSeen → Use SourceSeen → Type 0
-Stopped Done shelf control = IsShort control
-Stopped ControlFault shelf control = IsShort control × (Rose shelf.before.faults shelf.after.faults ⊎ Rose control.before.faults control.after.faults)
-Stopped ControlLong shelf control = control.before.given + 1048576 < control.after.given
-Stopped _ shelf control = ⊤
+-- why it ended so, where it began: which count rose, and how much control gave
+abbrev pub Stopped : LiveEnd → Touched → Type 0
+Stopped Done t = EndsSo run.Done t.shelf t.err t.control
+Stopped ControlFault t = EndsSo run.ReadFault t.shelf t.err t.control
+Stopped ControlLong t = EndsSo run.TooLong t.shelf t.err t.control
+Stopped _ t = ⊤
 
 -- the end of a run whose journal and book are written, by that of its control
 abbrev pub written_end : RunEnd → LiveEnd
@@ -180,5 +184,7 @@ IsReadOnce clock = (reading : ℤ) × IfSome clock.before.readings (λ readings.
 pub record Ended (e : LiveEnd) (w : Wanted) (t : Touched) : Type 0 where
   pub writes : Writes e w t
   pub began : Began e w t
+  pub stopped : Stopped e t
   pub shelf : ShelfWent t.shelf
   pub err : SinkWent t.err
+  pub control : SourceWent t.control

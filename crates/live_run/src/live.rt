@@ -1,10 +1,8 @@
 //! A run from the command line: the first load, the loops, and what is written at the end.
 ghost use Rattle.std.specs.Prelude.{◌≡◌, ◌≢◌, ◌<◌, ◌≤◌, ◌^◌, map, length, is_some, vec_len, Some, IfSome, IsTrue};
 ghost use Rattle.outside.specs.Objects.{used};
-ghost use Rattle.outside.specs.Sources.{SourceSeen};
-ghost use Rattle.station.specs.Ends.{SourceWent};
 ghost use Rattle.live_run.specs.Runs as spec;
-ghost use Rattle.live_run.specs.Runs.{touched, wanted, Ended, IsReadOnce, IsUnbegun, Stopped};
+ghost use Rattle.live_run.specs.Runs.{touched, wanted, Ended, IsReadOnce, IsUnbegun};
 
 use crate::asked::{Asked, LiveEnd, Lived};
 use crate::first_load::first_load;
@@ -74,8 +72,9 @@ fn finish_run<R: Sink, O: Sink>(
 /// # Errors
 ///
 /// Before anything starts: a file that is absent, too long or not read, and a configuration that is refused; control and fetchers then come
-/// back as they were, and the clock gave the one reading (`unbegun`). A fault of control or of a file that control names, and too much control input, end the control loop alone: the journal and the book are written all the same. Where
-/// the error output fails, or memory runs out, nothing is written of them.
+/// back as they were, and the clock gave the one reading (`unbegun`). A fault of control or of a file that control names, and too much control
+/// input, end the control loop alone: the journal and the book are written all the same. Where the error output fails, or memory runs out, nothing
+/// is written of them.
 pub fn run_live<
     W: Threads + Wait + Sync,
     S: Shelf,
@@ -100,13 +99,14 @@ pub fn run_live<
     requires fetchers { (0 < vec_len fetchers) × (vec_len fetchers ≤ 1000) }
     requires turns { asked.turns ≤ 1000000 }
     ensures back { IsTrue (is_some result.control) × IsTrue (is_some result.clock) × (vec_len result.fetchers ≡ vec_len fetchers) }
-    ensures ended { IfSome result.clock (λ k. Ended result.end (wanted asked.entry.file.now asked.entry.turns asked.entry.kept) (touched (used (S.seen shelf.old) (S.seen shelf.new))
-        (used (O.seen out.old) (O.seen out.new)) (used (E.seen err.old) (E.seen err.new)) (used (R.seen trail.old) (R.seen trail.new)) (C.seen control).left
-        (used (K.seen clock) (K.seen k)) (used (map F.seen fetchers.items) (map F.seen result.fetchers.items)))) }
+    ensures ended { IfSome result.clock (λ k. IfSome result.control (λ c. Ended result.end
+        (wanted asked.entry.file.now asked.entry.turns asked.entry.kept)
+        (touched (used (S.seen shelf.old) (S.seen shelf.new)) (used (O.seen out.old) (O.seen out.new))
+        (used (E.seen err.old) (E.seen err.new)) (used (R.seen trail.old) (R.seen trail.new))
+        (used (C.seen control) (C.seen c)) (used (K.seen clock) (K.seen k))
+        (used (map F.seen fetchers.items) (map F.seen result.fetchers.items))))) }
     ensures unbegun { IsUnbegun result.end →
         (result.control ≡ Some control) × IfSome result.clock (λ k. IsReadOnce (used (K.seen clock) (K.seen k))) × (result.fetchers ≡ fetchers) }
-    ensures control { IfSome result.control (λ c. SourceWent (used (C.seen control) (C.seen c))) }
-    ensures stopped { IfSome result.control (λ c. Stopped result.end (used (S.seen shelf.old) (S.seen shelf.new)) (used (C.seen control) (C.seen c))) }
 {
     let mut clock = clock;
     let moment = clock.now();

@@ -1,1 +1,2 @@
+mod DueLemmas
 mod LiveLemmas

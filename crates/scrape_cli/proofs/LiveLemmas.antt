@@ -1,16 +1,20 @@
 -- How a call ends that does nothing for want of memory, and what each other one keeps.
-use Rattle.std.proofs.Common.{◌≡◌, ◌≢◌, ℕ, List, refl}
-use Rattle.std.specs.Prelude.{Option, Some, None, IfSome, Err}
+use Rattle.std.proofs.Common.{◌≡◌, ◌≢◌, ◌≤◌, ℕ, List, refl, ap, arith}
+use Rattle.std.specs.Prelude.{Option, Some, None, IfSome, Result, Ok, Err}
 use Rattle.command_words.specs.Askings.{Running}
-use Rattle.live_run.specs.Runs.{Touched}
+use Rattle.live_run.specs.Runs.{IsUnbegun, Touched}
+use Rattle.live_run.specs.declared.asked.LiveEnd.{LiveEnd}
 use Rattle.live_run.specs.declared.asked.LiveEnd.TheVariants.{NoMemory}
-use Rattle.outside.specs.Objects.{SinkSeen, used, IsUntouched}
+use Rattle.outside.specs.Objects.{SinkSeen, Use, used, IsUntouched}
+use Rattle.outside.specs.Sources.{SourceSeen}
 use Rattle.scrape_commands.specs.Ends.{Call, Ended, Speaks, status_at}
 use Rattle.scrape_cli.specs.Lives.{EndedLive, EndedStill}
+use Rattle.scrape_commands.specs.declared.refusals.Refusal.{Refusal}
 use Rattle.scrape_commands.specs.declared.refusals.Refusal.TheVariants as refusal
 use Rattle.scrape_commands.proofs.DueLemmas.{complete_by}
 use Rattle.scrape_commands.proofs.EndLemmas.{ended_by, later_by, printed_by, unwritten_by}
-use Rattle.station.specs.Ends.{ShelfWent, SinkWent}
+use Rattle.station.specs.Ends.{ShelfWent, SinkWent, SourceWent}
+use Rattle.scrape_cli.proofs.DueLemmas.{causes, complete}
 
 pub ended_still : (status : ℕ) (c : Call) → Ended status c → EndedStill status c
 ended_still status c e = record { ended = e; printed = printed_by status c e; unwritten = unwritten_by status c e; complete = complete_by status c e; later = later_by status c e }
@@ -18,18 +22,36 @@ ended_still status c e = record { ended = e; printed = printed_by status c e; un
 pub still_wanting : (c : Call) (file : List ℕ) → IsUntouched c.shelf → IsUntouched c.out → Speaks (Err refusal.NoMemory) file c.err → EndedStill 8 c
 still_wanting c file shelf out speaks = ended_still 8 c (ended_by (Err refusal.NoMemory) c (record { cause = tt; shelf = shelf; out = out }) speaks)
 
-pub live_wanting : (r : Running) (t : Touched) (back : Type 0) (file : List ℕ) →
-    IsUntouched t.trail → IsUntouched t.out → ShelfWent t.shelf → SinkWent (used t.err.before t.err.before) → Speaks (Err refusal.NoMemory) file t.err → EndedLive 8 r t back
-live_wanting r t back file trail out shelf err speaks = record {
-  end = NoMemory;
-  status_is = refl;
-  between = t.err.before;
-  run = record { writes = record { trail = trail; out = out }; began = tt; shelf = shelf; err = err };
-  speaks = speaks;
-  unbegun = λ u. absurd u;
-}
+pub live_wanting : (r : Running) (t : Touched) (back : Type 0) (file : List ℕ) → IsUntouched t.trail → IsUntouched t.out → ShelfWent t.shelf → SinkWent (used t.err.before t.err.before) → SourceWent t.control → IsUntouched t.control
+    → Speaks (Err refusal.NoMemory) file t.err → EndedLive 8 r t back
+live_wanting r t back file trail out shelf err control same speaks =
+    let run = record { writes = record { trail = trail; out = out }; began = tt; stopped = tt; shelf = shelf; err = err; control = control } in
+    record {
+      end = NoMemory;
+      status_is = refl;
+      between = t.err.before;
+      run = run;
+      speaks = speaks;
+      unbegun = λ u. absurd u;
+      complete = complete r t t.err.before NoMemory 8 refl run speaks.later (λ u. absurd u);
+      causes = causes r t t.err.before NoMemory 8 refl run speaks.later;
+    }
 
--- what two facts tell of a value, if there is one, the second of them where something holds
-pub both_told : {X U A B : Type 0} {P Q R : X → Type 0} (o : Option X) → ((x : X) → P x → (U → A × Q x × B) → R x) → IfSome o P → (U → A × IfSome o Q × B) → IfSome o R
-both_told None f p u = tt
-both_told (Some x) f p u = f x p u
+-- the count of the error output didn't fall by what was said of the end
+pub later_said : (end : Result (Unit {0}) Refusal) (file : List ℕ) (err : Use SinkSeen) → Speaks end file err → err.before.faults ≤ err.after.faults
+later_said (Ok u) file err h = let same = ap (λ (x : SinkSeen). x.faults) h in omega (arith, same)
+later_said (Err r) file err h = h.later
+
+-- where a run didn't begin, control came back as it was
+pub still_control : {C : Type 0} (seen : C → SourceSeen) (end : LiveEnd) (before after : C) → (IsUnbegun end → after ≡ before) → IsUnbegun end → IsUntouched (used (seen before) (seen after))
+still_control seen end before after h u = ap seen (h u)
+
+-- what three facts tell of two values, if there are both, the third of them where something holds
+pub both_told : {X Y U B : Type 0} {Q : X → Type 0} {P R : X → Y → Type 0} (o : Option X) (p : Option Y) (y₀ : Y) → ((x : X) (y : Y) → P x y → (U → (y ≡ y₀) × Q x × B) → R x y)
+    → IfSome o (λ x. IfSome p (P x)) → (U → (p ≡ Some y₀) × IfSome o Q × B) → IfSome o (λ x. IfSome p (R x))
+both_told None p y₀ f h u = tt
+both_told (Some x) None y₀ f h u = tt
+both_told (Some x) (Some y) y₀ f h u = f x y h (λ w. let k = u w in (some_is y y₀ k.0, k.1, k.2))
+  where
+    some_is : (a b : Y) → Some a ≡ Some b → a ≡ b
+    some_is a b h = cc

@@ -95,11 +95,11 @@ fn tool_live<
     fetchers: Vec<F>,
 ) -> Finished<C, K, F>
     requires fetchers { (0 < vec_len fetchers) × (vec_len fetchers ≤ 1000) }
-    ensures live { IfSome result.clock (λ k. EndedLive result.status live.now
+    ensures live { IfSome result.clock (λ k. IfSome result.control (λ c. EndedLive result.status live.now
         (touched (used (S.seen shelf.old) (S.seen shelf.new)) (used (O.seen out.old) (O.seen out.new)) (used (E.seen err.old) (E.seen err.new))
-        (used (R.seen trail.old) (R.seen trail.new)) (C.seen control).left (used (K.seen clock) (K.seen k))
+        (used (R.seen trail.old) (R.seen trail.new)) (used (C.seen control) (C.seen c)) (used (K.seen clock) (K.seen k))
         (used (map F.seen fetchers.items) (map F.seen result.fetchers.items)))
-        ((result.control ≡ Some control) × IsReadOnce (used (K.seen clock) (K.seen k)) × (result.fetchers ≡ fetchers))) }
+        ((c ≡ control) × IsReadOnce (used (K.seen clock) (K.seen k)) × (result.fetchers ≡ fetchers)))) }
     ensures back { IsTrue (is_some result.control) × IsTrue (is_some result.clock) × (vec_len result.fetchers ≡ vec_len fetchers) }
 {
     let asked = AskedRun {
@@ -191,11 +191,12 @@ pub fn tool<
         (used (map F.seen fetchers.items) (map F.seen result.fetchers.items)) }
     ensures same { IsStill (order_in (map string_bytes words.now)) →
         (result.control ≡ Some control) × (result.clock ≡ Some clock) × (result.fetchers ≡ fetchers) }
-    ensures live { (r : Running) → order_in (map string_bytes words.now) ≡ Some (Run r) → IfSome result.clock (λ k. EndedLive result.status r
+    ensures live { (r : Running) → order_in (map string_bytes words.now) ≡ Some (Run r) →
+        IfSome result.clock (λ k. IfSome result.control (λ c. EndedLive result.status r
         (touched (used (S.seen shelf.old) (S.seen shelf.new)) (used (O.seen out.old) (O.seen out.new)) (used (E.seen err.old) (E.seen err.new))
-        (used (R.seen trail.old) (R.seen trail.new)) (C.seen control).left (used (K.seen clock) (K.seen k))
+        (used (R.seen trail.old) (R.seen trail.new)) (used (C.seen control) (C.seen c)) (used (K.seen clock) (K.seen k))
         (used (map F.seen fetchers.items) (map F.seen result.fetchers.items)))
-        ((result.control ≡ Some control) × IsReadOnce (used (K.seen clock) (K.seen k)) × (result.fetchers ≡ fetchers))) }
+        ((c ≡ control) × IsReadOnce (used (K.seen clock) (K.seen k)) × (result.fetchers ≡ fetchers)))) }
     ensures back { IsTrue (is_some result.control) × IsTrue (is_some result.clock) × (vec_len result.fetchers ≡ vec_len fetchers) }
     ensures markers { (journal : List Event) → MarkerLaw journal }
     ensures closed_runs { (journal : List Event) (n : ℕ) (x : List Pair) → ClosedRunsLaw journal n x }

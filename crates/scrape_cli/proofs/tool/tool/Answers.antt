@@ -5,7 +5,7 @@ use Rattle.live_run.specs.Runs.{IsReadOnce, touched}
 use Rattle.scrape_commands.specs.Ends.{call}
 use Rattle.scrape_cli.specs.Lives.{EndedLive, EndedStill}
 use Rattle.scrape_cli.proofs.LiveLemmas.{ended_still, live_wanting, still_wanting}
-use Rattle.station.proofs.EndLemmas.{shelf_same, sink_same}
+use Rattle.station.proofs.EndLemmas.{shelf_same, sink_same, source_same}
 use Rattle.scrape_cli.proofs.tool.tool.Goals as goal
 
 pub returns-in-Err-NoMemory-clause-still : goal.returns-in-Err-NoMemory-clause-still
@@ -20,12 +20,14 @@ returns-in-Err-NoMemory-clause-live g c =
     let err = g.E.Sink.seen c.args.err.now in
     let clock = g.K.Clock.seen c.args.clock in
     let ran = c.handed_back.result in
-    let t = λ (k : g.K). touched (used shelf shelf) (used (g.O.Sink.seen c.args.out.now) (g.O.Sink.seen c.args.out.now)) (used err (g.E.Sink.seen c.tell.new.err)) (used (g.R.Sink.seen c.args.trail.now) (g.R.Sink.seen c.args.trail.now))
-    (g.C.Source.seen c.args.control).left (used clock (g.K.Clock.seen k)) (used (map g.F.Fetch.seen c.args.fetchers.items) (map g.F.Fetch.seen ran.fetchers.items)) in
-    let back = λ (k : g.K). (ran.control ≡ Some c.args.control) × IsReadOnce (used clock (g.K.Clock.seen k)) × (ran.fetchers ≡ c.args.fetchers) in
-    λ r is. subst (λ o. IfSome o (λ k. EndedLive ran.status r (t k) (back k))) (sym c.handed_back.ensures.clock)
-    (subst (λ (s : ℕ). EndedLive s r (t c.args.clock) (back c.args.clock)) (sym (c.handed_back.ensures.status ∙ c.status_at.ensures))
-    (live_wanting r (t c.args.clock) (back c.args.clock) [] refl refl (shelf_same shelf) (sink_same err) c.tell.ensures))
+    let source = g.C.Source.seen c.args.control in
+    let t = λ (k : g.K) (x : g.C). touched (used shelf shelf) (used (g.O.Sink.seen c.args.out.now) (g.O.Sink.seen c.args.out.now)) (used err (g.E.Sink.seen c.tell.new.err)) (used (g.R.Sink.seen c.args.trail.now) (g.R.Sink.seen c.args.trail.now))
+    (used source (g.C.Source.seen x)) (used clock (g.K.Clock.seen k)) (used (map g.F.Fetch.seen c.args.fetchers.items) (map g.F.Fetch.seen ran.fetchers.items)) in
+    let back = λ (k : g.K) (x : g.C). (x ≡ c.args.control) × IsReadOnce (used clock (g.K.Clock.seen k)) × (ran.fetchers ≡ c.args.fetchers) in
+    λ r is. subst (λ o. IfSome o (λ k. IfSome ran.control (λ x. EndedLive ran.status r (t k x) (back k x)))) (sym c.handed_back.ensures.clock)
+    (subst (λ o. IfSome o (λ x. EndedLive ran.status r (t c.args.clock x) (back c.args.clock x))) (sym c.handed_back.ensures.control)
+    (subst (λ (s : ℕ). EndedLive s r (t c.args.clock c.args.control) (back c.args.clock c.args.control)) (sym (c.handed_back.ensures.status ∙ c.status_at.ensures))
+    (live_wanting r (t c.args.clock c.args.control) (back c.args.clock c.args.control) [] refl refl (shelf_same shelf) (sink_same err) (source_same source) refl c.tell.ensures)))
 
 pub returns-in_default-clause-still : goal.returns-in_default-clause-still
 returns-in_default-clause-still g c =
