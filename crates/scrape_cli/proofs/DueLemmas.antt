@@ -1,14 +1,14 @@
 -- Which status of a live run is due, and what each says of the counts.
-use Rattle.std.proofs.Common.{◌≡◌, ◌⊎◌, ◌<◌, ◌≤◌, ◌+◌, inl, inr, ⊎_elim, ℕ, List, [], length, refl, sym, ap, ◌∙◌, subst, arith}
-use Rattle.std.specs.Prelude.{Option, Some, None, Ok, Err, IfSome, IsSomeAnd}
+use Rattle.std.proofs.Common.{◌≡◌, ◌⊎◌, ◌<◌, ◌≤◌, inl, inr, ⊎_elim, ℕ, List, [], length, refl, sym, ap, ◌∙◌, subst, arith}
+use Rattle.std.specs.Prelude.{Option, Some, None, Err, IfSome, IsSomeAnd}
 use Rattle.config_fields.specs.declared.fault.ConfFault.{ConfFault}
 use Rattle.jobs_in_force.specs.Jobs.{loaded}
-use Rattle.outside.specs.Objects.{SinkSeen, Use, used, IsUntouched, Rose, file_of, HasFile, LacksFile, HasLongerFile}
+use Rattle.outside.specs.Objects.{SinkSeen, used, IsUntouched, Rose, file_of, HasFile}
 use Rattle.outside.specs.Sources.{SourceSeen}
 use Rattle.outside.specs.Sizes.{most_text_bytes}
 use Rattle.outside.specs.declared.objects.StoredFile.{StoredFile}
 use Rattle.command_words.specs.Askings.{Running}
-use Rattle.live_run.specs.Runs.{Ended, IsTaken, IsUnbegun, Touched, Wanted, Writes, wanted}
+use Rattle.live_run.specs.Runs.{Ended, IsTaken, IsUnbegun, Touched, Writes, wanted}
 use Rattle.live_run.specs.declared.asked.LiveEnd.{LiveEnd}
 use Rattle.live_run.specs.declared.asked.LiveEnd.TheVariants.{Done, ControlFault, ControlLong, Absent, TooLong, Config, ReadFault, WriteFault, NoMemory}
 use Rattle.scrape_commands.specs.Ends.{status_at}

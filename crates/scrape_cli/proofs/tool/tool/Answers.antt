@@ -1,10 +1,11 @@
-use Rattle.std.proofs.Common.{◌≡◌, ◌∙◌, [], ℕ, map, refl, string_bytes, subst, sym}
+use Rattle.std.proofs.Common.{◌≡◌, ◌∙◌, [], ℕ, ap, map, refl, string_bytes, subst, sym}
 use Rattle.std.specs.Prelude.{Some, IfSome}
 use Rattle.outside.specs.Objects.{used}
 use Rattle.live_run.specs.Runs.{IsReadOnce, touched}
 use Rattle.scrape_commands.specs.Ends.{call}
 use Rattle.scrape_cli.specs.Lives.{EndedLive, EndedStill}
-use Rattle.scrape_cli.proofs.LiveLemmas.{ended_still, live_wanting, still_wanting}
+use Rattle.command_words.specs.Askings.{Running}
+use Rattle.scrape_cli.proofs.LiveLemmas.{ended_still, live_wanting, same_run, still_wanting}
 use Rattle.station.proofs.EndLemmas.{shelf_same, sink_same, source_same}
 use Rattle.scrape_cli.proofs.tool.tool.Goals as goal
 
@@ -21,9 +22,9 @@ returns-in-Err-NoMemory-clause-live g c =
     let clock = g.K.Clock.seen c.args.clock in
     let ran = c.handed_back.result in
     let source = g.C.Source.seen c.args.control in
-    let t = λ (k : g.K) (x : g.C). touched (used shelf shelf) (used (g.O.Sink.seen c.args.out.now) (g.O.Sink.seen c.args.out.now)) (used err (g.E.Sink.seen c.tell.new.err)) (used (g.R.Sink.seen c.args.trail.now) (g.R.Sink.seen c.args.trail.now))
+    let t = λ (k : g.row.K.Denot) (x : g.row.C.Denot). touched (used shelf shelf) (used (g.O.Sink.seen c.args.out.now) (g.O.Sink.seen c.args.out.now)) (used err (g.E.Sink.seen c.tell.new.err)) (used (g.R.Sink.seen c.args.trail.now) (g.R.Sink.seen c.args.trail.now))
     (used source (g.C.Source.seen x)) (used clock (g.K.Clock.seen k)) (used (map g.F.Fetch.seen c.args.fetchers.items) (map g.F.Fetch.seen ran.fetchers.items)) in
-    let back = λ (k : g.K) (x : g.C). (x ≡ c.args.control) × IsReadOnce (used clock (g.K.Clock.seen k)) × (ran.fetchers ≡ c.args.fetchers) in
+    let back = λ (k : g.row.K.Denot) (x : g.row.C.Denot). (x ≡ c.args.control) × IsReadOnce (used clock (g.K.Clock.seen k)) × (ran.fetchers ≡ c.args.fetchers) in
     λ r is. subst (λ o. IfSome o (λ k. IfSome ran.control (λ x. EndedLive ran.status r (t k x) (back k x)))) (sym c.handed_back.ensures.clock)
     (subst (λ o. IfSome o (λ x. EndedLive ran.status r (t c.args.clock x) (back c.args.clock x))) (sym c.handed_back.ensures.control)
     (subst (λ (s : ℕ). EndedLive s r (t c.args.clock c.args.control) (back c.args.clock c.args.control)) (sym (c.handed_back.ensures.status ∙ c.status_at.ensures))
@@ -34,3 +35,18 @@ returns-in_default-clause-still g c =
     let it = call (map string_bytes c.args.words.now) (used (g.S.Shelf.seen c.args.shelf.now) (g.S.Shelf.seen c.tool_still-status.new.shelf))
     (used (g.O.Sink.seen c.args.out.now) (g.O.Sink.seen c.tool_still-status.new.out)) (used (g.E.Sink.seen c.args.err.now) (g.E.Sink.seen c.tool_still-status.new.err)) in
     λ _. subst (λ (s : ℕ). EndedStill s it) (sym c.handed_back-in_default.ensures.status) (ended_still c.tool_still-status.result it c.tool_still-status.ensures.ended)
+
+pub returns-in-Ok-Run-clause-live : goal.returns-in-Ok-Run-clause-live
+returns-in-Ok-Run-clause-live g c =
+    let ran = c.tool_live.result in
+    let shelf = used (g.S.Shelf.seen c.args.shelf.now) (g.S.Shelf.seen c.tool_live.new.shelf) in
+    let out = used (g.O.Sink.seen c.args.out.now) (g.O.Sink.seen c.tool_live.new.out) in
+    let err = used (g.E.Sink.seen c.args.err.now) (g.E.Sink.seen c.tool_live.new.err) in
+    let trail = used (g.R.Sink.seen c.args.trail.now) (g.R.Sink.seen c.tool_live.new.trail) in
+    let source = g.C.Source.seen c.args.control in
+    let clock = g.K.Clock.seen c.args.clock in
+    let calls = used (map g.F.Fetch.seen c.args.fetchers.items) (map g.F.Fetch.seen ran.fetchers.items) in
+    λ r is. subst
+    (λ (x : Running). IfSome ran.clock (λ k. IfSome ran.control (λ y. EndedLive ran.status x (touched shelf out err trail (used source (g.C.Source.seen y)) (used clock (g.K.Clock.seen k)) calls)
+    ((y ≡ c.args.control) × IsReadOnce (used clock (g.K.Clock.seen k)) × (ran.fetchers ≡ c.args.fetchers)))))
+    (same_run c.in-Ok-Run.live r (sym (c.in-Ok-Run.ensures.asked ∙ ap Some c.in-Ok-Run.field-0-is) ∙ is)) c.tool_live.ensures.live
