@@ -1,19 +1,15 @@
 -- What the caller's entries tell, after each order.
-use Rattle.std.proofs.Common.{◌≡◌, ◌≢◌, ℕ, ℤ, zero, suc, ◌+◌, ◌==◌, List, [], ◌∷◌, ◌++◌, length, take, drop, replicate, Bool, true, false, cond, refl, sym, ap, ap₂, ◌∙◌, subst, arith, append_assoc, append-nil}
-use Rattle.std.specs.Prelude.{Option, Some, None, Result, Ok, Err}
-use Rattle.std.proofs.lemmas.Bool.Decides.{nat_tests}
-use Rattle.std.proofs.Math.Seq.{take-append_seam}
-use Rattle.std.proofs.lemmas.List.{length-take, take-append-drop, take-append-le}
+use Rattle.std.proofs.Common.{◌≡◌, ℕ, ◌+◌, List, [], ◌∷◌, ◌++◌, true, refl, sym, ap, ◌∙◌, subst, append_assoc, append-nil}
+use Rattle.std.specs.Prelude.{None, Result, Ok, Err}
 use Rattle.config_fields.specs.declared.fault.ConfFault.{ConfFault}
 use Rattle.jobs_in_force.specs.Jobs.{Unlisted, UnknownJob, UnknownFile, Faulty, loaded, updated}
 use Rattle.jobs_in_force.specs.declared.jobs.Filed.{Filed}
 use Rattle.jobs_in_force.specs.declared.jobs.InForce.{InForce}
 use Rattle.journal_text.specs.declared.events.Event.{Event}
-use Rattle.journal_text.specs.declared.events.Event.TheVariants.{Load, Targets, Tick, Sweep, Finish, Halt}
 use Rattle.scrape_config.specs.declared.conf.Group.{Group}
 use Rattle.scrape_core.specs.Records.{is_live}
 use Rattle.scrape_core.proofs.RecordLemmas.{live_world, world_live, answer_live}
-use Rattle.scrape_machine.specs.Machine.{World, world_of, new_jobs, or_else, answer, live_answer, load_answer, update_answer, closed_count, begun_count}
+use Rattle.scrape_machine.specs.Machine.{World, world_of, new_jobs, or_else, answer, live_answer, load_answer, update_answer}
 use Rattle.scrape_machine.specs.declared.answers.Answer.{Answer}
 use Rattle.run_lock.specs.declared.marks.Entry.{Entry}
 use Rattle.run_lock.specs.declared.marks.Note.TheVariants.{Brought}

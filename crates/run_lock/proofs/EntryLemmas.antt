@@ -1,18 +1,18 @@
 -- The entries that a journal and its marks stand for, after each mark.
-use Rattle.std.proofs.Common.{◌≡◌, ◌≢◌, ℕ, zero, suc, ◌+◌, ◌<◌, ◌==◌, List, [], ◌∷◌, ◌++◌, length, length-append, replicate, Bool, true, false, cond, refl, sym, ap, ap₂, ◌∙◌, subst, arith, append_assoc, append-nil, ne_eqb, ◌||◌}
-use Rattle.std.specs.Prelude.{All, Option, None, filter}
+use Rattle.std.proofs.Common.{◌≡◌, ◌≢◌, ℕ, zero, suc, ◌+◌, ◌<◌, ◌==◌, List, [], ◌∷◌, ◌++◌, length, replicate, Bool, true, false, cond, refl, sym, ap, ◌∙◌, arith, append_assoc, append-nil, ne_eqb, ◌||◌}
+use Rattle.std.specs.Prelude.{All, Option}
 use Rattle.std.proofs.lemmas.Bool.Decides.{nat_tests}
 use Rattle.std.proofs.lemmas.List.Elements.{filter-append}
 use mathlib.Core.List.{IsPrefix}
 use Rattle.journal_text.specs.declared.events.Event.{Event}
-use Rattle.journal_text.specs.Events.{now_after, now_from, now_of}
+use Rattle.journal_text.specs.Events.{now_after, now_from}
 use Rattle.run_lock.specs.declared.marks.Entry.{Entry}
 use Rattle.run_lock.specs.declared.marks.Mark.{Mark}
 use Rattle.run_lock.specs.declared.marks.Mark.TheVariants as mark
 use Rattle.run_lock.specs.declared.marks.Note.{Note}
 use Rattle.run_lock.specs.declared.marks.Note.TheVariants.{Before, Took, Brought, Ended, Failed}
-use Rattle.run_lock.specs.Entries.{entry, seats_in, entries_from, entries_of, own_by, event_in, events_in, brought_by, brought_in, begun_with, GoesOn, Adds}
-use Rattle.run_lock.specs.Held.{after_note, pending, pending_from, is_end, any_end, events_of}
+use Rattle.run_lock.specs.Entries.{entry, seats_in, entries_from, own_by, event_in, events_in, brought_by, brought_in, begun_with, GoesOn, Adds}
+use Rattle.run_lock.specs.Held.{after_note, pending_from, is_end, any_end, events_of}
 
 -- one more entry, of the same seat and of another one
 pub own_here : (log : List Entry) (s q : ℕ) (x : Note) → s ≡ q → own_by q (log ++ entry s x ∷ []) ≡ own_by q log ++ entry s x ∷ []

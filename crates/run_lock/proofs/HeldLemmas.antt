@@ -1,16 +1,13 @@
 -- The journal of a run, after each event.
-use Rattle.std.proofs.Common.{◌≡◌, ℕ, ℤ, zero, suc, ◌+◌, ◌<◌, ◌≤◌, ◌==◌, List, [], ◌∷◌, ◌++◌, length, set, Bool, true, false, cond, refl, sym, ap, ◌∙◌, arith, rules, pos, ◌||◌}
+use Rattle.std.proofs.Common.{◌≡◌, ℕ, ℤ, ◌+◌, ◌<◌, ◌≤◌, ◌==◌, List, [], ◌∷◌, ◌++◌, set, cond, refl, sym, ap, ◌∙◌, arith}
 use Rattle.std.specs.Prelude.{Option, Some, None, slice_get, nat_lt}
-use Rattle.std.specs.List.{list_any}
 use Rattle.std.proofs.lemmas.Bool.Decides.{nat_tests}
-use Rattle.std.proofs.lemmas.List.Sums.{sum_by-cons}
 use Rattle.journal_text.specs.Events.{IsJournal}
 use Rattle.journal_text.specs.declared.events.Event.{Event}
 use Rattle.journal_text.specs.declared.events.Event.TheVariants.{Load, Targets, Tick, Sweep, Finish, Halt}
 use Rattle.outside.specs.declared.replies.Reply.{Reply}
-use Rattle.scrape_machine.specs.declared.lives.Start.{Start}
-use Rattle.scrape_machine.specs.Machine.{World, world_of}
-use Rattle.scrape_core.specs.Records.{IsFresh, IsWhole, is_live, started_of, landed, landed_in, finishes, has_lost, is_finish}
+use Rattle.scrape_machine.specs.Machine.{world_of}
+use Rattle.scrape_core.specs.Records.{IsFresh, IsWhole, started_of, landed_in}
 use Rattle.scrape_core.proofs.RecordLemmas.{live_push, started_push, landed_push, finishes_push, lost_push, load_found, update_found, swept_landed, swept_more, IsOpen, finish_landed, finish_length, finish_found, none_finished, none_lost, none_landed, same_started, same_landed, landed_is, started_is_length}
 use Rattle.run_lock.specs.Held.{times, held, IsSettled, IsRunning}
 use Rattle.run_lock.specs.Tasks.{IsCommand}

@@ -1,10 +1,9 @@
 -- The listed files, one more at a time.
-use Rattle.std.proofs.Common.{◌≡◌, ℕ, ◌+◌, ◌<◌, List, [], ◌∷◌, ◌++◌, length, take, refl, sym, ap, ◌∙◌, append_assoc, append-nil}
+use Rattle.std.proofs.Common.{◌≡◌, ℕ, ◌+◌, ◌<◌, List, [], ◌∷◌, ◌++◌, length, take, sym, ap, ◌∙◌, append_assoc, append-nil}
 use Rattle.std.specs.Prelude.{slice_index_or}
 use Rattle.std.proofs.lemmas.List.{take_more}
 use Rattle.jobs_in_force.specs.declared.jobs.InForce.{InForce}
 use Rattle.run_lock.specs.Listed.{file_listed, files_listed, listed_in}
-use Rattle.run_lock.specs.declared.listed.Listed.{Listed}
 
 files_push : (job : List ℕ) (files : List (List ℕ)) (file : List ℕ) → files_listed job (files ++ file ∷ []) ≡ files_listed job files ++ file_listed job file
 files_push job [] file = append-nil (file_listed job file)

@@ -1,22 +1,20 @@
 -- What lies under the lock of a run, after each mark.
-use Rattle.std.proofs.Common.{◌≡◌, ◌≢◌, ◌⊎◌, inl, inr, ℕ, ℤ, zero, suc, ◌+◌, ◌<◌, ◌≤◌, List, [], ◌∷◌, ◌++◌, length, length-append, set, replicate, drop, Bool, true, false, refl, sym, ap, ◌∙◌, subst, arith, append_assoc, append-nil, ◌||◌}
-use Rattle.std.specs.Prelude.{Option, Some, None, slice_get}
+use Rattle.std.proofs.Common.{◌≡◌, ◌≢◌, ◌⊎◌, inl, inr, ℕ, ℤ, ◌+◌, ◌<◌, List, [], ◌∷◌, ◌++◌, length, length-append, set, replicate, drop, Bool, true, false, refl, sym, ap, ◌∙◌, subst, arith, append_assoc, append-nil, ◌||◌}
+use Rattle.std.specs.Prelude.{Some, None, slice_get}
 use Rattle.std.proofs.lemmas.List.{length-set, length-replicate}
 use Rattle.journal_text.specs.declared.events.Event.{Event}
 use Rattle.journal_text.specs.declared.events.Event.TheVariants.{Finish, Sweep, Halt}
 use Rattle.journal_text.specs.Events.{IsJournal, now_of}
 use Rattle.outside.specs.declared.replies.Reply.{Reply}
 use Rattle.scrape_core.specs.Records.{IsFresh, IsWhole, started_of}
-use Rattle.scrape_machine.specs.Machine.{world_of}
 use Rattle.run_lock.specs.declared.marks.Entry.{Entry}
-use Rattle.run_lock.specs.declared.marks.Mark.{Mark}
 use Rattle.run_lock.specs.declared.marks.Mark.TheVariants as mark
 use Rattle.run_lock.specs.declared.marks.Note.{Note}
-use Rattle.run_lock.specs.declared.marks.Note.TheVariants.{Before, Took, Brought, Ended, Failed}
+use Rattle.run_lock.specs.declared.marks.Note.TheVariants.{Took, Brought, Ended, Failed}
 use Rattle.run_lock.specs.declared.tasks.Order.{Order}
 use Rattle.run_lock.specs.Callers.{BeginsWith, IsOfCaller, jobs_by, jobs_known}
 use Rattle.run_lock.specs.Entries.{entry, entries_of, seats_in, own_by, brought_in, brought_by, begun_with, event_in, events_in}
-use Rattle.run_lock.specs.Held.{IsHeld, after_note, any_end, events_of, is_end, held, pending}
+use Rattle.run_lock.specs.Held.{IsHeld, any_end, events_of, is_end, held, pending}
 use Rattle.run_lock.specs.Running.{Known, IsCallers, IsFront, IsRun, log_of}
 use Rattle.run_lock.specs.Tasks.{event_at}
 use Rattle.run_lock.proofs.CallerLemmas.{same_jobs, more_jobs, order_jobs, known_push, command_at}

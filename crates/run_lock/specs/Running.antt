@@ -21,7 +21,8 @@ pub record Known : Type 0 where
   pub ended : Bool
 
 abbrev pub marked_by : Known → List Mark → Known
-marked_by k ms = record { events = k.events; marks = ms; next = k.next; started = k.started; slots = k.slots; out = k.out; sweeps_left = k.sweeps_left; ended = k.ended }
+marked_by k ms =
+    record { events = k.events; marks = ms; next = k.next; started = k.started; slots = k.slots; out = k.out; sweeps_left = k.sweeps_left; ended = k.ended }
 
 abbrev pub log_of : Known → List Entry
 log_of k = entries_of k.events k.marks

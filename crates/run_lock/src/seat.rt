@@ -106,7 +106,8 @@ impl<'r, L: Ledger, B: Asked, R: Wait> Seat<'r, L, B, R> {
         ensures lock { self.new.lock ≡ self.old.lock }
         ensures seat { IsOwn self.new.lock.now (2 + place) self.new.pass }
         ensures seen { IsPrefix (seen_by self.old.pass) (seen_by self.new.pass) }
-        ensures brought { result ≡ true → (now : ℕ) × Adds (own_of self.old.pass) (2 + place) (Brought now (finish_with ticket fetched)) (own_of self.new.pass) }
+        ensures brought { result ≡ true → (now : ℕ)
+            × Adds (own_of self.old.pass) (2 + place) (Brought now (finish_with ticket fetched)) (own_of self.new.pass) }
     {
         let read = read_copy(self.alloc, &fetched.reply);
         let mut state = self.lock.take(self.rt, &mut self.pass);

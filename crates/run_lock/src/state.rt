@@ -48,7 +48,16 @@ pub struct RunState<L: Ledger, B: Asked> {
     ended: bool,
     failed: bool,
     asked: PhantomData<B>,
-    ghost run: { IsRun B.workers B.turns B.start (record { events = core; marks = marks.items; next = next; started = started; slots = slots.items; out = out; sweeps_left = sweeps_left; ended = ended }) },
+    ghost run: { IsRun B.workers B.turns B.start (record {
+      events = core;
+      marks = marks.items;
+      next = next;
+      started = started;
+      slots = slots.items;
+      out = out;
+      sweeps_left = sweeps_left;
+      ended = ended;
+    }) },
     ghost few: { B.workers ≤ 1000 },
     ghost room: { failed ≡ false → vec_len marks < vec_capacity marks },
 }
@@ -69,11 +78,6 @@ impl<L: Ledger, B: Asked> RunState<L, B> {
     /// Whether every started scrape has its finish, and none will be started.
     pub fn is_over(&self) -> bool {
         self.next == self.started && self.sweeps_left == 0 && self.out == 0
-    }
-
-    /// Whether a worker finds nothing to do, and something is still to come.
-    pub fn is_idle(&self) -> bool {
-        self.next == self.started && !self.failed && (self.sweeps_left > 0 || self.out > 0)
     }
 
     /// Whether memory ran out.
@@ -178,7 +182,8 @@ impl<L: Ledger, B: Asked> RunState<L, B> {
         requires read { IfSome read (λ r. fetched.reply ≡ r) }
         requires out { pending (own_by (2 + place) (entries_of self.old.core self.old.marks.items)) ≡ Some ticket }
         ensures goes { GoesOn (2 + place) (entries_of self.old.core self.old.marks.items) (entries_of self.new.core self.new.marks.items) }
-        ensures brought { result ≡ true → Adds (entries_of self.old.core self.old.marks.items) (2 + place) (Brought (now_of self.old.core) (finish_with ticket fetched)) (entries_of self.new.core self.new.marks.items) }
+        ensures brought { result ≡ true → Adds (entries_of self.old.core self.old.marks.items) (2 + place)
+            (Brought (now_of self.old.core) (finish_with ticket fetched)) (entries_of self.new.core self.new.marks.items) }
     {
         let seat = 2 + place as u32;
         if self.failed || self.marks.reserve(2).is_err() {
@@ -200,7 +205,8 @@ impl<L: Ledger, B: Asked> RunState<L, B> {
     pub fn sweep(&mut self, alloc: Global, reading: Moment) -> bool
         requires left { length (brought_in (own_by 1 (entries_of self.old.core self.old.marks.items))) < B.turns }
         ensures goes { GoesOn 1 (entries_of self.old.core self.old.marks.items) (entries_of self.new.core self.new.marks.items) }
-        ensures brought { result ≡ true → Adds (entries_of self.old.core self.old.marks.items) 1 (sweep_brought reading (now_of self.old.core)) (entries_of self.new.core self.new.marks.items) }
+        ensures brought { result ≡ true → Adds (entries_of self.old.core self.old.marks.items) 1
+            (sweep_brought reading (now_of self.old.core)) (entries_of self.new.core self.new.marks.items) }
     {
         if self.failed || self.marks.reserve(2).is_err() {
             self.fail(1);
@@ -221,7 +227,8 @@ impl<L: Ledger, B: Asked> RunState<L, B> {
     pub fn carry_out(&mut self, alloc: Global, order: Order) -> Option<Answer>
         requires order { IsFit order }
         ensures goes { GoesOn 0 (entries_of self.old.core self.old.marks.items) (entries_of self.new.core self.new.marks.items) }
-        ensures brought { OnSome result (Adds (entries_of self.old.core self.old.marks.items) 0 (order_brought order (now_of self.old.core)) (entries_of self.new.core self.new.marks.items)) }
+        ensures brought { OnSome result (Adds (entries_of self.old.core self.old.marks.items) 0
+            (order_brought order (now_of self.old.core)) (entries_of self.new.core self.new.marks.items)) }
         ensures answer { IfSome result (IsAnswered (jobs_known B.start (own_by 0 (entries_of self.old.core self.old.marks.items))) order) }
     {
         if self.failed || self.marks.reserve(2).is_err() {

@@ -21,8 +21,10 @@ impl<L: Ledger, B: Asked> RunState<L, B> {
         requires ended { any_end (entries_of self.core self.marks.items) ≡ true }
         ensures done { IsWhole result.0 }
         ensures seats { length (seats_in result.1.items) ≡ length result.0 }
-        ensures entries { Adds (entries_of self.core self.marks.items) 0 (Brought (now_of self.core) (Halt (pos (now_of self.core)))) (entries_of result.0 result.1.items) }
-        ensures others { (q : ℕ) → 0 < q → events_of q result.0 (seats_in result.1.items) ≡ events_in (own_by q (entries_of self.core self.marks.items)) }
+        ensures entries { Adds (entries_of self.core self.marks.items) 0
+            (Brought (now_of self.core) (Halt (pos (now_of self.core)))) (entries_of result.0 result.1.items) }
+        ensures others { (q : ℕ) → 0 < q → events_of q result.0 (seats_in result.1.items)
+            ≡ events_in (own_by q (entries_of self.core self.marks.items)) }
         ensures caller { IsOfCaller B.start result.0 (seats_in result.1.items) (own_by 0 (entries_of self.core self.marks.items)) }
     {
         let RunState {

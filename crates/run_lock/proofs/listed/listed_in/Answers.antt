@@ -1,5 +1,4 @@
-use Rattle.std.proofs.Common.{◌≡◌, ◌∙◌, ◌++◌, List, sym, ap, take, ℕ}
-use Rattle.jobs_in_force.specs.declared.jobs.InForce.{InForce}
+use Rattle.std.proofs.Common.{◌∙◌, ◌++◌, List, sym, ap, take, ℕ}
 use Rattle.scrape_config.specs.declared.conf.Job.{Job}
 use Rattle.run_lock.specs.Listed.{files_listed, listed_in}
 use Rattle.run_lock.specs.declared.listed.Listed.{Listed}

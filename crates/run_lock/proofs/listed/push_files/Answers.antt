@@ -1,5 +1,5 @@
-use Rattle.std.proofs.Common.{◌≡◌, ◌∙◌, ◌++◌, sym, ap, append_assoc}
-use Rattle.run_lock.specs.Listed.{file_listed, files_listed}
+use Rattle.std.proofs.Common.{◌∙◌, ◌++◌, sym, ap, append_assoc}
+use Rattle.run_lock.specs.Listed.{file_listed}
 use Rattle.run_lock.proofs.ListedLemmas.{files_next}
 use Rattle.run_lock.proofs.listed.push_files.Goals as goal
 

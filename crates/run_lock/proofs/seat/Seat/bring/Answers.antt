@@ -1,7 +1,6 @@
-use Rattle.std.proofs.Common.{◌≡◌, ◌∙◌, ◌++◌, ◌+◌, ◌<◌, ℕ, List, [], true, length, drop, ap, subst, sym, append-nil}
-use Rattle.run_lock.specs.declared.marks.Entry.{Entry}
+use Rattle.std.proofs.Common.{◌≡◌, ◌∙◌, ◌++◌, ◌+◌, length, drop, ap}
 use Rattle.turn_lock.specs.Passes.{number_of, own_of, seen_by}
-use Rattle.run_lock.specs.Entries.{entries_of, events_in, brought_in, own_by}
+use Rattle.run_lock.specs.Entries.{entries_of, own_by}
 use Rattle.journal_text.specs.Events.{now_of}
 use Rattle.run_lock.specs.Held.{pending}
 use Rattle.run_lock.proofs.SeatLemmas.{adds_own, given_own, own_at}

@@ -1,7 +1,7 @@
-use Rattle.std.proofs.Common.{◌≡◌, ◌∙◌, ◌++◌, ◌+◌, ◌<◌, ℕ, List, [], true, length, drop, ap, subst, sym, append-nil}
+use Rattle.std.proofs.Common.{◌≡◌, ◌++◌, ◌+◌, List, length, drop, subst}
 use Rattle.run_lock.specs.declared.marks.Entry.{Entry}
 use Rattle.turn_lock.specs.Passes.{number_of, own_of, seen_by}
-use Rattle.run_lock.specs.Entries.{entries_of, events_in, brought_in, own_by, Adds}
+use Rattle.run_lock.specs.Entries.{entries_of, own_by, Adds}
 use Rattle.std.specs.Prelude.{IfSome}
 use Rattle.journal_text.specs.Events.{now_of}
 use Rattle.run_lock.specs.Callers.{IsAnswered, jobs_known}

@@ -1,7 +1,7 @@
-use Rattle.std.proofs.Common.{◌≡◌, ◌∙◌, ◌++◌, ◌+◌, ◌<◌, ℕ, List, [], true, length, drop, ap, subst, sym, append-nil, refl}
+use Rattle.std.proofs.Common.{◌≡◌, ◌∙◌, List, [], subst, sym, append-nil, refl}
 use Rattle.run_lock.specs.declared.marks.Entry.{Entry}
 use Rattle.turn_lock.specs.Passes.{number_of, own_of, seen_by}
-use Rattle.run_lock.specs.Entries.{entries_of, events_in, brought_in, own_by}
+use Rattle.run_lock.specs.Entries.{entries_of, own_by}
 use Rattle.std.specs.Prelude.{IfOk}
 use Rattle.std.proofs.lemmas.List.Elements.{All-nil}
 use Rattle.run_lock.specs.Callers.{jobs_known}

@@ -1,7 +1,7 @@
-use Rattle.std.proofs.Common.{◌≡◌, ◌∙◌, ◌++◌, ◌+◌, ◌<◌, ℕ, List, [], true, length, drop, ap, subst, sym, append-nil}
+use Rattle.std.proofs.Common.{◌≡◌, ◌++◌, ◌+◌, ◌<◌, List, length, drop, subst, sym}
 use Rattle.run_lock.specs.declared.marks.Entry.{Entry}
 use Rattle.turn_lock.specs.Passes.{number_of, own_of, seen_by}
-use Rattle.run_lock.specs.Entries.{entries_of, events_in, brought_in, own_by}
+use Rattle.run_lock.specs.Entries.{entries_of, brought_in, own_by}
 use Rattle.journal_text.specs.Events.{now_of}
 use Rattle.run_lock.proofs.SeatLemmas.{adds_own, given_own, own_at}
 use Rattle.run_lock.proofs.seat.Seat.sweep.Goals as goal
