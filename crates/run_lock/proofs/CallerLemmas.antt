@@ -1,5 +1,5 @@
 -- What the caller's entries tell, after each order.
-use Rattle.std.proofs.Common.{◌≡◌, ℕ, ◌+◌, List, [], ◌∷◌, ◌++◌, true, refl, sym, ap, ◌∙◌, subst, append_assoc, append-nil}
+use Rattle.std.proofs.Common.{◌≡◌, ℕ, List, [], ◌∷◌, ◌++◌, true, refl, sym, ap, ◌∙◌, subst, append_assoc, append-nil}
 use Rattle.std.specs.Prelude.{None, Result, Ok, Err}
 use Rattle.config_fields.specs.declared.fault.ConfFault.{ConfFault}
 use Rattle.jobs_in_force.specs.Jobs.{Unlisted, UnknownJob, UnknownFile, Faulty, loaded, updated}

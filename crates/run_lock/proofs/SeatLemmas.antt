@@ -1,5 +1,5 @@
 -- What a turn tells of a seat's own entries.
-use Rattle.std.proofs.Common.{◌≡◌, ℕ, ◌+◌, List, [], ◌∷◌, ◌++◌, length, drop, refl, sym, ap, ◌∙◌, append-nil}
+use Rattle.std.proofs.Common.{◌≡◌, ℕ, List, [], ◌∷◌, ◌++◌, length, drop, refl, sym, ap, ◌∙◌, append-nil}
 use Rattle.std.specs.Prelude.{Option, Some, None, OnSome}
 use Rattle.run_lock.specs.declared.marks.Entry.{Entry}
 use Rattle.run_lock.specs.declared.marks.Note.{Note}

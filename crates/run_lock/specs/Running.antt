@@ -1,5 +1,5 @@
 -- What lies under the lock of a run.
-use Rattle.std.specs.Prelude.{◌≡◌, ℕ, ◌+◌, ◌++◌, ◌<◌, ◌≤◌, Bool, true, List, length, drop, Option}
+use Rattle.std.specs.Prelude.{◌≡◌, ℕ, ◌+◌, ◌++◌, Bool, true, List, length, drop, Option}
 use Rattle.journal_text.specs.declared.events.Event.{Event}
 use Rattle.scrape_machine.specs.Machine.{world_of}
 use Rattle.run_lock.specs.declared.marks.Entry.{Entry}

@@ -1,20 +1,19 @@
 -- What a seat is told and brings, and what its entries say then.
-use Rattle.std.specs.Prelude.{◌≡◌, ℕ, ◌+◌, ℤ, pos, Bool, true, false, List, [], ◌∷◌, ◌++◌, length, Option, Some, None, max}
+use Rattle.std.specs.Prelude.{◌≡◌, ℕ, ◌+◌, ℤ, pos, List, length, Some, max}
 use Rattle.journal_text.specs.declared.events.Event.{Event}
 use Rattle.journal_text.specs.declared.events.Event.TheVariants.{Load, Targets, Tick, Sweep, Finish, Halt}
-use Rattle.journal_text.specs.Events.{now_of}
 use Rattle.journal_text.specs.Lines.{number, IsNameLength, IsTextLength}
 use Rattle.outside.specs.declared.replies.Reply.{Reply}
 use Rattle.outside.specs.declared.requests.Fetched.{Fetched}
 use Rattle.scrape_core.specs.Readers.{MayFetch, request}
 use Rattle.run_lock.specs.declared.marks.Entry.{Entry}
 use Rattle.run_lock.specs.declared.marks.Note.{Note}
-use Rattle.run_lock.specs.declared.marks.Note.TheVariants.{Before, Took, Brought, Ended, Failed}
+use Rattle.run_lock.specs.declared.marks.Note.TheVariants.{Took, Brought, Ended}
 use Rattle.run_lock.specs.declared.tasks.Order.{Order}
 use Rattle.run_lock.specs.declared.tasks.Order.TheVariants as order
 use Rattle.run_lock.specs.declared.tasks.Task.{Task}
 use Rattle.run_lock.specs.declared.tasks.Task.TheVariants.{Fetch, Wait, End, Fail}
-use Rattle.run_lock.specs.Entries.{entry, Adds}
+use Rattle.run_lock.specs.Entries.{Adds}
 
 -- the entries after a worker was told what to do
 abbrev pub AfterTask : ℕ → Task → List Entry → List Entry → Type 0

@@ -1,4 +1,4 @@
-use Rattle.std.proofs.Common.{◌≡◌, ◌++◌, ◌+◌, List, length, drop, subst}
+use Rattle.std.proofs.Common.{◌≡◌, ◌++◌, List, length, drop, subst}
 use Rattle.run_lock.specs.declared.marks.Entry.{Entry}
 use Rattle.turn_lock.specs.Passes.{number_of, own_of, seen_by}
 use Rattle.run_lock.specs.Entries.{entries_of, own_by, Adds}

@@ -1,4 +1,4 @@
-use Rattle.std.proofs.Common.{◌≡◌, ◌++◌, ◌+◌, ◌<◌, List, length, drop, subst, sym}
+use Rattle.std.proofs.Common.{◌≡◌, ◌++◌, ◌<◌, List, length, drop, subst, sym}
 use Rattle.run_lock.specs.declared.marks.Entry.{Entry}
 use Rattle.turn_lock.specs.Passes.{number_of, own_of, seen_by}
 use Rattle.run_lock.specs.Entries.{entries_of, brought_in, own_by}

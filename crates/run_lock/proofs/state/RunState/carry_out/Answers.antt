@@ -1,4 +1,4 @@
-use Rattle.std.proofs.Common.{◌≡◌, ℕ, List, [], ◌∷◌, ◌++◌, ◌+◌, sym, ap, ◌∙◌, subst}
+use Rattle.std.proofs.Common.{◌≡◌, ℕ, List, [], ◌∷◌, ◌++◌, sym, ap, ◌∙◌, subst}
 use Rattle.journal_text.specs.declared.events.Event.{Event}
 use Rattle.journal_text.specs.Events.{now_of}
 use Rattle.journal_text.specs.Lines.{number}
@@ -8,7 +8,6 @@ use Rattle.run_lock.specs.declared.marks.Note.TheVariants.{Brought}
 use Rattle.run_lock.specs.Entries.{entries_of}
 use Rattle.run_lock.specs.Running.{Known, IsRun, marked_by}
 use Rattle.run_lock.proofs.EntryLemmas.{goes_one}
-use Rattle.run_lock.proofs.RunLemmas.{ended}
 use Rattle.scrape_machine.specs.Machine.{answer, world_of}
 use Rattle.run_lock.specs.Callers.{jobs_known}
 use Rattle.run_lock.specs.Entries.{own_by}

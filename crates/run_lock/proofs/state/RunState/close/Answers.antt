@@ -2,10 +2,9 @@ use Rattle.std.proofs.Common.{List, length, sym, ap, ◌∙◌, subst, pos}
 use Rattle.journal_text.specs.declared.events.Event.{Event}
 use Rattle.journal_text.specs.Events.{IsJournal, now_of}
 use Rattle.run_lock.specs.declared.marks.Mark.{Mark}
-use Rattle.run_lock.specs.declared.marks.Mark.TheVariants as mark
 use Rattle.run_lock.specs.Entries.{entries_of}
 use Rattle.run_lock.specs.Running.{Known}
-use Rattle.run_lock.proofs.RunLemmas.{ended, run_whole, halted_log, halted_seats, halted_other, halted_caller}
+use Rattle.run_lock.proofs.RunLemmas.{run_whole, halted_log, halted_seats, halted_other, halted_caller}
 use Rattle.scrape_core.specs.Records.{IsWhole}
 use Rattle.run_lock.specs.Entries.{seats_in, own_by}
 use Rattle.run_lock.specs.Held.{events_of}

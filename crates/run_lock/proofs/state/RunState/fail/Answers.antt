@@ -1,11 +1,10 @@
 use Rattle.std.proofs.Common.{List, sym, ap, ◌∙◌, subst}
 use Rattle.run_lock.specs.declared.marks.Mark.{Mark}
-use Rattle.run_lock.specs.declared.marks.Mark.TheVariants as mark
 use Rattle.run_lock.specs.declared.marks.Note.TheVariants.{Failed}
 use Rattle.run_lock.specs.Entries.{entries_of}
 use Rattle.run_lock.specs.Running.{Known, IsRun, marked_by}
 use Rattle.run_lock.proofs.EntryLemmas.{goes_one}
-use Rattle.run_lock.proofs.RunLemmas.{failed_log, run_failed, ended}
+use Rattle.run_lock.proofs.RunLemmas.{failed_log, run_failed}
 use Rattle.run_lock.proofs.state.RunState.fail.Goals as goal
 
 pub invariant_of-self-clause-run : goal.invariant_of-self-clause-run

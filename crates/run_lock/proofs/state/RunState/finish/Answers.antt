@@ -8,7 +8,7 @@ use Rattle.run_lock.specs.declared.marks.Note.TheVariants.{Brought}
 use Rattle.run_lock.specs.Entries.{entries_of}
 use Rattle.run_lock.specs.Running.{Known, IsRun, marked_by}
 use Rattle.run_lock.proofs.EntryLemmas.{goes_one}
-use Rattle.run_lock.proofs.RunLemmas.{ended, finished, finished_log, run_finished, slot_held}
+use Rattle.run_lock.proofs.RunLemmas.{finished, finished_log, run_finished, slot_held}
 use Rattle.run_lock.proofs.SlotLemmas.{held_left}
 use Rattle.run_lock.proofs.state.RunState.finish.Goals as goal
 

@@ -5,7 +5,7 @@ use Rattle.run_lock.specs.declared.marks.Mark.TheVariants as mark
 use Rattle.run_lock.specs.Entries.{entries_of}
 use Rattle.run_lock.specs.Running.{IsRun}
 use Rattle.run_lock.proofs.EntryLemmas.{entries_begun}
-use Rattle.run_lock.proofs.RunLemmas.{ended, run_first}
+use Rattle.run_lock.proofs.RunLemmas.{run_first}
 use Rattle.run_lock.proofs.RunLemmas.{fresh_known}
 use Rattle.run_lock.proofs.state.RunState.open.Goals as goal
 

@@ -10,7 +10,7 @@ use Rattle.run_lock.specs.Entries.{entries_of}
 use Rattle.run_lock.specs.Running.{Known, IsRun, marked_by}
 use Rattle.run_lock.specs.Tasks.{sweep_moment}
 use Rattle.run_lock.proofs.EntryLemmas.{goes_one}
-use Rattle.run_lock.proofs.RunLemmas.{ended, swept, swept_log, run_swept}
+use Rattle.run_lock.proofs.RunLemmas.{swept, swept_log, run_swept}
 use Rattle.scrape_core.specs.Records.{started_of}
 use Rattle.run_lock.proofs.state.RunState.sweep.Goals as goal
 

@@ -5,7 +5,7 @@ use Rattle.run_lock.specs.declared.marks.Note.TheVariants.{Took}
 use Rattle.run_lock.specs.Entries.{entries_of}
 use Rattle.run_lock.specs.Running.{Known, IsRun, marked_by}
 use Rattle.run_lock.proofs.EntryLemmas.{goes_one}
-use Rattle.run_lock.proofs.RunLemmas.{taken, took_log, run_took, ended}
+use Rattle.run_lock.proofs.RunLemmas.{taken, took_log, run_took}
 use Rattle.run_lock.proofs.state.RunState.take_ready.Goals as goal
 
 pub invariant_of-self-2-clause-run : goal.invariant_of-self-2-clause-run

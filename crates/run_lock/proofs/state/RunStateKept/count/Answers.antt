@@ -1,5 +1,4 @@
 use Rattle.std.proofs.Common.{◌≡◌, length, sym, ◌∙◌, rules, vec_len}
-use Rattle.run_lock.specs.declared.marks.Mark.TheVariants as mark
 use Rattle.run_lock.proofs.EntryLemmas.{entries_length}
 use Rattle.run_lock.proofs.state.RunStateKept.count.Goals as goal
 
