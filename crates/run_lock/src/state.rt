@@ -76,7 +76,7 @@ impl<L: Ledger, B: Asked> Kept for RunState<L, B> {
 
 impl<L: Ledger, B: Asked> RunState<L, B> {
     /// Whether every started scrape has its finish, and none will be started.
-    pub fn is_over(&self) -> bool {
+    pub(crate) fn is_over(&self) -> bool {
         self.next == self.started && self.sweeps_left == 0 && self.out == 0
     }
 
@@ -253,7 +253,7 @@ impl<L: Ledger, B: Asked> RunState<L, B> {
     }
 
     /// The moment to wait for before the next sweep: that at which a sweep would act, but no later than the longest wait. None where memory ran out.
-    pub fn plan(&self) -> Option<i64> {
+    pub(crate) fn plan(&self) -> Option<i64> {
         if self.failed {
             return None;
         }
