@@ -119,11 +119,15 @@ pub record IsIndex (entries : List Entry) (index : Index) : Type 0 where
   pub series : sets_of entries index.ends.items ≡ map Some (series_of entries)
   pub counted : length index.earlier.items ≡ length index.ends.items
   pub within : (place end : ℕ) → slice_get index.ends.items place ≡ Some end → end ≤ length entries
-  pub ends : (series : List Pair) → end_of index.ends.items (number_of entries index.ends.items series) ≡ kept_end entries (is_series series) (length entries)
+  pub ends : (series : List Pair) →
+      end_of index.ends.items (number_of entries index.ends.items series)
+      ≡ kept_end entries (is_series series) (length entries)
   pub alone : (series : List Pair) (place : ℕ) → passes_at (sets_of entries index.ends.items) (is_series series) place ≡ true →
       number_of entries index.ends.items series ≡ suc place
   pub earlier : (place : ℕ) → place < length index.ends.items →
-      slice_get index.earlier.items place ≡ Some (number_in (sets_of entries index.ends.items) (has_hash index.hasher (hash_at index.hasher (sets_of entries index.ends.items) place)) place)
+      slice_get index.earlier.items place
+          ≡ Some (number_in (sets_of entries index.ends.items)
+          (has_hash index.hasher (hash_at index.hasher (sets_of entries index.ends.items) place)) place)
   pub last : (hash : ℕ) → number_of_hash index hash ≡ number_in (sets_of entries index.ends.items) (has_hash index.hasher hash) (length index.ends.items)
 
 -- this is found of a series

@@ -37,7 +37,8 @@ impl Model for Book {
 
     ghost view = { λ b. record { entries = b.entries.items; spare = b.room; hasher = b.index.hasher } };
 
-    ghost invariant = { λ b. IsIndex b.entries.items b.index × (vec_len b.entries + b.room ≤ vec_capacity b.entries) × HasRoom b.room b.index × AreShort b.longest b.entries.items };
+    ghost invariant = { λ b. IsIndex b.entries.items b.index × (vec_len b.entries + b.room ≤ vec_capacity b.entries)
+        × HasRoom b.room b.index × AreShort b.longest b.entries.items };
 }
 
 fn value_len(value: &Option<ValueText>) -> usize
@@ -187,7 +188,8 @@ impl Book {
     /// The number of the series of the entry at a place: entries of one number have one label set. `None` exactly at or past the end.
     pub fn series_at(&self, place: usize) -> Option<usize>
         ensures some { is_some result ≡ is_some (slice_get self.now.entries place) }
-        ensures set { IfSome result (λ n. slice_get (series_words.series_of self.now.entries) n ≡ option_map (λ e. e.series) (slice_get self.now.entries place)) }
+        ensures set { IfSome result (λ n. slice_get (series_words.series_of self.now.entries) n
+            ≡ option_map (λ e. e.series) (slice_get self.now.entries place)) }
     {
         self.index.series_at(place)
     }

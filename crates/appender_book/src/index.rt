@@ -222,7 +222,8 @@ impl Index {
         requires { spec.HasSeriesRoom 1 self.old }
         ensures ends { self.new.ends.items ≡ self.old.ends.items ++ end ∷ [] }
         ensures earlier { self.new.earlier.items ≡ self.old.earlier.items ++ last ∷ [] }
-        ensures last { (h : ℕ) → spec.number_of_hash self.new h ≡ (if nat_eq h hash then length self.old.ends.items + 1 else spec.number_of_hash self.old h) }
+        ensures last { (h : ℕ) → spec.number_of_hash self.new h
+            ≡ (if nat_eq h hash then length self.old.ends.items + 1 else spec.number_of_hash self.old h) }
         ensures verdicts { self.new.verdicts ≡ self.old.verdicts }
         ensures places { self.new.places ≡ self.old.places }
         ensures hasher { self.new.hasher ≡ self.old.hasher }

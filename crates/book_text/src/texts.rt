@@ -76,7 +76,8 @@ fn push_text(bytes: &mut Vec<u8>, set: &LabelSet, room: usize) -> Result<Span, N
 impl Texts {
     /// Keeps the text of the series with a number, behind which none is kept so far.
     fn keep(&mut self, number: usize, set: &LabelSet) -> Result<(), NoMemory>
-        ensures { OnOk result ((series : List (List Pair)) → spec.AreTexts number series self.old → slice_get series number ≡ Some set.now → spec.AreTexts (number + 1) series self.new) }
+        ensures { OnOk result ((series : List (List Pair)) → spec.AreTexts number series self.old →
+            slice_get series number ≡ Some set.now → spec.AreTexts (number + 1) series self.new) }
     {
         let room = text_room(set)?;
         let limit = self.limit;
@@ -91,7 +92,8 @@ impl Texts {
     /// Keeps the text of the series of a book with a number.
     fn keep_of(&mut self, book: &Book, number: usize) -> Result<(), NoMemory>
         requires { number < length (series_of book.now.entries) }
-        ensures { OnOk result (spec.AreTexts number (series_of book.now.entries) self.old → spec.AreTexts (number + 1) (series_of book.now.entries) self.new) }
+        ensures { OnOk result (spec.AreTexts number (series_of book.now.entries) self.old →
+            spec.AreTexts (number + 1) (series_of book.now.entries) self.new) }
     {
         match book.entry_of(number) {
             Some(entry) => self.keep(number, &entry.series),

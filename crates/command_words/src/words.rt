@@ -68,7 +68,8 @@ impl Model for Workload {
 
     ghost view = { λ w. plan w.seed w.targets w.scrapes };
 
-    ghost invariant = { λ w. (1 ≤ w.targets) × (w.targets ≤ most_targets) × (w.scrapes ≤ most_scrapes) × (w.targets * w.scrapes ≤ most_scrapes_of_all) };
+    ghost invariant = { λ w. (1 ≤ w.targets) × (w.targets ≤ most_targets) × (w.scrapes ≤ most_scrapes)
+        × (w.targets * w.scrapes ≤ most_scrapes_of_all) };
 }
 
 impl Workload {

@@ -123,7 +123,8 @@ fn valued<'b>(
     quoted: &'b [u8],
 ) -> Result<(LentLabel<'b>, &'b [u8]), Fault>
     requires { IsTrue (spec.is_exposed_name name.now) }
-    ensures label { let said = spec.valued_label name.now (text_in quoted.now) in MatchResult result (λ r. said ≡ Some (r.0, r.1.now)) (λ f. FaultIs f said) }
+    ensures label { let said = spec.valued_label name.now (text_in quoted.now) in
+        MatchResult result (λ r. said ≡ Some (r.0, r.1.now)) (λ f. FaultIs f said) }
     ensures shorter { IfOk result (λ r. length r.1.now < length quoted.now) }
 {
     if let Some(value) = quick_text(quoted) {
@@ -156,7 +157,9 @@ fn push_label<'b>(
     text: &'b [u8],
     labels: &mut Vec<LentLabel<'b>>,
 ) -> Result<&'b [u8], Fault>
-    ensures label { MatchResult result (λ rest. (p : Pair) × (spec.label_in text.now ≡ Some (p, rest.now)) × (labels.new.items ≡ labels.old.items ++ p ∷ [])) (λ f. FaultIs f (spec.label_in text.now)) }
+    ensures label { MatchResult result
+        (λ rest. (p : Pair) × (spec.label_in text.now ≡ Some (p, rest.now))
+        × (labels.new.items ≡ labels.old.items ++ p ∷ [])) (λ f. FaultIs f (spec.label_in text.now)) }
     ensures shorter { IfOk result (λ rest. length rest.now < length text.now) }
 {
     let Some(name) = exposed_in(text) else {
@@ -181,7 +184,9 @@ pub fn labels_in<'b>(
     text: &'b [u8],
     labels: &mut Vec<LentLabel<'b>>,
 ) -> Result<&'b [u8], Fault>
-    ensures labels { MatchResult result (λ rest. (more : List Pair) × (spec.all_labels_in text.now ≡ Some (more, rest.now)) × (labels.new.items ≡ labels.old.items ++ more)) (λ f. FaultIs f (spec.all_labels_in text.now)) }
+    ensures labels { MatchResult result
+        (λ rest. (more : List Pair) × (spec.all_labels_in text.now ≡ Some (more, rest.now))
+        × (labels.new.items ≡ labels.old.items ++ more)) (λ f. FaultIs f (spec.all_labels_in text.now)) }
     ensures shorter { IfOk result (λ rest. length rest.now < length text.now) }
 {
     let mut left = text;

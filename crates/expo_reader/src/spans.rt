@@ -97,7 +97,9 @@ pub(crate) fn line_parts<'b>(
 ) -> Result<LineSpan, Fault>
     requires bare { blank_len line.now ≡ 0 }
     requires few { length line.now < 2 ^ 32 }
-    ensures said { (number : ℕ) → MatchResult result (λ s. spec.sample_in number line.now ≡ Some (seen.row_at number line.now s)) (λ f. FaultIs f (spec.sample_in number line.now)) }
+    ensures said { (number : ℕ) → MatchResult result
+        (λ s. spec.sample_in number line.now ≡ Some (seen.row_at number line.now s))
+        (λ f. FaultIs f (spec.sample_in number line.now)) }
     ensures inside { IfOk result (λ s. seen.IsInside (length line.now) s) }
 {
     let Some(name) = metric_in(line) else {
@@ -129,7 +131,8 @@ fn read_parts<'b, T: RawTexts>(
     labels: &mut Vec<LentLabel<'b>>,
 ) -> Result<(Option<(usize, LineSpan)>, u32), BodyCause>
     requires { length line.now < 2 ^ 32 }
-    ensures said { MatchResult result (λ r. line_reading number line.now ≡ Ok (seen.span_row number line.now r.0)) (λ c. CauseIs c (line_reading number line.now)) }
+    ensures said { MatchResult result (λ r. line_reading number line.now ≡ Ok (seen.span_row number line.now r.0))
+        (λ c. CauseIs c (line_reading number line.now)) }
     ensures inside { IfOk result (λ r. IfSome r.0 (λ p. (p.0 ≤ length line.now) × seen.IsInside (length line.now - p.0) p.1)) }
     ensures like { IfOk result (λ r. IfSome r.0 (λ p. IsLike (T.texts like.now) r.1 (take p.1.raw_len (drop p.0 line.now)))) }
 {

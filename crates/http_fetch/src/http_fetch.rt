@@ -45,11 +45,20 @@ impl<L: Link, K: Clock> Fetch for HttpFetch<L, K> {
         requires timeout { IsTimeout request.now.timeout }
         ensures limits { IfOk result (λ f. IsInLimits f) }
         ensures unsent { IfOk result (λ f. IsUnsentRightly request.now f) }
-        ensures counts { IfOk result (λ f. CountsReply f.reply (used (fetch_seen self.old.told.items (L.seen self.old.link)) (fetch_seen self.new.told.items (L.seen self.new.link)))) }
-        ensures told { IfOk result (λ f. Tells request.now f (used (fetch_seen self.old.told.items (L.seen self.old.link)) (fetch_seen self.new.told.items (L.seen self.new.link)))) }
-        ensures none { OnErr result (IsUntouched (used (fetch_seen self.old.told.items (L.seen self.old.link)) (fetch_seen self.new.told.items (L.seen self.new.link)))) }
-        ensures reply { request.now.scheme ≡ Http → IfOk result (λ f. IsReplyOf request.now.limit f.reply (used (L.seen self.old.link) (L.seen self.new.link))) }
-        ensures sent { request.now.scheme ≡ Http → IfOk result (λ f. SendsRequest request.now f.reply (used (L.seen self.old.link) (L.seen self.new.link))) }
+        ensures counts { IfOk result (λ f. CountsReply f.reply
+            (used (fetch_seen self.old.told.items (L.seen self.old.link))
+            (fetch_seen self.new.told.items (L.seen self.new.link)))) }
+        ensures told { IfOk result (λ f. Tells request.now f
+            (used (fetch_seen self.old.told.items (L.seen self.old.link))
+            (fetch_seen self.new.told.items (L.seen self.new.link)))) }
+        ensures none { OnErr result (IsUntouched
+            (used (fetch_seen self.old.told.items (L.seen self.old.link))
+            (fetch_seen self.new.told.items (L.seen self.new.link)))) }
+        ensures reply { request.now.scheme ≡ Http →
+            IfOk result (λ f. IsReplyOf request.now.limit f.reply
+            (used (L.seen self.old.link) (L.seen self.new.link))) }
+        ensures sent { request.now.scheme ≡ Http →
+            IfOk result (λ f. SendsRequest request.now f.reply (used (L.seen self.old.link) (L.seen self.new.link))) }
         ensures took { request.now.scheme ≡ Http → IfOk result (λ f. WasTimed f.took (used (K.seen self.old.clock) (K.seen self.new.clock))) }
         ensures hung_up { request.now.scheme ≡ Http → OnOk result ((L.seen self.new.link).dialled ≡ false) }
         ensures quiet { (L.seen self.old.link).dialled ≡ false → (L.seen self.new.link).dialled ≡ false }

@@ -215,7 +215,8 @@ impl Threads {
         moment: i64,
     ) -> Result<Option<ViewRow>, NoMemory>
         requires { spec.IsThreaded self.now }
-        ensures { let kept = self.now.kept.items in (s : List Pair) → spec.IsLastOf kept s (length kept) end → IfOk result (λ o. spec.IsRowOf kept moment s o) }
+        ensures { let kept = self.now.kept.items in (s : List Pair) → spec.IsLastOf kept s (length kept) end →
+            IfOk result (λ o. spec.IsRowOf kept moment s o) }
     {
         let end = end_by(&self.kept, &self.links, end, moment);
         let Some(place) = end.checked_sub(1) else {

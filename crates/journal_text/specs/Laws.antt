@@ -15,4 +15,5 @@ BeginAlike = (es fs : List Event) (rest : List ℕ) → IsJournal es → IsJourn
 -- an event's spelling begins with that of no other event, and is no longer than its own
 abbrev pub StandApart : Type 0
 StandApart =
-    (e f : Event) (rest : List ℕ) → IsInLimits e → HasNames e → IsInLimits f → HasNames f → spelling e ++ rest ≡ spelling f → (e ≡ f) × (rest ≡ [])
+    (e f : Event) (rest : List ℕ) → IsInLimits e → HasNames e → IsInLimits f → HasNames f →
+        spelling e ++ rest ≡ spelling f → (e ≡ f) × (rest ≡ [])

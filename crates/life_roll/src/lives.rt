@@ -84,7 +84,9 @@ pub(crate) fn open_seats(
     wishes: &Wishes,
     lives: &[Life],
 ) -> Result<Seats, NoMemory>
-    ensures { IfOk result (λ seats. IsSeats seats (λ job identity. list_any (spec.is_open_at job identity) (map (spec.life_after moment (found wishes.now)) lives.now))) }
+    ensures { IfOk result (λ seats. IsSeats seats
+        (λ job identity. list_any (spec.is_open_at job identity)
+        (map (spec.life_after moment (found wishes.now)) lives.now))) }
 {
     let mut seats = Seats::new(alloc);
     for life in lives {
@@ -103,7 +105,9 @@ fn push_begun(
     taken: &Seats,
 ) -> Result<(), NoMemory>
     requires { HasInterval entry.now }
-    ensures { OnOk result (lives.new.items ≡ (if has_seat taken.now entry.now.job entry.now.identity then lives.old.items else lives.old.items ++ spec.begun_life moment entry.now ∷ [])) }
+    ensures { OnOk result (lives.new.items
+        ≡ (if has_seat taken.now entry.now.job entry.now.identity then lives.old.items
+        else lives.old.items ++ spec.begun_life moment entry.now ∷ [])) }
 {
     let seat = entry.seat()?;
     if !taken.has(&seat) {

@@ -239,7 +239,9 @@ impl Roll {
         ensures begun { IfOk result (λ s. s.begun ≡ length (spec.news_after moment wanted.now self.old.lives)) }
         ensures single { AreDifferent wanted.now → HaveOneEach self.old.lives → OnOk result (AreOpen wanted.now self.new.lives) }
         ensures started { self.new.started ≡ self.old.started }
-        ensures flights { OnOk result ((k : ℕ) → flights.flight_of self.new k ≡ option_map (flights.flight_after (terms_at wanted.now) self.old.lives) (flights.flight_of self.old k)) }
+        ensures flights { OnOk result ((k : ℕ) →
+            flights.flight_of self.new k ≡ option_map (flights.flight_after (terms_at wanted.now) self.old.lives)
+            (flights.flight_of self.old k)) }
         ensures room { self.new.spare ≡ self.old.spare }
         ensures err { OnErr result (self.new ≡ self.old) }
     {

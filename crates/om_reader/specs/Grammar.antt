@@ -45,7 +45,8 @@ IsExemplar bs =
 abbrev pub IsLabelled : List ℕ → List Pair → Type 0
 IsLabelled bs labels = ((bs ≡ []) × (labels ≡ [])) ⊎ (IsBraces bs labels × (has_metric_label labels ≡ false))
 
--- a sample line with its row ("ABNF", `sample = metricname [labels] SP number [SP timestamp] [exemplar] LF`): a metric name, labels or none, a value and a timestamp or none, an exemplar or none
+-- a sample line with its row ("ABNF", `sample = metricname [labels] SP number [SP timestamp] [exemplar] LF`): a
+-- metric name, labels or none, a value and a timestamp or none, an exemplar or none
 abbrev pub IsSample : ℕ → List ℕ → BodyRow → Type 0
 IsSample number line row =
     (braces : List ℕ) × (measure : List ℕ) × (exemplar : List ℕ)

@@ -68,7 +68,9 @@ fn behind(bytes: &[u8], place: usize) -> &[u8]
 
 /// Adds a sample as a line.
 fn push_line(text: &mut Vec<u8>, line: Line<'_>) -> Result<(), NoMemory>
-    ensures { OnOk result (text.new.items ≡ text.old.items ++ spec.line_text line.entry.raw.now line.entry.value.now (option_map millis_of line.entry.stamp)) }
+    ensures { OnOk result (text.new.items
+        ≡ text.old.items ++ spec.line_text line.entry.raw.now line.entry.value.now
+        (option_map millis_of line.entry.stamp)) }
 {
     text.extend_from_slice(line.raw)?;
     text.push(b' ')?;

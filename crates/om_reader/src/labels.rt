@@ -68,7 +68,8 @@ fn name_at(text: &[u8]) -> Option<Part<'_>>
 /// What follows the text in quotes of a label with that name.
 fn valued<'b>(name: &[u8], quoted: &'b [u8], room: &mut Vec<u8>) -> Result<&'b [u8], Fault>
     requires { IsTrue (is_label_name name.now) }
-    ensures label { let said = spec.valued_label name.now (plain.text_at quoted.now) in MatchResult result (λ r. IsLabelOf name.now said r.now) (λ f. FaultIs f said) }
+    ensures label { let said = spec.valued_label name.now (plain.text_at quoted.now) in
+        MatchResult result (λ r. IsLabelOf name.now said r.now) (λ f. FaultIs f said) }
     ensures shorter { IfOk result (λ rest. length rest.now < length quoted.now) }
 {
     let Some(value) = text_at(quoted) else {
@@ -105,7 +106,8 @@ fn push_label<'b>(text: &'b [u8], room: &mut Room<'b>) -> Result<&'b [u8], Fault
 
 /// Adds the names of the labels in front, one at least, and gives what follows the `}` behind them.
 fn push_labels<'b>(text: &'b [u8], room: &mut Room<'b>) -> Result<&'b [u8], Fault>
-    ensures labels { let said = spec.labels_at (length text.now + 1) text.now in MatchResult result (λ r. AddsLabels said r.now room.old room.new) (λ f. FaultIs f said) }
+    ensures labels { let said = spec.labels_at (length text.now + 1) text.now in
+        MatchResult result (λ r. AddsLabels said r.now room.old room.new) (λ f. FaultIs f said) }
     ensures shorter { IfOk result (λ rest. length rest.now < length text.now) }
 {
     let mut left = text;

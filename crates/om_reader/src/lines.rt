@@ -34,7 +34,8 @@ fn has_stamp(text: &[u8]) -> bool
 /// A space, a value, and a space and a timestamp or nothing.
 #[tactic(auto, unfolding(crate::specs::Forms::measure_at, crate::specs::Forms::stamp_at))]
 fn measure_at(text: &[u8]) -> Option<Measure<'_>>
-    ensures { let said = spec.measure_at text.now in MatchOption result (said ≡ None) (λ m. said ≡ Some (m.value.now, option_map millis_of m.stamp, m.rest.now)) }
+    ensures { let said = spec.measure_at text.now in
+        MatchOption result (said ≡ None) (λ m. said ≡ Some (m.value.now, option_map millis_of m.stamp, m.rest.now)) }
 {
     let Some(field) = field_at(text) else {
         return None;
@@ -130,7 +131,9 @@ fn after_labels<'b>(alloc: Global, rest: &'b [u8], room: &mut Room<'b>) -> Resul
 
 /// The sample of a line.
 pub fn sample_at<'b>(alloc: Global, line: &'b [u8], room: &mut Room<'b>) -> Result<Line<'b>, Fault>
-    ensures { let said = spec.sample_at line.now in MatchResult result (λ l. IsSampleOf l.raw.now l.value.now (option_map millis_of l.stamp) said) (λ f. FaultIs f said) }
+    ensures { let said = spec.sample_at line.now in
+        MatchResult result (λ l. IsSampleOf l.raw.now l.value.now (option_map millis_of l.stamp) said)
+        (λ f. FaultIs f said) }
 {
     let Some(name) = metric_at(line) else {
         return Err(Fault::Faulty);

@@ -1,4 +1,5 @@
-//! What the scrape manager has around it: the requests of scrapes and what came back for them, and the files, sinks, inputs, clocks and links that it is handed.
+//! What the scrape manager has around it: the requests of scrapes and what came back for them, and the files, sinks,
+//! inputs, clocks and links that it is handed.
 //! It also says how a scheme is written, and how long what is handed in may be.
 //! The crates that decide know these types alone, so they reach no file, socket or clock: each object is a trait, with objects in memory
 //! that tell all that they hold, and thin adapters over the real things, which tell nothing.

@@ -35,7 +35,8 @@ impl Model for ReportSets {
 
     ghost view = { λ s. s.target };
 
-    ghost invariant = { λ s. let set = report_set s.target in (s.up ≡ set Up) × (s.duration ≡ set Duration) × (s.scraped ≡ set Scraped) × (s.left ≡ set Left)
+    ghost invariant = { λ s. let set = report_set s.target in
+        (s.up ≡ set Up) × (s.duration ≡ set Duration) × (s.scraped ≡ set Scraped) × (s.left ≡ set Left)
         × (s.added ≡ set Added) × IfSome s.extra (λ e. e ≡ s.target) };
 }
 

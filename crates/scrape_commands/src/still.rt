@@ -121,8 +121,9 @@ pub fn status_at(end: &Result<(), Refusal>) -> u8
 /// `ended` is that table; `printed`, `unwritten`, `complete` and `later` are what a reader looks for first, and follow from it. What each status
 /// says, taken alone, is `causes`. Trail and control are left as they are (`trail`, `control`). What a run whose trail was cut leaves behind replays to
 /// a front of what the run would have printed (`cuts`).
-/// `markers`, `closed_runs`, `report_markers` and `late` hold of every journal, so of the one that a script spells: in the book that is printed each closed run of a tracked series
-/// has exactly one stale marker, after it, no marker stands elsewhere, and a fetch that was cancelled adds nothing.
+/// `markers`, `closed_runs`, `report_markers` and `late` hold of every journal, so of the one that a script spells:
+/// in the book that is printed each closed run of a tracked series has exactly one stale marker, after it, no marker
+/// stands elsewhere, and a fetch that was cancelled adds nothing.
 pub fn tool_still<S: Shelf, O: Sink, E: Sink, R: Sink, C: Source>(
     means: Means,
     words: &[String],

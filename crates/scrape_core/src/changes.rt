@@ -73,7 +73,8 @@ fn change_to(
     ensures each { IfOk result (λ c. length c.fates.items ≡ length (filter lives_of.is_open lives.now.all)) }
     ensures lives { IfOk result (λ c. plan.after_each moment (concerned.all_fates lives_of.is_open c.fates.items lives.now.all) lives.now.all
         ≡ reloads.reload_lives moment news.now (spec.world olds.now lives.now.all [])) }
-    ensures closed { IfOk result (λ c. length (filter plan.closes c.fates.items) ≡ reloads.closed_by moment news.now (spec.world olds.now lives.now.all [])) }
+    ensures closed { IfOk result (λ c. length (filter plan.closes c.fates.items)
+        ≡ reloads.closed_by moment news.now (spec.world olds.now lives.now.all [])) }
     ensures begun { IfOk result (λ c. c.begun.items ≡ reloads.reload_births moment news.now (spec.world olds.now lives.now.all [])) }
 {
     let names = names_of(alloc, news)?;

@@ -85,6 +85,7 @@ ApartRunsLaw journal other = (es fs : List Event) (n k : ℕ) →
 -- where a reload after a journal, or any other event, is nothing to a life, the life's entries in the book are those without it, given that later on it meets
 -- the same scans and replies, and the same state of its job's target limit
 unfoldable pub ReloadLaw : List Event → Event → Type 0
-ReloadLaw journal e = (n : ℕ) (l : Life) (es fs : List Event) → slice_get (world_of journal).lives n ≡ Some l → is_nothing (world_of journal) e n l ≡ true →
+ReloadLaw journal e = (n : ℕ) (l : Life) (es fs : List Event) → slice_get (world_of journal).lives n ≡ Some l →
+    is_nothing (world_of journal) e n l ≡ true →
     met (world_of (journal ++ e ∷ [])) n es ≡ met (world_of journal) n fs →
     filter (is_entry_of n) (book_of (journal ++ e ∷ es)) ≡ filter (is_entry_of n) (book_of (journal ++ fs))

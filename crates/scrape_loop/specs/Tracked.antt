@@ -72,8 +72,9 @@ abbrev pub known_after : List (List Pair) → Scrape → List (List Pair)
 known_after known (Good rows scraped) = all_sets (Good rows scraped)
 known_after known (Bad f scraped left) = known
 
--- the state of a life by its number, its target's labels, whether it has the extra reports, what is known of raw texts, and whether a scrape of it counted: the texts tell
--- the sets that its last counted scrape tracked, and all sets of its last good one
+-- the state of a life by its number, its target's labels, whether it has the extra reports, what is known of raw
+-- texts, and whether a scrape of it counted: the texts tell the sets that its last counted scrape tracked, and all
+-- sets of its last good one
 abbrev pub life_of : ℕ → List Pair → Bool → CacheView → Bool → LifeView
 life_of life target extra c scraped =
     record {

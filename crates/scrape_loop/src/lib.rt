@@ -3,9 +3,10 @@
 //! A raw text that the last good scrape showed costs no relabelling: its series is known.
 //! A scrape is counted by its reply, whose body is read before.
 //! Contracts see a life's state as the record of its number, its target's labels, the sets that its last counted scrape tracked, all sets of its last
-//! good one, what is known of its raw texts, and whether a scrape of it counted; `specs/Tracked.antt` says what a scrape makes of it,
-//! `specs/Texts.antt` what its rows show of raw texts, `specs/Shown.antt` what those tell of its sets, `specs/Entries.antt` which entries it appends, and `specs/Closings.antt` what a life
-//! leaves behind when it is closed.
+//! good one, what is known of its raw texts, and whether a scrape of it counted; `specs/Tracked.antt` says what a
+//! scrape makes of it, `specs/Texts.antt` what its rows show of raw texts, `specs/Shown.antt` what those tell of its
+//! sets, `specs/Entries.antt` which entries it appends, and `specs/Closings.antt` what a life leaves behind when it
+//! is closed.
 //! Tests: `tests_deciding::scrapes`; cases: `scrape_cases::{scripts, texts}`.
 #![tactic(auto)]
 

@@ -97,8 +97,12 @@ fn append(
     requires shows { Shows cache.now scrape }
     requires took { pos 0 ≤ℤ took }
     requires timeout { IfSome extra (λ e. pos 0 ≤ℤ e.timeout) }
-    ensures entries { OnOk result (book.new.entries ≡ book.old.entries ++ entries_of (spec.life_of past.now.life past.now.target past.now.extra cache.now past.now.scraped) extra scrape moment took) }
-    ensures spare { OnOk result (book.old.spare ≤ book.new.spare + length (entries_of (spec.life_of past.now.life past.now.target past.now.extra cache.now past.now.scraped) extra scrape moment took)) }
+    ensures entries { OnOk result (book.new.entries ≡ book.old.entries
+        ++ entries_of (spec.life_of past.now.life past.now.target past.now.extra cache.now past.now.scraped)
+            extra scrape moment took) }
+    ensures spare { OnOk result (book.old.spare ≤ book.new.spare + length (entries_of
+        (spec.life_of past.now.life past.now.target past.now.extra cache.now past.now.scraped)
+        extra scrape moment took)) }
     ensures err { OnErr result (book.new ≡ book.old) }
 {
     let entries = past.entries_of(alloc, cache, scrape, extra, moment, took)?;

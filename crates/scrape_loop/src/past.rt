@@ -38,7 +38,9 @@ impl Past {
         requires shows { Shows cache.now scrape }
         requires took { pos 0 ≤ℤ took }
         requires timeout { IfSome extra (λ e. pos 0 ≤ℤ e.timeout) }
-        ensures { IfOk result (λ l. l ≡ spec.entries_of (life_of self.now.life self.now.target self.now.extra cache.now self.now.scraped) extra scrape moment took) }
+        ensures { IfOk result (λ l. l ≡ spec.entries_of
+            (life_of self.now.life self.now.target self.now.extra cache.now self.now.scraped)
+            extra scrape moment took) }
     {
         let counts = counts_of(alloc, cache, &scrape, extra, took)?;
         let mut items = samples_and_markers(alloc, self.life, moment, cache, scrape)?;

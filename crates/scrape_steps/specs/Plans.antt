@@ -65,7 +65,8 @@ IsHeld seats names ls = (place : ℕ) (identity : List Pair) → has_seat seats 
 
 -- held targets with that of a life, if it is open
 abbrev pub IsHeldWith : Seats → Seats → List (List ℕ) → Life → Type 0
-IsHeldWith new old names l = (place : ℕ) (identity : List Pair) → has_seat new place identity ≡ (sits names place identity l || has_seat old place identity)
+IsHeldWith new old names l = (place : ℕ) (identity : List Pair) →
+    has_seat new place identity ≡ (sits names place identity l || has_seat old place identity)
 
 -- a life is closed
 abbrev pub closes : Fate → Bool

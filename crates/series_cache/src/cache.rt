@@ -136,7 +136,9 @@ impl SeriesCache {
         ensures kept { self.new.kept ≡ self.old.kept }
         ensures known { (r : List ℕ) → spec.look_up r self.new.texts ≡ spec.look_up r self.old.texts }
         ensures was { spec.was_sets self.new.texts ≡ spec.was_sets self.old.texts }
-        ensures tracked { IfSome (spec.look_up raw.now self.old.texts) (λ set. (x : List Pair) → has x (spec.now_sets self.new.texts) ≡ has x (spec.now_sets self.old.texts ++ spec.set_if tracked set)) }
+        ensures tracked { IfSome (spec.look_up raw.now self.old.texts)
+            (λ set. (x : List Pair) → has x (spec.now_sets self.new.texts)
+            ≡ has x (spec.now_sets self.old.texts ++ spec.set_if tracked set)) }
     {
         self.expected = self.texts.show(raw, self.expected, tracked);
     }
@@ -197,7 +199,8 @@ impl SeriesCache {
     /// is tracked. It takes no memory.
     pub fn turn(&mut self, good: bool)
         ensures turned { self.new ≡ spec.turned good self.old }
-        ensures known { (r : List ℕ) (set : Option (List Pair)) → spec.look_up r self.new.texts ≡ Some set → spec.look_up r self.old.texts ≡ Some set }
+        ensures known { (r : List ℕ) (set : Option (List Pair)) → spec.look_up r self.new.texts ≡ Some set →
+            spec.look_up r self.old.texts ≡ Some set }
         ensures was { spec.was_sets self.new.texts ≡ (if good then spec.now_sets self.old.texts else []) }
         ensures tracked { spec.now_sets self.new.texts ≡ [] }
     {
@@ -211,7 +214,8 @@ impl SeriesCache {
     /// Ends a good scrape.
     fn renew(&mut self)
         ensures turned { self.new ≡ spec.turned true self.old }
-        ensures known { (r : List ℕ) (set : Option (List Pair)) → spec.look_up r self.new.texts ≡ Some set → spec.look_up r self.old.texts ≡ Some set }
+        ensures known { (r : List ℕ) (set : Option (List Pair)) → spec.look_up r self.new.texts ≡ Some set →
+            spec.look_up r self.old.texts ≡ Some set }
         ensures was { spec.was_sets self.new.texts ≡ spec.now_sets self.old.texts }
         ensures tracked { spec.now_sets self.new.texts ≡ [] }
     {
@@ -223,7 +227,8 @@ impl SeriesCache {
     /// Ends a failed scrape.
     fn fail(&mut self)
         ensures turned { self.new ≡ spec.turned false self.old }
-        ensures known { (r : List ℕ) (set : Option (List Pair)) → spec.look_up r self.new.texts ≡ Some set → spec.look_up r self.old.texts ≡ Some set }
+        ensures known { (r : List ℕ) (set : Option (List Pair)) → spec.look_up r self.new.texts ≡ Some set →
+            spec.look_up r self.old.texts ≡ Some set }
         ensures was { spec.was_sets self.new.texts ≡ [] }
         ensures tracked { spec.now_sets self.new.texts ≡ [] }
     {
@@ -235,7 +240,8 @@ impl SeriesCache {
     /// Takes back whatever was put and shown since the last turn. It takes no memory.
     pub fn undo(&mut self)
         ensures undone { self.new ≡ spec.undone self.old }
-        ensures known { (r : List ℕ) (set : Option (List Pair)) → spec.look_up r self.new.texts ≡ Some set → spec.look_up r self.old.texts ≡ Some set }
+        ensures known { (r : List ℕ) (set : Option (List Pair)) → spec.look_up r self.new.texts ≡ Some set →
+            spec.look_up r self.old.texts ≡ Some set }
         ensures was { spec.was_sets self.new.texts ≡ spec.was_sets self.old.texts }
         ensures tracked { spec.now_sets self.new.texts ≡ [] }
     {

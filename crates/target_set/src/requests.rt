@@ -134,7 +134,9 @@ fn push_name<'a>(
     set: Option<&'a str>,
     values: &'a [Name],
 ) -> Result<(), NoMemory>
-    ensures { OnOk result (map spec.texts pairs.new.items ≡ map spec.texts pairs.old.items ++ spec.each_of name.now (spec.with_first_value (option_map (λ v. v.now) set.entry) values.now)) }
+    ensures { OnOk result (map spec.texts pairs.new.items
+        ≡ map spec.texts pairs.old.items
+        ++ spec.each_of name.now (spec.with_first_value (option_map (λ v. v.now) set.entry) values.now)) }
 {
     let Some(value) = set else {
         return push_values(pairs, name, values);

@@ -119,7 +119,8 @@ fn longer(total: u64, digits: &[u8], unit: Unit) -> Option<u64>
     requires within { total ≤ 2 ^ 40 }
     requires some { 0 < length digits.now }
     requires digits { all_ascii_digits digits.now ≡ true }
-    ensures { SomeIff result (total + digits_value 10 digits.now * spec.unit_millis unit ≤ 2 ^ 40) (total + digits_value 10 digits.now * spec.unit_millis unit) }
+    ensures { SomeIff result (total + digits_value 10 digits.now * spec.unit_millis unit ≤ 2 ^ 40)
+        (total + digits_value 10 digits.now * spec.unit_millis unit) }
 {
     let part = number_of(digits)?.checked_mul(unit.millis())?;
     if part <= LONGEST - total {
