@@ -1,10 +1,12 @@
 //! Bodies in, rows out. Which lines are of the format, and which are faulty, the cases show.
 
+use crate::shared::{are_bytes, holds};
 use expo_reader::{
     BodyCause, BodyReader, BodyRow, LikeBody, ReadBody, SampleRow, Unread, read_body, read_like,
 };
 use label_set::{Blob, NoMemory};
 use std::alloc::{AllocError, Global};
+use std::process::Abort;
 use std::test::Fail;
 
 /// Adds bytes and what stands behind them.
@@ -74,20 +76,21 @@ fn body_of(alloc: Global, text: &[u8]) -> Result<ReadBody, Unread> {
     }
 }
 
-#[test]
-fn a_body_is_read(rt: HostRuntime) -> Result<(), Fail> {
-    let Ok(body) = body_of(rt.alloc(), BODY.as_bytes()) else {
-        panic!(rt; "its lines are of the format");
-    };
-    assert_eq!(rt; shown(rt.alloc(), &body)?.as_slice(), ROWS.as_bytes());
-    let rows = body.rows(rt.alloc())?;
-    assert_eq!(rt;
-        shown_copies(rt.alloc(), rows.as_slice())?.as_slice(),
-        COPIES.as_bytes()
-    );
-    assert_eq!(rt; body.bytes().len(), BODY.len());
-    assert_eq!(rt; body.into_bytes().as_slice(), BODY.as_bytes());
+/// Ends the test where a body doesn't show its rows, the copies of them and its bytes.
+fn has_its_rows(rt: &impl Abort, alloc: Global, body: ReadBody) -> Result<(), NoMemory> {
+    are_bytes(rt, &shown(alloc, &body)?, ROWS.as_bytes());
+    let copies = shown_copies(alloc, body.rows(alloc)?.as_slice())?;
+    are_bytes(rt, &copies, COPIES.as_bytes());
+    holds(rt, body.bytes().len() == BODY.len(), "its length");
+    are_bytes(rt, body.into_bytes().as_slice(), BODY.as_bytes());
     Ok(())
+}
+
+fn a_body_is_read(rt: &impl Abort, alloc: Global) -> Result<(), NoMemory> {
+    match body_of(alloc, BODY.as_bytes()) {
+        Ok(body) => has_its_rows(rt, alloc, body),
+        Err(_) => panic!(rt; "its lines are of the format"),
+    }
 }
 
 /// The body of two pieces.
@@ -105,11 +108,9 @@ fn shown_cut(alloc: Global, cut: usize) -> Result<Vec<u8>, NoMemory> {
     shown(alloc, &body)
 }
 
-#[test]
-fn where_a_body_is_cut_makes_no_difference(rt: HostRuntime) -> Result<(), Fail> {
+fn where_a_body_is_cut_makes_no_difference(rt: &impl Abort, alloc: Global) -> Result<(), NoMemory> {
     for cut in 0..=BODY.len() {
-        let text = shown_cut(rt.alloc(), cut)?;
-        assert_eq!(rt; text.as_slice(), ROWS.as_bytes(), "cut at {cut}");
+        are_bytes(rt, &shown_cut(alloc, cut)?, ROWS.as_bytes());
     }
     Ok(())
 }
@@ -160,26 +161,24 @@ fn labels_of_first_row(alloc: Global, text: &str) -> Result<usize, NoMemory> {
     first_count(alloc, &body)
 }
 
-#[test]
-fn bytes_that_are_not_read_are_handed_back(rt: HostRuntime) -> Result<(), Fail> {
-    {
-        let text = b"x{a=\"\xff\"} 1\n".as_slice();
-        let bytes = Blob::from_slice(rt.alloc(), text)?;
-        assert!(rt; is_handed_back(read_body(rt.alloc(), bytes), text));
-        assert_eq!(rt;
-            cause(rt.alloc(), b"x 1\n\n# c\nx{,} 1\nx{"),
-            Some(BodyCause::Line(4))
-        );
-    }
-    {
-        let good = many_labels(rt.alloc(), "")?;
-        assert_eq!(rt; labels_of_first_row(rt.alloc(), good.as_str())?, 20);
-        let bad = many_labels(rt.alloc(), "l3=\"\"")?;
-        assert_eq!(rt;
-            cause(rt.alloc(), bad.as_str().as_bytes()),
-            Some(BodyCause::Line(1))
-        );
-    }
+fn bytes_that_are_not_read_are_handed_back(rt: &impl Abort, alloc: Global) -> Result<(), NoMemory> {
+    let text = b"x{a=\"\xff\"} 1\n".as_slice();
+    let bytes = Blob::from_slice(alloc, text)?;
+    let is_so = is_handed_back(read_body(alloc, bytes), text);
+    holds(rt, is_so, "bytes that are no text");
+    let faulty = cause(alloc, b"x 1\n\n# c\nx{,} 1\nx{");
+    holds(rt, faulty == Some(BodyCause::Line(4)), "line 4");
+    Ok(())
+}
+
+fn many_labels_are_read(rt: &impl Abort, alloc: Global) -> Result<(), NoMemory> {
+    let good = many_labels(alloc, "")?;
+    let count = labels_of_first_row(alloc, good.as_str())?;
+    holds(rt, count == 20, "twenty labels");
+    drop(good);
+    let bad = many_labels(alloc, "l3=\"\"")?;
+    let faulty = cause(alloc, bad.as_bytes());
+    holds(rt, faulty == Some(BodyCause::Line(1)), "a label twice");
     Ok(())
 }
 
@@ -190,24 +189,23 @@ fn read_alike(alloc: Global, text: &str, other: &str) -> Result<LikeBody, NoMemo
     read_like(alloc, bytes, &like).map_err(|_| NoMemory)
 }
 
-/// The places of its rows among those of the other, each with one more than it is.
-fn shown_places(alloc: Global, places: &[u32]) -> Result<String, NoMemory> {
-    let mut text = String::new(alloc);
-    for place in places {
-        text.push_str((*place as u64).to_string(alloc)?.as_str())?;
-        text.push(' ')?;
+/// Its rows, and their places among those of the other, each with one more than it is.
+fn shown_alike(alloc: Global, text: &str, other: &str) -> Result<Vec<u8>, NoMemory> {
+    let read = read_alike(alloc, text, other)?;
+    let mut shown = shown(alloc, &read.body)?;
+    for place in read.places.as_slice() {
+        let place = *place as u64;
+        push_bytes(&mut shown, place.to_string(alloc)?.as_bytes(), b" ")?;
     }
-    Ok(text)
+    Ok(shown)
 }
 
-/// Whether a body that is read like another one has the rows that it has alone, and these places.
-fn is_alike(alloc: Global, text: &str, other: &str, places: &str) -> Result<bool, NoMemory> {
-    let read = read_alike(alloc, text, other)?;
+/// The rows that a body has alone, and places.
+fn shown_alone(alloc: Global, text: &str, places: &str) -> Result<Vec<u8>, NoMemory> {
     let alone = body_of(alloc, text.as_bytes()).map_err(|_| NoMemory)?;
-    if shown(alloc, &read.body)?.as_slice() != shown(alloc, &alone)?.as_slice() {
-        return Ok(false);
-    }
-    Ok(shown_places(alloc, read.places.as_slice())?.as_str() == places)
+    let mut shown = shown(alloc, &alone)?;
+    shown.extend_from_slice(places.as_bytes())?;
+    Ok(shown)
 }
 
 /// The same page, one that is moved by a line, one whose first name begins as another, another order, a blank more, and one text twice.
@@ -220,11 +218,22 @@ const LIKE: [(&str, &str, &str); 6] = [
     ("a 1\na 2\n", "a 1\n", "1 0 "),
 ];
 
-#[test]
-fn a_body_like_another_is_read_as_alone(rt: HostRuntime) -> Result<(), Fail> {
+fn a_body_like_another_is_read_as_alone(rt: &impl Abort, alloc: Global) -> Result<(), NoMemory> {
     for (text, other, places) in LIKE {
-        assert!(rt; is_alike(rt.alloc(), text, other, places)?, "{text}");
+        let wanted = shown_alone(alloc, text, places)?;
+        are_bytes(rt, &shown_alike(alloc, text, other)?, &wanted);
     }
-    assert!(rt; read_alike(rt.alloc(), "a x\n", "a 1\n").is_err());
+    let refused = read_alike(alloc, "a x\n", "a 1\n").is_err();
+    holds(rt, refused, "a faulty line");
+    Ok(())
+}
+
+#[test]
+fn bodies_are_read_or_refused(rt: HostRuntime) -> Result<(), Fail> {
+    a_body_is_read(&rt, rt.alloc())?;
+    where_a_body_is_cut_makes_no_difference(&rt, rt.alloc())?;
+    bytes_that_are_not_read_are_handed_back(&rt, rt.alloc())?;
+    many_labels_are_read(&rt, rt.alloc())?;
+    a_body_like_another_is_read_as_alone(&rt, rt.alloc())?;
     Ok(())
 }

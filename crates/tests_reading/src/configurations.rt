@@ -1,54 +1,48 @@
 //! Configurations and the lists of files: their limits, and why they are refused. A fault of each kind and field the
 //! cases show.
 mod settings;
+mod shown;
 
-use label_set::{Name, Pair};
-use scrape_config::{ConfError, ConfFault, Group, read_conf, read_groups};
+use crate::places::places_are_spelled;
+use crate::shared::{are_bytes, holds};
+use scrape_config::{ConfError, ConfFault, read_conf, read_groups};
+use shown::push_groups;
 use std::alloc::{AllocError, Global};
+use std::process::Abort;
 use std::test::Fail;
 
-/// Adds a fault: a word, and what it names.
-fn push_fault(alloc: Global, text: &mut String, fault: &ConfFault) -> Result<(), AllocError> {
-    match fault {
-        ConfFault::NotJson => text.push_str("NotJson"),
-        ConfFault::Shape { place } => push_words(text, "Shape ", place),
-        ConfFault::Unknown { place } => push_words(text, "Unknown ", place),
-        ConfFault::Missing { place } => push_words(text, "Missing ", place),
-        ConfFault::Value { place } => push_words(text, "Value ", place),
-        ConfFault::TwiceNamed { job } => push_words(text, "TwiceNamed ", job),
-        ConfFault::TooMany { place, limit } => {
-            push_words(text, "TooMany ", place)?;
-            text.push(' ')?;
-            text.push_str(limit.to_string(alloc)?.as_str())
-        }
-        ConfFault::Rule { place } => push_words(text, "Rule ", place),
-    }
-}
+/// What is said of a text: `ok` with a number, or a fault with what it names and its limit.
+type Said<'a> = (&'a str, &'a str, u64);
 
-fn push_words(text: &mut String, word: &str, place: &Name) -> Result<(), AllocError> {
-    text.push_str(word)?;
-    text.push_str(place.as_str())
-}
-
-/// Adds why a text was refused.
-fn push_error(alloc: Global, text: &mut String, error: &ConfError) -> Result<(), AllocError> {
+fn said_of(error: &ConfError) -> Said<'_> {
     match error {
-        ConfError::Bad(fault) => push_fault(alloc, text, fault),
-        ConfError::NoMemory => text.push_str("no memory"),
+        ConfError::NoMemory => ("no memory", "", 0),
+        ConfError::Bad(fault) => match fault {
+            ConfFault::NotJson => ("NotJson", "", 0),
+            ConfFault::Shape { place } => ("Shape", place.as_str(), 0),
+            ConfFault::Unknown { place } => ("Unknown", place.as_str(), 0),
+            ConfFault::Missing { place } => ("Missing", place.as_str(), 0),
+            ConfFault::Value { place } => ("Value", place.as_str(), 0),
+            ConfFault::TwiceNamed { job } => ("TwiceNamed", job.as_str(), 0),
+            ConfFault::TooMany { place, limit } => ("TooMany", place.as_str(), *limit),
+            ConfFault::Rule { place } => ("Rule", place.as_str(), 0),
+        },
     }
 }
 
-/// The number of jobs of a configuration, or its fault.
-fn answer(alloc: Global, bytes: &[u8]) -> Result<String, AllocError> {
-    let mut text = String::new(alloc);
+/// Ends the test where something else is said.
+fn is_said(rt: &impl Abort, said: Said<'_>, wanted: Said<'_>) {
+    are_bytes(rt, said.0.as_bytes(), wanted.0.as_bytes());
+    are_bytes(rt, said.1.as_bytes(), wanted.1.as_bytes());
+    holds(rt, said.2 == wanted.2, wanted.1);
+}
+
+/// Ends the test where something else is said of a configuration than its number of jobs, or its fault.
+fn is_answered(rt: &impl Abort, alloc: Global, bytes: &[u8], wanted: Said<'_>) {
     match read_conf(alloc, bytes) {
-        Ok(conf) => {
-            text.push_str("ok ")?;
-            text.push_str(conf.jobs.as_slice().len().to_string(alloc)?.as_str())?;
-        }
-        Err(error) => push_error(alloc, &mut text, &error)?,
+        Ok(conf) => is_said(rt, ("ok", "", conf.jobs.as_slice().len() as u64), wanted),
+        Err(error) => is_said(rt, said_of(&error), wanted),
     }
-    Ok(text)
 }
 
 /// A configuration with a list: what stands before and behind the list, and before and behind the number of each item.
@@ -99,18 +93,30 @@ fn with_items(alloc: Global, listing: Listing, count: usize) -> Result<String, A
 }
 
 /// Lists, how many items they have, and what is said.
-const LISTS: &[(Listing, usize, &str)] = &[
-    (JOBS, 1000, "ok 1000"),
-    (JOBS, 1001, "TooMany /scrape_configs 1000"),
-    (FILES, 100, "ok 1"),
-    (FILES, 101, "TooMany /scrape_configs/0/file_sd_configs 100"),
-    (TARGETS, 9999, "ok 1"),
+const LISTS: &[(Listing, usize, Said<'static>)] = &[
+    (JOBS, 1000, ("ok", "", 1000)),
+    (JOBS, 1001, ("TooMany", "/scrape_configs", 1000)),
+    (FILES, 100, ("ok", "", 1)),
+    (
+        FILES,
+        101,
+        ("TooMany", "/scrape_configs/0/file_sd_configs", 100),
+    ),
+    (TARGETS, 9999, ("ok", "", 1)),
     (
         TARGETS,
         10000,
-        "TooMany /scrape_configs/0/static_configs 10000",
+        ("TooMany", "/scrape_configs/0/static_configs", 10000),
     ),
 ];
+
+fn lists_have_limits(rt: &impl Abort, alloc: Global) -> Result<(), AllocError> {
+    for &(listing, count, said) in LISTS {
+        let text = with_items(alloc, listing, count)?;
+        is_answered(rt, alloc, text.as_bytes(), said);
+    }
+    Ok(())
+}
 
 /// A configuration with a job whose name has so many bytes.
 fn long_name(alloc: Global, count: usize) -> Result<String, AllocError> {
@@ -122,109 +128,87 @@ fn long_name(alloc: Global, count: usize) -> Result<String, AllocError> {
     Ok(text)
 }
 
-#[test]
-fn lists_and_names_have_limits(rt: HostRuntime) -> Result<(), Fail> {
-    {
-        for &(listing, count, said) in LISTS {
-            let text = with_items(rt.alloc(), listing, count)?;
-            let told = answer(rt.alloc(), text.as_str().as_bytes())?;
-            assert_eq!(rt; told.as_str(), said);
-        }
-    }
-    {
-        for (count, said) in [(4096, "ok 1"), (4097, "Value /scrape_configs/0/job_name")] {
-            let text = long_name(rt.alloc(), count)?;
-            let told = answer(rt.alloc(), text.as_str().as_bytes())?;
-            assert_eq!(rt; told.as_str(), said);
-        }
+/// How many bytes names have, and what is said.
+const NAMES: &[(usize, Said<'static>)] = &[
+    (4096, ("ok", "", 1)),
+    (4097, ("Value", "/scrape_configs/0/job_name", 0)),
+];
+
+fn names_have_limits(rt: &impl Abort, alloc: Global) -> Result<(), AllocError> {
+    for &(count, said) in NAMES {
+        let text = long_name(alloc, count)?;
+        is_answered(rt, alloc, text.as_bytes(), said);
     }
     Ok(())
 }
 
 /// Actions that no case names, and what is said of them.
-const ACTIONS: &[(&str, &str)] = &[
+const ACTIONS: &[(&str, Said<'static>)] = &[
     (
         r#"{"scrape_configs":[{"job_name":"j","relabel_configs":[{"action":"label_drop"}]}]}"#,
-        "Value /scrape_configs/0/relabel_configs/0/action",
+        ("Value", "/scrape_configs/0/relabel_configs/0/action", 0),
     ),
     (
         r#"{"scrape_configs":[{"job_name":"j","relabel_configs":[{"action":""}]}]}"#,
-        "Value /scrape_configs/0/relabel_configs/0/action",
+        ("Value", "/scrape_configs/0/relabel_configs/0/action", 0),
     ),
     (
         r#"{"scrape_configs":[{"job_name":"j","relabel_configs":[{"action":1}]}]}"#,
-        "Shape /scrape_configs/0/relabel_configs/0/action",
+        ("Shape", "/scrape_configs/0/relabel_configs/0/action", 0),
     ),
 ];
 
-/// Adds texts with a blank behind each.
-fn push_names(text: &mut String, names: &[Name]) -> Result<(), AllocError> {
-    for name in names {
-        text.push_str(name.as_str())?;
-        text.push(' ')?;
+fn actions_are_refused(rt: &impl Abort, alloc: Global) {
+    for &(text, said) in ACTIONS {
+        is_answered(rt, alloc, text.as_bytes(), said);
     }
-    Ok(())
 }
 
-/// Adds labels with a blank behind each.
-fn push_pairs(text: &mut String, pairs: &[Pair]) -> Result<(), AllocError> {
-    for pair in pairs {
-        text.push_str(pair.name.as_str())?;
-        text.push('=')?;
-        text.push_str(pair.value.as_str())?;
-        text.push(' ')?;
-    }
-    Ok(())
-}
-
-/// Adds the targets, the labels and the file of each group.
-fn push_groups(text: &mut String, groups: &[Group]) -> Result<(), AllocError> {
-    for group in groups {
-        push_names(text, group.targets.as_slice())?;
-        push_pairs(text, group.labels.as_slice())?;
-        if let Some(file) = &group.file {
-            text.push_str(file.as_str())?;
-        }
-        text.push('/')?;
-    }
-    Ok(())
-}
-
-/// The groups of the list of a file, or its fault.
-fn groups_answer(alloc: Global, list: &str) -> Result<String, AllocError> {
-    let mut text = String::new(alloc);
+/// Ends the test where the groups of the list of a file, or its fault, are something else.
+fn has_groups(
+    rt: &impl Abort,
+    alloc: Global,
+    list: &str,
+    wanted: Said<'_>,
+) -> Result<(), AllocError> {
     match read_groups(alloc, list.as_bytes(), "f.json") {
-        Ok(groups) => push_groups(&mut text, groups.as_slice())?,
-        Err(error) => push_error(alloc, &mut text, &error)?,
+        Ok(groups) => {
+            let mut text = String::new(alloc);
+            push_groups(&mut text, groups.as_slice())?;
+            is_said(rt, (text.as_str(), "", 0), wanted);
+        }
+        Err(error) => is_said(rt, said_of(&error), wanted),
     }
-    Ok(text)
+    Ok(())
 }
 
-/// Lists of files, and what is said of them.
-const FILE_LISTS: &[(&str, &str)] = &[
+/// Lists of files, and what is said of them: their groups, or a fault.
+const FILE_LISTS: &[(&str, Said<'static>)] = &[
     (
         r#"[{"targets":["a:1"],"labels":{"env":"p"}},{}]"#,
-        "a:1 env=p f.json/f.json/",
+        ("a:1 env=p f.json/f.json/", "", 0),
     ),
-    ("{}", "Shape "),
-    ("[1]", "Shape /0"),
-    (r#"[{},{"targets":["a",1]}]"#, "Shape /1/targets/1"),
-    (r#"[{"x":1}]"#, "Unknown /0/x"),
-    (r#"[{"labels":{"":"x"}}]"#, "Value /0/labels"),
-    ("x", "NotJson"),
+    ("{}", ("Shape", "", 0)),
+    ("[1]", ("Shape", "/0", 0)),
+    (r#"[{},{"targets":["a",1]}]"#, ("Shape", "/1/targets/1", 0)),
+    (r#"[{"x":1}]"#, ("Unknown", "/0/x", 0)),
+    (r#"[{"labels":{"":"x"}}]"#, ("Value", "/0/labels", 0)),
+    ("x", ("NotJson", "", 0)),
 ];
 
+fn lists_of_files_are_read(rt: &impl Abort, alloc: Global) -> Result<(), AllocError> {
+    for &(list, said) in FILE_LISTS {
+        has_groups(rt, alloc, list, said)?;
+    }
+    Ok(())
+}
+
 #[test]
-fn words_and_lists_are_read_or_refused(rt: HostRuntime) -> Result<(), Fail> {
-    {
-        for &(text, said) in ACTIONS {
-            assert_eq!(rt; answer(rt.alloc(), text.as_bytes())?.as_str(), said);
-        }
-    }
-    {
-        for &(list, said) in FILE_LISTS {
-            assert_eq!(rt; groups_answer(rt.alloc(), list)?.as_str(), said, "{list}");
-        }
-    }
+fn configurations_are_read_or_refused(rt: HostRuntime) -> Result<(), Fail> {
+    lists_have_limits(&rt, rt.alloc())?;
+    names_have_limits(&rt, rt.alloc())?;
+    actions_are_refused(&rt, rt.alloc());
+    lists_of_files_are_read(&rt, rt.alloc())?;
+    places_are_spelled(&rt, rt.alloc())?;
     Ok(())
 }

@@ -1,5 +1,6 @@
 //! Control lines, and what is said of those that don't succeed.
 
+use crate::shared::{are_bytes, holds};
 use config_fields::ConfFault;
 use control_lines::{Command, Refusal, command_in, is_name, message_of};
 use label_set::{Name, NoMemory};
@@ -7,70 +8,66 @@ use std::alloc::Global;
 use std::process::Abort;
 use std::test::Fail;
 
-/// What a line asks for, in a word, with its file.
-fn asked(alloc: Global, line: &[u8]) -> Result<Option<(&'static str, Name)>, NoMemory> {
-    match command_in(alloc, line)? {
-        Some(Command::Load { file }) => Ok(Some(("load", file))),
-        Some(Command::Targets { file, .. }) => Ok(Some(("targets", file))),
-        None => Ok(None),
-    }
-}
+/// Lines, what each asks for in a word, and its file; no word where it asks for nothing.
+const LINES: &[(&[u8], &str, &str)] = &[
+    (b"load a b.json", "load", "a b.json"),
+    (b"targets j a b.json", "targets", "a b.json"),
+    (b"load ", "", ""),
+    (b"targets j", "", ""),
+    (b"stop", "", ""),
+    (b"load \xff", "", ""),
+];
 
 /// Whether a line asks for something, with a file.
 fn asks_for(alloc: Global, line: &[u8], word: &str, file: &str) -> Result<bool, NoMemory> {
-    match asked(alloc, line)? {
-        Some((said, name)) => Ok(said == word && name.as_str() == file),
-        None => Ok(false),
+    match command_in(alloc, line)? {
+        Some(Command::Load { file: name }) => Ok(word == "load" && name.as_str() == file),
+        Some(Command::Targets { file: name, .. }) => {
+            Ok(word == "targets" && name.as_str() == file)
+        }
+        None => Ok(word.is_empty()),
     }
 }
 
-#[test]
-fn lines_are_commands(rt: HostRuntime) -> Result<(), Fail> {
-    assert!(rt; asks_for(rt.alloc(), b"load a b.json", "load", "a b.json")?);
-    assert!(rt; asks_for(rt.alloc(), b"targets j a b.json", "targets", "a b.json")?);
-    for line in [b"load ".as_slice(), b"targets j", b"stop", b"load \xff"] {
-        assert!(rt; asked(rt.alloc(), line)?.is_none());
+fn lines_are_commands(rt: &impl Abort, alloc: Global) -> Result<(), NoMemory> {
+    for &(line, word, file) in LINES {
+        holds(rt, asks_for(alloc, line, word, file)?, word);
     }
-    assert!(rt; is_name("a") && !is_name(""));
+    holds(rt, is_name("a"), "a name");
+    holds(rt, !is_name(""), "no name");
     Ok(())
 }
 
 /// Ends the test where a refusal isn't told by these words.
 fn is_told(rt: &impl Abort, alloc: Global, refusal: &Refusal, words: &str) -> Result<(), NoMemory> {
     let text = message_of(alloc, 12, refusal)?;
-    assert_eq!(rt; text.as_str(), words);
+    are_bytes(rt, text.as_bytes(), words.as_bytes());
     Ok(())
 }
 
-/// A list with too many items.
-fn too_many(alloc: Global) -> Result<Refusal, NoMemory> {
-    Ok(Refusal::Refused(ConfFault::TooMany {
+/// Refusals, and the words that tell them.
+const REFUSALS: &[(&Refusal, &str)] = &[
+    (&Refusal::NotACommand, "control 12: not a command\n"),
+    (&Refusal::Absent, "control 12: absent\n"),
+    (&Refusal::TooLong, "control 12: too long\n"),
+    (&Refusal::NoJob, "control 12: no job\n"),
+    (&Refusal::NoFile, "control 12: no file\n"),
+];
+
+fn refusals_are_told(rt: &impl Abort, alloc: Global) -> Result<(), NoMemory> {
+    for &(refusal, words) in REFUSALS {
+        is_told(rt, alloc, refusal, words)?;
+    }
+    let many = Refusal::Refused(ConfFault::TooMany {
         place: Name::from_str(alloc, "/a")?,
         limit: 1000,
-    }))
+    });
+    is_told(rt, alloc, &many, "control 12: refused TooMany /a 1000\n")
 }
 
 #[test]
-fn refusals_are_told(rt: HostRuntime) -> Result<(), Fail> {
-    {
-        for &(refusal, words) in &[
-            (&Refusal::NotACommand, "control 12: not a command\n"),
-            (&Refusal::Absent, "control 12: absent\n"),
-            (&Refusal::TooLong, "control 12: too long\n"),
-            (&Refusal::NoJob, "control 12: no job\n"),
-            (&Refusal::NoFile, "control 12: no file\n"),
-        ] {
-            is_told(&rt, rt.alloc(), refusal, words)?;
-        }
-    }
-    {
-        let refusal = too_many(rt.alloc())?;
-        is_told(
-            &rt,
-            rt.alloc(),
-            &refusal,
-            "control 12: refused TooMany /a 1000\n",
-        )?;
-    }
+fn lines_are_commands_and_refusals_told(rt: HostRuntime) -> Result<(), Fail> {
+    lines_are_commands(&rt, rt.alloc())?;
+    refusals_are_told(&rt, rt.alloc())?;
     Ok(())
 }

@@ -1,6 +1,8 @@
 //! Journals, and the one text of a journal.
 
+use crate::shared::holds;
 use journal_text::{Event, Journal, ScriptCause, ScriptError, read_journal, write_journal};
+use label_set::NoMemory;
 use outside::Reply;
 use std::alloc::{AllocError, Global};
 use std::process::Abort;
@@ -33,7 +35,7 @@ fn is_written_as_read(rt: &impl Abort, alloc: Global, script: &[u8]) {
     let Ok(text) = write_journal(alloc, &journal) else {
         panic!(rt; "not written");
     };
-    assert!(rt; text.as_slice() == script);
+    holds(rt, text.as_slice() == script, "the text of a journal");
 }
 
 /// The fault of `ONE_LOAD` cut to its first bytes.
@@ -97,67 +99,79 @@ const NO_JOURNALS: &[(&[u8], u64, ScriptCause)] = &[
     ),
 ];
 
-#[test]
-fn scripts_are_read_or_refused(rt: HostRuntime) -> Result<(), Fail> {
-    {
-        assert_eq!(rt; ONE_LOAD.len(), 137);
-        for len in 0..=ONE_LOAD.len() {
-            let fault = fault_of(&rt, rt.alloc(), &ONE_LOAD[..len]);
-            assert!(rt; fault == cut_fault(len), "at {len}");
-        }
+fn fronts_are_read_or_refused(rt: &impl Abort, alloc: Global) {
+    assert!(rt; ONE_LOAD.len() == 137);
+    for len in 0..=ONE_LOAD.len() {
+        let fault = fault_of(rt, alloc, &ONE_LOAD[..len]);
+        holds(rt, fault == cut_fault(len), "a front of a text");
     }
-    {
-        for &line in NO_EVENTS {
-            let script = script_of(rt.alloc(), line)?;
-            let fault = fault_of(&rt, rt.alloc(), script.as_slice());
-            assert!(rt; fault == Some((17, ScriptCause::Line)), "{line}");
-        }
-    }
-    {
-        for &(script, offset, cause) in NO_JOURNALS {
-            assert!(rt; fault_of(&rt, rt.alloc(), script) == Some((offset, cause)));
-        }
+}
+
+fn lines_are_refused(rt: &impl Abort, alloc: Global) -> Result<(), AllocError> {
+    for &line in NO_EVENTS {
+        let script = script_of(alloc, line)?;
+        let fault = fault_of(rt, alloc, script.as_slice());
+        holds(rt, fault == Some((17, ScriptCause::Line)), line);
     }
     Ok(())
 }
 
+fn scripts_are_refused(rt: &impl Abort, alloc: Global) {
+    for &(script, offset, cause) in NO_JOURNALS {
+        let fault = fault_of(rt, alloc, script);
+        holds(rt, fault == Some((offset, cause)), "no journal");
+    }
+}
+
+/// Whether these are the events of `ONE_LOAD`.
+fn is_one_load(events: &[Event]) -> bool {
+    match events {
+        [
+            Event::Load { moment: 0, text },
+            Event::Sweep { moment: 0 },
+            Event::Finish {
+                ticket: 0,
+                took: 15,
+                reply: Reply::Body { status: 200, bytes },
+            },
+        ] => text.as_slice().len() == 76 && bytes.as_slice() == b"x 1\ny 2\n".as_slice(),
+        _ => false,
+    }
+}
+
+fn events_are_read(rt: &impl Abort, alloc: Global) {
+    match read_journal(alloc, ONE_LOAD) {
+        Ok(journal) => holds(rt, is_one_load(journal.events()), "one load"),
+        Err(_) => panic!(rt; "not read"),
+    }
+    for script in [ONE_LOAD, EACH_KIND, b"scrape-journal 1\n"] {
+        is_written_as_read(rt, alloc, script);
+    }
+}
+
+fn events_are_pushed(rt: &impl Abort, alloc: Global) -> Result<(), NoMemory> {
+    let mut journal = Journal::new(alloc);
+    holds(rt, journal.is_empty(), "no event");
+    holds(rt, journal.now() == 0, "the first moment");
+    journal.reserve(2)?;
+    journal.push(Event::Sweep { moment: 3 });
+    journal.push(Event::Finish {
+        ticket: 0,
+        took: 9,
+        reply: Reply::Lost,
+    });
+    holds(rt, journal.len() == 2, "two events");
+    holds(rt, journal.now() == 3, "the second moment");
+    holds(rt, journal.into_events().len() == 2, "two events");
+    Ok(())
+}
+
 #[test]
-fn events_are_read_and_written(rt: HostRuntime) -> Result<(), Fail> {
-    {
-        let Ok(journal) = read_journal(rt.alloc(), ONE_LOAD) else {
-            panic!(rt; "not read");
-        };
-        let read = match journal.events() {
-            [
-                Event::Load { moment: 0, text },
-                Event::Sweep { moment: 0 },
-                Event::Finish {
-                    ticket: 0,
-                    took: 15,
-                    reply: Reply::Body { status: 200, bytes },
-                },
-            ] => text.as_slice().len() == 76 && bytes.as_slice() == b"x 1\ny 2\n".as_slice(),
-            _ => false,
-        };
-        assert!(rt; read);
-    }
-    {
-        for script in [ONE_LOAD, EACH_KIND, b"scrape-journal 1\n"] {
-            is_written_as_read(&rt, rt.alloc(), script);
-        }
-    }
-    {
-        let mut journal = Journal::new(rt.alloc());
-        assert!(rt; journal.is_empty() && journal.now() == 0);
-        journal.reserve(2)?;
-        journal.push(Event::Sweep { moment: 3 });
-        journal.push(Event::Finish {
-            ticket: 0,
-            took: 9,
-            reply: Reply::Lost,
-        });
-        assert!(rt; journal.len() == 2 && journal.now() == 3);
-        assert!(rt; journal.into_events().len() == 2);
-    }
+fn scripts_are_read_refused_and_written(rt: HostRuntime) -> Result<(), Fail> {
+    fronts_are_read_or_refused(&rt, rt.alloc());
+    lines_are_refused(&rt, rt.alloc())?;
+    scripts_are_refused(&rt, rt.alloc());
+    events_are_read(&rt, rt.alloc());
+    events_are_pushed(&rt, rt.alloc())?;
     Ok(())
 }

@@ -1,6 +1,6 @@
 //! Tests of the readers: tokens and bodies, patterns and rules, limits, configurations, control lines and journals.
 //! They show that each call succeeds where there is memory, and what no case of `scrape_cases` shows; a file of cases
-//! stands here by its name. There is no code here. What shows each public call:
+//! stands here by its name. There is no code here. What shows each public call, a test or what a test calls:
 //!
 //! | public call | test, or cases |
 //! |---|---|
@@ -18,12 +18,12 @@
 //! | `Matching::{full_match, expand, fill, fill_both}` | `patterns` |
 //! | `read_or_refused` | contract alone |
 //! | `Rules::{build, process, runner}`, `Runner::process` | `rules::rules_run_one_after_another`; `relabelling` |
-//! | `RuleConf::{copy, fault}` | `rules::rules_are_refused_or_copied` |
+//! | `RuleConf::{copy, fault}` | `rules::{rules_are_refused, rules_are_copied}` |
 //! | `judge`, `too_many`, `body_limit`, `exceeds` | `limits`; `scrape_cases::limits` |
 //! | `at_field`, `at_item` | `places` |
 //! | `config_fields::{fault, forms, tables, walks}` | within `read_conf`; `fields`, `checked` |
 //! | `read_conf` | `configurations`; `fields`, `checked` |
-//! | `read_groups` | `configurations::words_and_lists_are_read_or_refused` |
+//! | `read_groups` | `configurations::lists_of_files_are_read` |
 //! | `JobConf` and its lists | `configurations::settings::settings_are_what_is_said_or_defaults` |
 //! | `JobConf::{compatible, same}` | `configurations::settings::settings_are_compared_after_defaults`; `reloads` |
 //! | `comparing_decides` | contract alone |
@@ -32,7 +32,7 @@
 //! | `faults::{fault_word, fault_place, push_fault}` | `control::refusals_are_told`; `fields` |
 //! | `read_journal`, `write_journal` | `journals`; `broken` |
 //! | `read_front` | `scrape_cli`'s test `cuts::script_cut_at_each_place`; `scrape_cases::cuts` |
-//! | `Journal::{new, reserve, push, events, into_events, len, is_empty, now}` | `journals::events_are_read_and_written` |
+//! | `Journal::{new, reserve, push, events, into_events, len, is_empty, now}` | `journals::{events_are_read, events_are_pushed}` |
 //! | `texts_tell_apart` | contract alone |
 #![tactic(auto)]
 
@@ -54,5 +54,7 @@ mod patterns;
 mod places;
 #[cfg(test)]
 mod rules;
+#[cfg(test)]
+mod shared;
 #[cfg(test)]
 mod tokens;

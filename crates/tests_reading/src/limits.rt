@@ -1,10 +1,12 @@
 //! What is past a limit.
 
+use crate::shared::holds;
 use label_set::LabelSet;
 use label_set::sets::LabelError;
 use outside::MOST_BODY_BYTES;
 use scrape_limits::{LimitFault, Limits, body_limit, judge, too_many};
 use std::alloc::Global;
+use std::process::Abort;
 use std::test::Fail;
 
 const NO_LIMITS: Limits = Limits {
@@ -34,54 +36,65 @@ fn two_labels(alloc: Global) -> Result<LabelSet, LabelError> {
     set.with(alloc, "job", "batch-é")
 }
 
+fn sets_have_limits(rt: &impl Abort, alloc: Global) -> Result<(), LabelError> {
+    let set = two_labels(alloc)?;
+    for &((label, name_length, value_length), fault) in LABELS {
+        let limits = Limits {
+            label,
+            name_length,
+            value_length,
+            ..NO_LIMITS
+        };
+        holds(rt, judge(&limits, &set) == fault, "two labels");
+        holds(rt, judge(&limits, &LabelSet::empty()) == None, "no labels");
+    }
+    Ok(())
+}
+
+/// Limits of bodies, and how long each lets a body be.
+const BODIES: &[(u64, u64)] = &[
+    (0, MOST_BODY_BYTES),
+    (1, 1),
+    (MOST_BODY_BYTES, MOST_BODY_BYTES),
+    (MOST_BODY_BYTES + 1, MOST_BODY_BYTES),
+    (u64::MAX, MOST_BODY_BYTES),
+];
+
+fn bodies_have_limits(rt: &impl Abort) {
+    for &(body_size, limit) in BODIES {
+        let limits = Limits {
+            body_size,
+            ..NO_LIMITS
+        };
+        holds(rt, body_limit(&limits) == limit, "a body");
+    }
+}
+
+/// Limits of samples, how many samples there are, and whether these are past the limit.
+const SAMPLES: &[(u64, u64, bool)] = &[
+    (0, 0, false),
+    (0, u64::MAX, false),
+    (5, 4, false),
+    (5, 5, false),
+    (5, 6, true),
+    (1, 0, false),
+    (u64::MAX, u64::MAX, false),
+];
+
+fn samples_have_limits(rt: &impl Abort) {
+    for &(sample, left, past) in SAMPLES {
+        let limits = Limits {
+            sample,
+            ..NO_LIMITS
+        };
+        holds(rt, too_many(&limits, left) == past, "samples");
+    }
+}
+
 #[test]
 fn sets_bodies_and_samples_have_limits(rt: HostRuntime) -> Result<(), Fail> {
-    {
-        let set = two_labels(rt.alloc())?;
-        for &((label, name_length, value_length), fault) in LABELS {
-            let limits = Limits {
-                label,
-                name_length,
-                value_length,
-                ..NO_LIMITS
-            };
-            assert_eq!(rt; judge(&limits, &set), fault);
-            assert_eq!(rt; judge(&limits, &LabelSet::empty()), None);
-        }
-    }
-    {
-        let cases = [
-            (0, MOST_BODY_BYTES),
-            (1, 1),
-            (MOST_BODY_BYTES, MOST_BODY_BYTES),
-            (MOST_BODY_BYTES + 1, MOST_BODY_BYTES),
-            (u64::MAX, MOST_BODY_BYTES),
-        ];
-        for (body_size, limit) in cases {
-            let limits = Limits {
-                body_size,
-                ..NO_LIMITS
-            };
-            assert_eq!(rt; body_limit(&limits), limit);
-        }
-    }
-    {
-        let cases = [
-            (0, 0, false),
-            (0, u64::MAX, false),
-            (5, 4, false),
-            (5, 5, false),
-            (5, 6, true),
-            (1, 0, false),
-            (u64::MAX, u64::MAX, false),
-        ];
-        for (sample, left, past) in cases {
-            let limits = Limits {
-                sample,
-                ..NO_LIMITS
-            };
-            assert_eq!(rt; too_many(&limits, left), past);
-        }
-    }
+    sets_have_limits(&rt, rt.alloc())?;
+    bodies_have_limits(&rt);
+    samples_have_limits(&rt);
     Ok(())
 }

@@ -1,12 +1,21 @@
 //! Patterns that match whole texts, and templates.
 
+use crate::shared::{are_bytes, holds};
 use label_set::{Name, NoMemory};
 use pattern_rule::{Pattern, PatternError};
 use std::alloc::Global;
+use std::process::Abort;
 use std::test::Fail;
 
 /// The pattern, the text, the template, and what it writes at the match of the whole text.
-const CASES: &[(&str, &str, &str, Option<&str>)] = &[
+type Case = (
+    &'static str,
+    &'static str,
+    &'static str,
+    Option<&'static str>,
+);
+
+const CASES: &[Case] = &[
     ("a(.)c", "abc", "$1-${1}", Some("b-b")),
     ("b", "abc", "x", None),
     ("ab", "abc", "x", None),
@@ -49,8 +58,8 @@ fn writes(
     template: &str,
     wanted: Option<&str>,
 ) -> Result<bool, NoMemory> {
-    let found = pattern.expand(alloc, text, template)?;
     let matched = pattern.full_match(alloc, text)?;
+    let found = pattern.expand(alloc, text, template)?;
     Ok(matched == wanted.is_some() && is_wanted(&found, wanted))
 }
 
@@ -98,40 +107,42 @@ fn writes_both(
     }
 }
 
-/// Whether a text is refused as a pattern.
-fn is_refused(alloc: Global, text: &str) -> bool {
-    match Pattern::build(alloc, text) {
-        Ok(_) => false,
-        Err(error) => error == PatternError::BadPattern,
+/// Ends the test where a pattern isn't kept, or matches or writes something else.
+fn is_filled(rt: &impl Abort, alloc: Global, case: Case) -> Result<(), NoMemory> {
+    let (pattern, text, template, wanted) = case;
+    let Ok(built) = Pattern::build(alloc, pattern) else {
+        panic!(rt; "{pattern}");
+    };
+    are_bytes(rt, built.as_str().as_bytes(), pattern.as_bytes());
+    holds(rt, writes(alloc, &built, text, template, wanted)?, pattern);
+    holds(
+        rt,
+        writes_again(alloc, &built, text, template, wanted)?,
+        pattern,
+    );
+    holds(
+        rt,
+        writes_both(alloc, &built, text, template, wanted)?,
+        pattern,
+    );
+    Ok(())
+}
+
+/// Texts that are no patterns.
+const REFUSED: &[&str] = &["(", "a)", "[b-a]", "(?P<9>a)", "*"];
+
+fn texts_are_refused(rt: &impl Abort, alloc: Global) {
+    for &text in REFUSED {
+        let refused = Pattern::build(alloc, text).err();
+        holds(rt, refused == Some(PatternError::BadPattern), text);
     }
 }
 
 #[test]
 fn templates_are_filled_at_the_match_of_a_whole_text(rt: HostRuntime) -> Result<(), Fail> {
-    {
-        for &(pattern, text, template, wanted) in CASES {
-            let Ok(built) = Pattern::build(rt.alloc(), pattern) else {
-                panic!(rt; "{pattern}");
-            };
-            assert_eq!(rt; built.as_str(), pattern);
-            assert!(rt;
-                writes(rt.alloc(), &built, text, template, wanted)?,
-                "{pattern} {text}"
-            );
-            assert!(rt;
-                writes_again(rt.alloc(), &built, text, template, wanted)?,
-                "{pattern} {text}"
-            );
-            assert!(rt;
-                writes_both(rt.alloc(), &built, text, template, wanted)?,
-                "{pattern} {text}"
-            );
-        }
+    for &case in CASES {
+        is_filled(&rt, rt.alloc(), case)?;
     }
-    {
-        for text in ["(", "a)", "[b-a]", "(?P<9>a)", "*"] {
-            assert!(rt; is_refused(rt.alloc(), text), "{text}");
-        }
-    }
+    texts_are_refused(&rt, rt.alloc());
     Ok(())
 }

@@ -1,17 +1,16 @@
 //! Places in a configuration.
 
+use crate::shared::are_bytes;
 use config_fields::place::{at_field, at_item};
-use std::test::Fail;
+use label_set::NoMemory;
+use std::alloc::Global;
+use std::process::Abort;
 
-#[test]
-fn places_are_spelled(rt: HostRuntime) -> Result<(), Fail> {
-    {
-        let place = at_field(rt.alloc(), "/a", "b/c~d")?;
-        assert_eq!(rt; place.as_str(), "/a/b~1c~0d");
-    }
-    {
-        let place = at_item(rt.alloc(), "/a", 17)?;
-        assert_eq!(rt; place.as_str(), "/a/17");
-    }
+pub(crate) fn places_are_spelled(rt: &impl Abort, alloc: Global) -> Result<(), NoMemory> {
+    let field = at_field(alloc, "/a", "b/c~d")?;
+    are_bytes(rt, field.as_str().as_bytes(), b"/a/b~1c~0d");
+    drop(field);
+    let item = at_item(alloc, "/a", 17)?;
+    are_bytes(rt, item.as_str().as_bytes(), b"/a/17");
     Ok(())
 }

@@ -1,11 +1,13 @@
 //! Rules of relabelling. Most of what each action does the cases show.
 ghost use Rattle.std.specs.Prelude.{◌≡◌, ◌<◌, ◌≤◌, ◌^◌, length, IfOk};
 
+use crate::shared::{are_bytes, holds};
 use label_set::sets::LabelError;
 use label_set::{LabelSet, Name, NameList, NoMemory, Steps};
 use relabel::{Action, RuleConf, RuleFault, RuleField, RuleList, Rules};
 use std::alloc::Global;
 use std::marker::Brand;
+use std::process::Abort;
 use std::sync::ledger::{Blank, Ledger};
 use std::test::Fail;
 
@@ -159,12 +161,11 @@ const LEFT: &[(&[Row<'static>], &[(&str, &str)], &str)] = &[
     ),
 ];
 
-#[test]
-fn rules_run_one_after_another(rt: HostRuntime) -> Result<(), Fail> {
+fn rules_run_one_after_another(rt: &impl Abort, alloc: Global) -> Result<(), LabelError> {
     for &(rows, labels, text) in LEFT {
-        let set = set_of(rt.alloc(), labels)?;
-        let left = left_by(rt.alloc(), rows, &set)?;
-        assert_eq!(rt; left.as_slice(), text.as_bytes(), "{text}");
+        let set = set_of(alloc, labels)?;
+        let left = left_by(alloc, rows, &set)?;
+        are_bytes(rt, &left, text.as_bytes());
     }
     Ok(())
 }
@@ -203,31 +204,41 @@ fn fault_of(alloc: Global, first: Row<'_>, second: Row<'_>) -> Result<Option<Rul
     Ok(rules_of(alloc, confs.as_slice()).err())
 }
 
+fn rules_are_refused(rt: &impl Abort, alloc: Global) -> Result<(), NoMemory> {
+    for &(row, field) in REFUSED {
+        let fault = fault_of(alloc, (Action::Keep, "a", "(", 0, "", ""), row)?;
+        let wanted = match field {
+            Some(field) => RuleFault::BadRule { rule: 1, field },
+            None => RuleFault::BadPattern { rule: 0 },
+        };
+        holds(rt, fault == Some(wanted), row.2);
+    }
+    Ok(())
+}
+
+/// A copy of a rule.
+fn copied(alloc: Global) -> Result<RuleConf, NoMemory> {
+    let conf = conf_of(alloc, (Action::HashMod, "a", "x.*", 8, "t", "y"))?;
+    conf.copy(alloc)
+}
+
+fn rules_are_copied(rt: &impl Abort, alloc: Global) -> Result<(), NoMemory> {
+    let copy = copied(alloc)?;
+    holds(rt, copy.fault().is_none(), "no fault");
+    holds(rt, copy.action == Action::HashMod, "the action");
+    holds(rt, copy.modulus == 8, "the modulus");
+    holds(rt, copy.sources.as_slice().len() == 1, "the sources");
+    are_bytes(rt, copy.separator.as_str().as_bytes(), b";");
+    are_bytes(rt, copy.regex.as_str().as_bytes(), b"x.*");
+    are_bytes(rt, copy.target.as_str().as_bytes(), b"t");
+    are_bytes(rt, copy.replacement.as_str().as_bytes(), b"y");
+    Ok(())
+}
+
 #[test]
-fn rules_are_refused_or_copied(rt: HostRuntime) -> Result<(), Fail> {
-    {
-        for &(row, field) in REFUSED {
-            let fault = fault_of(rt.alloc(), (Action::Keep, "a", "(", 0, "", ""), row)?;
-            let wanted = match field {
-                Some(field) => RuleFault::BadRule { rule: 1, field },
-                None => RuleFault::BadPattern { rule: 0 },
-            };
-            assert_eq!(rt; fault, Some(wanted), "{} {} {}", row.1, row.2, row.4);
-        }
-    }
-    {
-        let conf = conf_of(rt.alloc(), (Action::HashMod, "a", "x.*", 8, "t", "y"))?;
-        let copy = conf.copy(rt.alloc())?;
-        assert!(rt; copy.fault().is_none() && copy.action == Action::HashMod && copy.modulus == 8);
-        assert_eq!(rt; copy.sources.as_slice().len(), 1);
-        assert_eq!(rt;
-            (copy.separator.as_str(), copy.regex.as_str()),
-            (";", "x.*")
-        );
-        assert_eq!(rt;
-            (copy.target.as_str(), copy.replacement.as_str()),
-            ("t", "y")
-        );
-    }
+fn rules_run_or_are_refused_or_copied(rt: HostRuntime) -> Result<(), Fail> {
+    rules_run_one_after_another(&rt, rt.alloc())?;
+    rules_are_refused(&rt, rt.alloc())?;
+    rules_are_copied(&rt, rt.alloc())?;
     Ok(())
 }

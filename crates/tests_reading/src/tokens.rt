@@ -1,5 +1,6 @@
 //! The tokens of a line.
 
+use crate::shared::holds;
 use expo_lexer::{Lexer, Token, TokenKind};
 
 /// The tokens of the line `x{a="\"}" ,}`, a tab, `1 "b`.
@@ -19,7 +20,8 @@ const TOKENS: &[(TokenKind, usize, usize)] = &[
 fn tokens_have_kinds_and_spans(rt: HostRuntime) {
     let mut lexer = Lexer::over(b"x{a=\"\\\"}\" ,}\t1 \"b");
     for &(kind, start, end) in TOKENS {
-        assert_eq!(rt; lexer.next(), Some(Token { kind, start, end }));
+        let wanted = Token { kind, start, end };
+        holds(&rt, lexer.next() == Some(wanted), "a token");
     }
-    assert!(rt; lexer.next().is_none());
+    holds(&rt, lexer.next().is_none(), "the end");
 }

@@ -1,9 +1,7 @@
 //! The settings of a job, as they are said or by default, and how those of two jobs are compared.
-use super::{push_groups, push_names};
-use outside::scheme_text;
-use relabel::RuleConf;
-use scrape_config::{Conf, ConfError, JobConf, Param, read_conf};
-use scrape_limits::Limits;
+use super::shown::{Part, push_part};
+use crate::shared::{are_bytes, holds};
+use scrape_config::{Conf, ConfError, JobConf, read_conf};
 use std::alloc::{AllocError, Global};
 use std::process::Abort;
 use std::test::Fail;
@@ -22,119 +20,6 @@ fn first_job<'a>(rt: &impl Abort, conf: &'a Conf) -> &'a JobConf {
     match conf.jobs.as_slice().first() {
         Some(job) => &job.conf,
         None => panic!(rt; "no job"),
-    }
-}
-
-/// Adds a text and a blank.
-fn push_word(text: &mut String, word: &str) -> Result<(), AllocError> {
-    text.push_str(word)?;
-    text.push(' ')
-}
-
-/// Adds a number and a blank.
-fn push_number(alloc: Global, text: &mut String, number: u64) -> Result<(), AllocError> {
-    push_word(text, number.to_string(alloc)?.as_str())
-}
-
-/// Adds the interval and the timeout.
-fn push_durations(alloc: Global, text: &mut String, job: &JobConf) -> Result<(), AllocError> {
-    push_word(text, job.scrape_interval.to_string(alloc)?.as_str())?;
-    push_word(text, job.scrape_timeout.to_string(alloc)?.as_str())
-}
-
-/// Adds the name, the path and the scheme, and the flags that are set.
-fn push_plain(text: &mut String, job: &JobConf) -> Result<(), AllocError> {
-    text.push_str(job.job_name.as_str())?;
-    text.push(' ')?;
-    text.push_str(job.metrics_path.as_str())?;
-    text.push(' ')?;
-    text.push_str(scheme_text(job.scheme))?;
-    if job.honor_labels {
-        text.push_str(" honor_labels")?;
-    }
-    if job.honor_timestamps {
-        text.push_str(" honor_timestamps")?;
-    }
-    if job.track_timestamps_staleness {
-        text.push_str(" track_timestamps_staleness")?;
-    }
-    if job.extra_scrape_metrics {
-        text.push_str(" extra_scrape_metrics")?;
-    }
-    Ok(())
-}
-
-fn push_limits(alloc: Global, text: &mut String, limits: Limits) -> Result<(), AllocError> {
-    push_number(alloc, text, limits.sample)?;
-    push_number(alloc, text, limits.label)?;
-    push_number(alloc, text, limits.name_length)?;
-    push_number(alloc, text, limits.value_length)?;
-    push_number(alloc, text, limits.body_size)?;
-    push_number(alloc, text, limits.target)
-}
-
-/// Adds a rule: its sources, its texts, its modulus and its action.
-fn push_rule(alloc: Global, text: &mut String, rule: &RuleConf) -> Result<(), AllocError> {
-    push_names(text, rule.sources.as_slice())?;
-    for name in [
-        &rule.separator,
-        &rule.regex,
-        &rule.target,
-        &rule.replacement,
-    ] {
-        text.push_str(name.as_str())?;
-        text.push(' ')?;
-    }
-    push_number(alloc, text, rule.modulus)?;
-    text.push_str(format!(in alloc; "{:?}", rule.action)?.as_str())?;
-    text.push('/')
-}
-
-fn push_rules(alloc: Global, text: &mut String, rules: &[RuleConf]) -> Result<(), AllocError> {
-    for rule in rules {
-        push_rule(alloc, text, rule)?;
-    }
-    text.push('|')
-}
-
-fn push_params(text: &mut String, params: &[Param]) -> Result<(), AllocError> {
-    for param in params {
-        text.push_str(param.name.as_str())?;
-        text.push('=')?;
-        push_names(text, param.values.as_slice())?;
-    }
-    Ok(())
-}
-
-/// What is looked at of a job.
-#[derive(Clone, Copy)]
-enum Part {
-    Plain,
-    Durations,
-    Limits,
-    Rules,
-    Params,
-    Groups,
-    Files,
-}
-
-fn push_part(
-    alloc: Global,
-    text: &mut String,
-    job: &JobConf,
-    part: Part,
-) -> Result<(), AllocError> {
-    match part {
-        Part::Plain => push_plain(text, job),
-        Part::Durations => push_durations(alloc, text, job),
-        Part::Limits => push_limits(alloc, text, job.limits),
-        Part::Rules => {
-            push_rules(alloc, text, job.relabel.as_slice())?;
-            push_rules(alloc, text, job.metric_relabel.as_slice())
-        }
-        Part::Params => push_params(text, job.params.as_slice()),
-        Part::Groups => push_groups(text, job.groups.as_slice()),
-        Part::Files => push_names(text, job.files.as_slice()),
     }
 }
 
@@ -250,11 +135,10 @@ fn said(rt: &impl Abort, alloc: Global, text: &str, part: Part) -> Result<String
     Ok(said)
 }
 
-#[test]
-fn settings_are_what_is_said_or_defaults(rt: HostRuntime) -> Result<(), Fail> {
+fn settings_are_what_is_said_or_defaults(rt: &impl Abort, alloc: Global) -> Result<(), AllocError> {
     for &(part, text, want) in SAID {
-        let told = said(&rt, rt.alloc(), text, part)?;
-        assert_eq!(rt; told.as_str(), want, "{text}");
+        let told = said(rt, alloc, text, part)?;
+        are_bytes(rt, told.as_bytes(), want.as_bytes());
     }
     Ok(())
 }
@@ -263,12 +147,14 @@ fn settings_are_what_is_said_or_defaults(rt: HostRuntime) -> Result<(), Fail> {
 const OLD: &str =
     r#"{"scrape_configs":[{"job_name":"web","params":{"a":["1"]},"relabel_configs":[{"target_label":"t"}]}]}"#;
 
-/// Whether a job is compatible with it, and whether all their settings are the same.
-fn compared(rt: &impl Abort, alloc: Global, text: &str) -> (bool, bool) {
+/// Ends the test where a job is compatible with it, or all their settings are the same, and shouldn't be, or the
+/// other way round.
+fn is_compared(rt: &impl Abort, alloc: Global, text: &str, wanted: (bool, bool)) {
     let old = conf_of(rt, alloc, OLD);
     let new = conf_of(rt, alloc, text);
     let (old, new) = (first_job(rt, &old), first_job(rt, &new));
-    (old.compatible(new), old.same(new))
+    holds(rt, old.compatible(new) == wanted.0, text);
+    holds(rt, old.same(new) == wanted.1, text);
 }
 
 /// Jobs, whether each is compatible with it, and whether all their settings are the same.
@@ -358,9 +244,15 @@ const COMPARED: &[(&str, (bool, bool))] = &[
     ),
 ];
 
-#[test]
-fn settings_are_compared_after_defaults(rt: HostRuntime) {
-    for &(text, want) in COMPARED {
-        assert!(rt; compared(&rt, rt.alloc(), text) == want, "{text}");
+fn settings_are_compared_after_defaults(rt: &impl Abort, alloc: Global) {
+    for &(text, wanted) in COMPARED {
+        is_compared(rt, alloc, text, wanted);
     }
+}
+
+#[test]
+fn settings_are_read_and_compared(rt: HostRuntime) -> Result<(), Fail> {
+    settings_are_what_is_said_or_defaults(&rt, rt.alloc())?;
+    settings_are_compared_after_defaults(&rt, rt.alloc());
+    Ok(())
 }
