@@ -7,8 +7,8 @@ use Rattle.outside.specs.Sizes.{most_name_bytes}
 use Rattle.outside.specs.Schemes.{is_scheme}
 use Rattle.serde_json.specs.Data.{Data, Num}
 use Rattle.serde_json.specs.Find.{as_bool, as_str, as_number, as_u64}
-use Rattle.relabel.specs.declared.conf.Action.{Action}
-use Rattle.relabel.specs.declared.conf.Action.TheVariants as action
+use Rattle.rule_conf.specs.declared.conf.Action.{Action}
+use Rattle.rule_conf.specs.declared.conf.Action.TheVariants as action
 use Rattle.config_fields.specs.declared.fault.Flaw.{Flaw}
 use Rattle.config_fields.specs.declared.fault.Flaw.TheVariants as flaw
 use Rattle.config_fields.specs.declared.forms.TextForm.{TextForm}

@@ -2,8 +2,8 @@
 -- relabel_config, static_config, file_sd_config).
 use Rattle.std.specs.Prelude.{ℕ, ℤ, Bool, true, false, ◌||◌, List, codes, Option, Some, None, if◌then◌else◌}
 use Rattle.std.specs.Str.{bytes_eq}
-use Rattle.relabel.specs.declared.conf.Action.{Action}
-use Rattle.relabel.specs.declared.conf.Action.TheVariants as action
+use Rattle.rule_conf.specs.declared.conf.Action.{Action}
+use Rattle.rule_conf.specs.declared.conf.Action.TheVariants as action
 use Rattle.config_fields.specs.declared.forms.Kind.TheVariants as kind
 use Rattle.config_fields.specs.declared.forms.TextForm.{TextForm}
 use Rattle.config_fields.specs.declared.forms.TextForm.TheVariants as form

@@ -7,7 +7,7 @@ ghost use Rattle.config_fields.specs.Forms as spec;
 use crate::fault::Flaw;
 use label_set::is_label_name;
 use outside::{MOST_NAME_BYTES, is_scheme};
-use relabel::Action;
+use rule_conf::Action;
 use serde_json::{Number, Value};
 use value_text::read_duration;
 

@@ -4,7 +4,7 @@ ghost use Rattle.std.specs.Prelude.{◌≡◌};
 ghost use Rattle.config_fields.specs.Tables as spec;
 
 use crate::forms::{Kind, TextForm};
-use relabel::Action;
+use rule_conf::Action;
 
 /// What a field holds that has no further objects.
 #[derive(Clone, Copy, Debug)]

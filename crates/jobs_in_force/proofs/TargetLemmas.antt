@@ -6,7 +6,7 @@ use Rattle.std.proofs.lemmas.List.Elements.{All-nil, All-cons}
 use Rattle.label_set.specs.declared.texts.Pair.{Pair}
 use Rattle.label_set.specs.SetText.{metric_label}
 use Rattle.label_conflict.specs.Merging.{bears}
-use Rattle.relabel.specs.declared.conf.RuleConf.{RuleConf}
+use Rattle.rule_conf.specs.declared.conf.RuleConf.{RuleConf}
 use Rattle.scrape_config.specs.declared.conf.Group.{Group}
 use Rattle.scrape_config.specs.declared.conf.JobConf.{JobConf}
 use Rattle.std.specs.Str.{bytes_eq}

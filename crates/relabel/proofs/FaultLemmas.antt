@@ -3,9 +3,9 @@ use Rattle.std.proofs.Common.{◌≡◌, ℕ, ◌+◌, List, [], ◌∷◌, Opti
 use Rattle.std.specs.Prelude.{option_map}
 use Rattle.std.specs.Option.{option_or}
 use Rattle.std.proofs.lemmas.List.Elements.{All-cons}
-use Rattle.relabel.specs.Refusals.{rule_fault, first_bad_rule, HasNoBadField}
-use Rattle.relabel.specs.declared.conf.RuleConf.{RuleConf}
-use Rattle.relabel.specs.declared.conf.RuleField.{RuleField}
+use Rattle.rule_conf.specs.Refusals.{rule_fault, first_bad_rule, HasNoBadField}
+use Rattle.rule_conf.specs.declared.conf.RuleConf.{RuleConf}
+use Rattle.rule_conf.specs.declared.conf.RuleField.{RuleField}
 
 both_none : (n : ℕ) (o : Option RuleField) (p : Option (ℕ × RuleField)) → option_or (option_map (λ field. (n, field)) o) p ≡ None → (o ≡ None) × (p ≡ None)
 both_none n None p e = (refl, e)

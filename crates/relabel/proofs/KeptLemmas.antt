@@ -8,7 +8,7 @@ use Rattle.label_set.specs.declared.texts.Pair.{Pair}
 use Rattle.label_set.specs.Lasts.{with_labels}
 use Rattle.relabel.specs.Effects.{label_of}
 use Rattle.relabel.specs.Relabelling.{mapped, with_expanded}
-use Rattle.relabel.specs.declared.conf.RuleConf.{RuleConf}
+use Rattle.rule_conf.specs.declared.conf.RuleConf.{RuleConf}
 use Rattle.pattern_rule.specs.Patterns.{expansion}
 use Rattle.label_set.specs.Bytes.{is_label_name}
 use Rattle.std.proofs.lemmas.List.Concat.{flat_map-cons}

@@ -1,12 +1,9 @@
 -- The values of this crate may go to other threads and be shared by them: no part of them belongs to one thread.
 use denote.Param.Send.{IsSend, IsSync, sendable}
 use Rattle.std.proofs.Crossing.{crosses}
-use Rattle.label_set.proofs.SharingLemmas.{name_list_send, name_list_sync, name_send, name_sync}
 use Rattle.pattern_rule.proofs.SharingLemmas.{filling_send, filling_sync, pattern_send, pattern_sync}
+use Rattle.rule_conf.proofs.SharingLemmas.{rule_conf_send, rule_conf_sync}
 use Rattle.relabel.specs.contracts.actions.Templates as Templates
-use Rattle.relabel.specs.contracts.conf.Action as Action
-use Rattle.relabel.specs.contracts.conf.RuleConf as RuleConf
-use Rattle.relabel.specs.contracts.conf.RuleList as RuleList
 use Rattle.relabel.specs.contracts.rule.Rule as Rule
 use Rattle.relabel.specs.contracts.rule.Task as Task
 use Rattle.relabel.specs.contracts.rules.Rules as Rules
@@ -16,24 +13,6 @@ templates_send = search (filling_send, filling_sync, sendable, crosses) depth 60
 
 pub templates_sync : IsSync Templates.the_row
 templates_sync = search (filling_send, filling_sync, sendable, crosses) depth 60 fits 10000
-
-pub action_send : IsSend Action.the_row
-action_send = search (sendable, crosses) depth 60 fits 10000
-
-pub action_sync : IsSync Action.the_row
-action_sync = search (sendable, crosses) depth 60 fits 10000
-
-pub rule_conf_send : IsSend RuleConf.the_row
-rule_conf_send = search (name_send, name_sync, name_list_send, name_list_sync, action_send, action_sync, sendable, crosses) depth 60 fits 10000
-
-pub rule_conf_sync : IsSync RuleConf.the_row
-rule_conf_sync = search (name_send, name_sync, name_list_send, name_list_sync, action_send, action_sync, sendable, crosses) depth 60 fits 10000
-
-pub rule_list_send : IsSend RuleList.the_row
-rule_list_send = search (rule_conf_send, rule_conf_sync, sendable, crosses) depth 60 fits 10000
-
-pub rule_list_sync : IsSync RuleList.the_row
-rule_list_sync = search (rule_conf_send, rule_conf_sync, sendable, crosses) depth 60 fits 10000
 
 pub task_send : IsSend Task.the_row
 task_send = search (templates_send, templates_sync, filling_send, filling_sync, sendable, crosses) depth 60 fits 10000

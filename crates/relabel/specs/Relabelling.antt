@@ -9,9 +9,9 @@ use Rattle.label_set.specs.Bytes.{is_label_name}
 use Rattle.label_set.specs.Sets.{value_of, with_label}
 use Rattle.label_set.specs.declared.texts.Pair.{Pair}
 use Rattle.pattern_rule.specs.Patterns.{matches, expansion}
-use Rattle.relabel.specs.declared.conf.Action.{Action}
-use Rattle.relabel.specs.declared.conf.Action.TheVariants as action
-use Rattle.relabel.specs.declared.conf.RuleConf.{RuleConf}
+use Rattle.rule_conf.specs.declared.conf.Action.{Action}
+use Rattle.rule_conf.specs.declared.conf.Action.TheVariants as action
+use Rattle.rule_conf.specs.declared.conf.RuleConf.{RuleConf}
 
 -- the value of a label, empty where there is none
 abbrev pub value_or_empty : List Pair → List ℕ → List ℕ

@@ -3,7 +3,7 @@ ghost use Rattle.std.specs.Prelude.{◌≡◌, ◌<◌, ◌++◌, map, flat_map,
 ghost use Rattle.std.specs.Char.{to_ascii_lowercase, to_ascii_uppercase};
 ghost use Rattle.relabel.specs.Relabelling.{value_or_empty, joined_by, joined_text, shard_of};
 
-use crate::conf::RuleConf;
+use rule_conf::RuleConf;
 use label_set::{LabelSet, Name, NoMemory};
 use md5::{Digest, Md5};
 use std::alloc::Global;

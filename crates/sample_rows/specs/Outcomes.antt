@@ -2,7 +2,7 @@
 -- "Exposition formats").
 use Rattle.std.specs.Prelude.{ℕ, ℤ, Bool, not, List, [], length, ◌==◌, nat_lt, int_lt, Option, Some, None, Ok, Err, Result, if◌then◌else◌}
 use Rattle.label_set.specs.declared.texts.Pair.{Pair}
-use Rattle.relabel.specs.declared.conf.RuleConf.{RuleConf}
+use Rattle.rule_conf.specs.declared.conf.RuleConf.{RuleConf}
 use Rattle.scrape_limits.specs.Limits.{body_limit}
 use Rattle.expo_reader.specs.Bodies.{reading}
 use Rattle.expo_reader.specs.declared.rows.BodyRow.{BodyRow}

@@ -3,7 +3,7 @@ use Rattle.std.proofs.Common.{◌≡◌, ℕ, ℤ, ◌+◌, List, [], ◌++◌, 
 use Rattle.std.specs.Prelude.{unwrap_or, option_and_then}
 use Rattle.serde_json.specs.Data.{Data, Items, no_items, item, Members, no_members, member}
 use Rattle.serde_json.specs.Find.{get, as_array, as_object}
-use Rattle.relabel.specs.Refusals.{first_bad_rule}
+use Rattle.rule_conf.specs.Refusals.{first_bad_rule}
 use Rattle.config_fields.specs.Places.{field_place, item_place}
 use Rattle.config_fields.specs.Tables.{job_field, top_field}
 use Rattle.config_fields.specs.Walks.{flaws, missing_before, owed_after}

@@ -2,11 +2,12 @@
 use Rattle.std.proofs.Common.{◌≡◌, ℕ, List, Option, Some, None, refl, sym, ap, subst, codes}
 use Rattle.std.specs.Prelude.{option_map}
 use Rattle.std.specs.Option.{option_or}
-use Rattle.relabel.specs.Refusals.{first_bad_rule, first_bad_pattern, rules_fault}
-use Rattle.relabel.specs.declared.conf.RuleConf.{RuleConf}
-use Rattle.relabel.specs.declared.conf.RuleField.{RuleField}
-use Rattle.relabel.specs.declared.conf.RuleFault.{RuleFault}
-use Rattle.relabel.specs.declared.conf.RuleFault.TheVariants.{BadRule, BadPattern}
+use Rattle.relabel.specs.Refusals.{first_bad_pattern, rules_fault}
+use Rattle.rule_conf.specs.Refusals.{first_bad_rule}
+use Rattle.rule_conf.specs.declared.conf.RuleConf.{RuleConf}
+use Rattle.rule_conf.specs.declared.conf.RuleField.{RuleField}
+use Rattle.rule_conf.specs.declared.conf.RuleFault.{RuleFault}
+use Rattle.rule_conf.specs.declared.conf.RuleFault.TheVariants.{BadRule, BadPattern}
 use Rattle.config_fields.specs.Places.{field_place, item_place}
 use Rattle.scrape_config.specs.Reading.{rules_pattern, IsPatternCause}
 use Rattle.scrape_config.specs.declared.fault.ConfError.{ConfError}

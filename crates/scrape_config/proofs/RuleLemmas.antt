@@ -7,9 +7,9 @@ use Rattle.std.proofs.lemmas.Bool.Decides.{nat_tests}
 use Rattle.label_set.specs.Bytes.{is_label_name}
 use Rattle.serde_json.specs.Data.{Data, Num, Items, no_items, item, Members}
 use Rattle.serde_json.specs.Find.{get, as_str, as_array, as_object, as_u64}
-use Rattle.relabel.specs.Refusals.{rule_fault, has_bad_modulus, has_bad_target, first_bad_rule}
-use Rattle.relabel.specs.declared.conf.Action.{Action}
-use Rattle.relabel.specs.declared.conf.Action.TheVariants as action
+use Rattle.rule_conf.specs.Refusals.{rule_fault, has_bad_modulus, has_bad_target, first_bad_rule}
+use Rattle.rule_conf.specs.declared.conf.Action.{Action}
+use Rattle.rule_conf.specs.declared.conf.Action.TheVariants as action
 use Rattle.config_fields.specs.Places.{field_place, item_place}
 use Rattle.config_fields.specs.Forms.{is_text_of, is_modulus, action_of}
 use Rattle.config_fields.specs.Tables.{field_of, rule_field, target_form, needs_target, owed_by, key_text}

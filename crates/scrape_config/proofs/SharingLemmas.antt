@@ -3,7 +3,8 @@ use denote.Param.Send.{IsSend, IsSync, sendable}
 use Rattle.std.proofs.Crossing.{crosses}
 use Rattle.label_set.proofs.SharingLemmas.{name_list_send, name_list_sync, name_send, name_sync, pair_list_send, pair_list_sync}
 use Rattle.outside.proofs.SharingLemmas.{scheme_send, scheme_sync}
-use Rattle.relabel.proofs.SharingLemmas.{rule_list_send, rule_list_sync, rules_send, rules_sync}
+use Rattle.relabel.proofs.SharingLemmas.{rules_send, rules_sync}
+use Rattle.rule_conf.proofs.SharingLemmas.{rule_list_send, rule_list_sync}
 use Rattle.scrape_config.specs.contracts.conf.Group as Group
 use Rattle.scrape_config.specs.contracts.conf.GroupList as GroupList
 use Rattle.scrape_config.specs.contracts.conf.Job as Job

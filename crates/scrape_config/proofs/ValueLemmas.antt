@@ -2,7 +2,7 @@
 use Rattle.std.proofs.Common.{◌≡◌, ℕ, ℤ, Bool, true, false, List, [], codes, refl}
 use Rattle.std.specs.Prelude.{Option, None, unwrap_or}
 use Rattle.serde_json.specs.Data.{Data, Items}
-use Rattle.relabel.specs.declared.conf.RuleConf.{RuleConf}
+use Rattle.rule_conf.specs.declared.conf.RuleConf.{RuleConf}
 use Rattle.scrape_limits.specs.declared.limits.Limits.{Limits}
 use Rattle.scrape_config.specs.Defaults.{truth_under, list_under, files_in, interval_in, limits_or}
 use Rattle.scrape_config.specs.Values.{text_or, rules_of, members_under, groups_of, params_of, timeout_in, scheme_in, job_of}

@@ -5,8 +5,8 @@ use Rattle.std.specs.List.{list_any}
 use Rattle.std.specs.Str.{bytes_eq}
 use Rattle.serde_json.specs.Data.{Data, null, Items, no_items, item}
 use Rattle.serde_json.specs.Find.{get, as_str, as_bool, as_number, as_u64, as_array}
-use Rattle.relabel.specs.declared.conf.Action.{Action}
-use Rattle.relabel.specs.declared.conf.Action.TheVariants as action
+use Rattle.rule_conf.specs.declared.conf.Action.{Action}
+use Rattle.rule_conf.specs.declared.conf.Action.TheVariants as action
 use Rattle.scrape_limits.specs.declared.limits.Limits.{Limits}
 use Rattle.config_fields.specs.Forms.{millis_of, action_of}
 use Rattle.scrape_config.specs.declared.defaults.Base.{Base}

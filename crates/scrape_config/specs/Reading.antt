@@ -5,7 +5,7 @@ use Rattle.std.specs.Str.{is_utf8}
 use Rattle.serde_json.specs.Data.{Data}
 use Rattle.serde_json.specs.Read.{read}
 use Rattle.relabel.specs.Refusals.{first_bad_pattern}
-use Rattle.relabel.specs.declared.conf.RuleConf.{RuleConf}
+use Rattle.rule_conf.specs.declared.conf.RuleConf.{RuleConf}
 use Rattle.config_fields.specs.Places.{field_place, item_place}
 use Rattle.config_fields.specs.Faults.{told}
 use Rattle.scrape_config.specs.Lists.{conf_faults, groups_faults}

@@ -4,9 +4,9 @@ use Rattle.std.specs.Bool.{Decides}
 use Rattle.std.specs.Ordering.{int_eq}
 use Rattle.std.specs.Str.{bytes_eq}
 use Rattle.std.specs.Cmp.Lexicographic.{pointwise}
-use Rattle.relabel.specs.declared.conf.Action.{Action}
-use Rattle.relabel.specs.declared.conf.Action.TheVariants as action
-use Rattle.relabel.specs.declared.conf.RuleConf.{RuleConf}
+use Rattle.rule_conf.specs.declared.conf.Action.{Action}
+use Rattle.rule_conf.specs.declared.conf.Action.TheVariants as action
+use Rattle.rule_conf.specs.declared.conf.RuleConf.{RuleConf}
 use Rattle.scrape_limits.specs.declared.limits.Limits.{Limits}
 use Rattle.outside.specs.declared.requests.Scheme.{Scheme}
 use Rattle.outside.specs.declared.requests.Scheme.TheVariants as scheme

@@ -3,8 +3,8 @@ use Rattle.std.specs.Prelude.{ℕ, ℤ, true, false, List, [], ◌∷◌, ◌++�
 use Rattle.serde_json.specs.Data.{Data, Items, no_items, item, Members, no_members, member}
 use Rattle.serde_json.specs.Find.{get, as_str, as_array, as_object}
 use Rattle.label_set.specs.declared.texts.Pair.{Pair}
-use Rattle.relabel.specs.declared.conf.Action.TheVariants as action
-use Rattle.relabel.specs.declared.conf.RuleConf.{RuleConf}
+use Rattle.rule_conf.specs.declared.conf.Action.TheVariants as action
+use Rattle.rule_conf.specs.declared.conf.RuleConf.{RuleConf}
 use Rattle.scrape_config.specs.Defaults.{text_under, truth_under, whole_under, list_under, texts_of, texts_under, files_in, action_in, interval_in, timeout_or, limits_or, base_of}
 use Rattle.scrape_config.specs.declared.defaults.Base.{Base}
 use Rattle.outside.specs.Schemes.{scheme_of}

@@ -1,7 +1,7 @@
 //! Reading a configuration and the list of a file.
 ghost use Rattle.std.specs.Prelude.{◌≡◌, ◌++◌, ◌∷◌, [], Ok, None, All, IfOk, IfErr, OnOk, option_map, codes};
 ghost use Rattle.serde_json.specs.View.{view, items_view};
-ghost use Rattle.relabel.specs.Refusals.{first_bad_rule};
+ghost use Rattle.rule_conf.specs.Refusals.{first_bad_rule};
 ghost use Rattle.config_fields.specs.Places.{field_place, item_place};
 ghost use Rattle.scrape_config.specs.Lists.{conf_faults, job_faults, jobs_walk};
 ghost use Rattle.scrape_config.specs.Values.{conf_of, job_of, jobs_of, built};

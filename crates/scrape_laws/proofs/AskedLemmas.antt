@@ -11,7 +11,7 @@ use Rattle.label_set.specs.Bytes.{bytes_cmp}
 use Rattle.label_set.specs.Sets.{value_of, below, above, with_label}
 use Rattle.label_set.specs.declared.texts.Pair.{Pair}
 use Rattle.relabel.specs.Relabelling.{relabelled}
-use Rattle.relabel.specs.declared.conf.RuleConf.{RuleConf}
+use Rattle.rule_conf.specs.declared.conf.RuleConf.{RuleConf}
 use Rattle.scrape_config.specs.declared.conf.Group.{Group}
 use Rattle.scrape_config.specs.declared.conf.JobConf.{JobConf}
 use Rattle.target_set.specs.Listed.{listed_groups, target_list, sorted_out, target_of, distinct, is_same, kept_in, outcomes_of, group_outcomes}

@@ -6,7 +6,7 @@ use Rattle.label_set.specs.declared.texts.Pair.{Pair}
 use Rattle.label_conflict.specs.Merging.{merged}
 use Rattle.outside.specs.declared.replies.Reply.{Reply}
 use Rattle.relabel.specs.Relabelling.{relabelled}
-use Rattle.relabel.specs.declared.conf.RuleConf.{RuleConf}
+use Rattle.rule_conf.specs.declared.conf.RuleConf.{RuleConf}
 use Rattle.expo_reader.specs.Bodies.{reading}
 use Rattle.expo_reader.specs.Laws.{AgreesWith}
 use Rattle.expo_reader.specs.declared.rows.BodyRow.{BodyRow}

@@ -2,7 +2,7 @@
 -- "Feature flags", extra scrape metrics).
 use Rattle.std.specs.Prelude.{ℕ, ℤ, pos, negsuc, false, List, ◌++◌, map, length, Option, Some, None, unwrap_or, if◌then◌else◌, refl}
 use Rattle.label_set.specs.declared.texts.Pair.{Pair}
-use Rattle.relabel.specs.declared.conf.RuleConf.{RuleConf}
+use Rattle.rule_conf.specs.declared.conf.RuleConf.{RuleConf}
 use Rattle.report_samples.specs.declared.entries.Kind.TheVariants as kind
 use Rattle.report_samples.specs.declared.entries.Entry.{Entry}
 use Rattle.outside.specs.declared.replies.Reply.{Reply}

@@ -4,7 +4,7 @@
 use Rattle.std.specs.Prelude.{ℕ, ℤ, ◌-◌, Bool, true, false, List, [], map, filter, length, Option, Some, None}
 use Rattle.label_set.specs.declared.texts.Pair.{Pair}
 use Rattle.outside.specs.declared.replies.Reply.{Reply}
-use Rattle.relabel.specs.declared.conf.RuleConf.{RuleConf}
+use Rattle.rule_conf.specs.declared.conf.RuleConf.{RuleConf}
 use Rattle.sample_rows.specs.declared.fault.ScrapeFault.{ScrapeFault}
 use Rattle.sample_rows.specs.declared.scrape.RowRules.{RowRules}
 use Rattle.sample_rows.specs.declared.scrape.Sample.{Sample}

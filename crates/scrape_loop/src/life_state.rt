@@ -2,7 +2,7 @@
 ghost use Rattle.std.specs.Prelude.{◌≡◌, ◌≤◌, ◌+◌, List, [], ◌++◌, length, pos, ◌≤ℤ◌, Bool, false, true, IfOk, IfSome, OnOk, OnErr};
 ghost use Rattle.label_conflict.specs.Merging.{bears};
 ghost use Rattle.label_set.specs.SetText.{metric_label};
-ghost use Rattle.relabel.specs.declared.conf.RuleConf.{RuleConf};
+ghost use Rattle.rule_conf.specs.declared.conf.RuleConf.{RuleConf};
 ghost use Rattle.sample_rows.specs.Outcomes.{forced};
 ghost use Rattle.scrape_loop.specs.Closings.{closing_of};
 ghost use Rattle.scrape_loop.specs.Entries.{entries_by, entries_of, extra_of, forced_entries};

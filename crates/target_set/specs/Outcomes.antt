@@ -8,7 +8,7 @@ use Rattle.label_set.specs.Sets.{value_of}
 use Rattle.label_set.specs.declared.texts.Pair.{Pair}
 use Rattle.outside.specs.Schemes.{is_scheme}
 use Rattle.relabel.specs.Relabelling.{relabelled}
-use Rattle.relabel.specs.declared.conf.RuleConf.{RuleConf}
+use Rattle.rule_conf.specs.declared.conf.RuleConf.{RuleConf}
 use Rattle.scrape_config.specs.declared.conf.Group.{Group}
 use Rattle.scrape_config.specs.declared.conf.JobConf.{JobConf}
 use Rattle.target_set.specs.Prepared.{address_label, scheme_label, with_default, prepared}

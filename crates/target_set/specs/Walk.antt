@@ -6,7 +6,7 @@ use Rattle.label_set.specs.Sets.{with_label}
 use Rattle.label_set.specs.Lasts.{with_labels}
 use Rattle.label_set.specs.declared.texts.Pair.{Pair}
 use Rattle.relabel.specs.Relabelling.{relabelled}
-use Rattle.relabel.specs.declared.conf.RuleConf.{RuleConf}
+use Rattle.rule_conf.specs.declared.conf.RuleConf.{RuleConf}
 use Rattle.scrape_config.specs.declared.conf.Group.{Group}
 use Rattle.scrape_config.specs.declared.conf.Param.{Param}
 use Rattle.scrape_config.specs.declared.conf.JobConf.{JobConf}

@@ -1,5 +1,5 @@
 use Rattle.std.proofs.Common.{◌≡◌, drop}
-use Rattle.relabel.specs.Refusals.{first_bad_rule}
+use Rattle.rule_conf.specs.Refusals.{first_bad_rule}
 use Rattle.relabel.proofs.rules.first_bad.Given as goal
 
 abbrev pub invariant-loop-rule : goal.invariant-loop-rule

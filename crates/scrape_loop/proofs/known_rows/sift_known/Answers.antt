@@ -2,7 +2,7 @@ use Rattle.std.proofs.Common.{◌≡◌, ◌<◌, ◌+◌, List, Ok, ap, ap₂, 
 use Rattle.std.specs.Prelude.{map, IfSome}
 use Rattle.label_set.specs.Lent.{pair_of}
 use Rattle.label_set.specs.declared.texts.Pair.{Pair}
-use Rattle.relabel.specs.declared.conf.RuleConf.{RuleConf}
+use Rattle.rule_conf.specs.declared.conf.RuleConf.{RuleConf}
 use Rattle.sample_rows.specs.Rows.{row_series}
 use Rattle.sample_rows.proofs.RowLemmas.{more_samples, more_fault}
 use Rattle.series_cache.specs.Caches.{CacheView, find}

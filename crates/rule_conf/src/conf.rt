@@ -2,7 +2,7 @@
 ghost use Rattle.std.specs.Prelude.{◌≡◌, IfOk};
 ghost use Rattle.std.specs.List.{list_all};
 ghost use Rattle.label_set.specs.Bytes as names;
-ghost use Rattle.relabel.specs.Refusals.{has_bad_target, rule_fault};
+ghost use Rattle.rule_conf.specs.Refusals.{has_bad_target, rule_fault};
 
 use label_set::{Name, NameList, NoMemory, is_label_name};
 use std::alloc::Global;
@@ -61,7 +61,7 @@ pub struct RuleList {
 
 impl Model for RuleList {
     ghost use Rattle.std.specs.Prelude.{List};
-    ghost use Rattle.relabel.specs.declared.conf.RuleConf.{RuleConf};
+    ghost use Rattle.rule_conf.specs.declared.conf.RuleConf.{RuleConf};
 
     ghost Value = { List RuleConf };
 
@@ -101,7 +101,7 @@ pub enum RuleFault {
 
 impl From<NoMemory> for RuleFault {
     ghost use Rattle.std.specs.Prelude.{◌≡◌};
-    ghost use Rattle.relabel.specs.declared.conf.RuleFault.TheVariants as variants;
+    ghost use Rattle.rule_conf.specs.declared.conf.RuleFault.TheVariants as variants;
 
     ghost from_gives = { λ _ error. error ≡ variants.NoMemory };
 

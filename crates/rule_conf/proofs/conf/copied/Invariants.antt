@@ -1,5 +1,5 @@
 use Rattle.std.proofs.Common.{◌≡◌, take}
-use Rattle.relabel.proofs.conf.copied.Given as goal
+use Rattle.rule_conf.proofs.conf.copied.Given as goal
 
 abbrev pub invariant-loop-name : goal.invariant-loop-name
 invariant-loop-name l = l.items.items ≡ take l.name-index l.names
