@@ -126,8 +126,8 @@ pub record IsIndex (entries : List Entry) (index : Index) : Type 0 where
       number_of entries index.ends.items series ≡ suc place
   pub earlier : (place : ℕ) → place < length index.ends.items →
       slice_get index.earlier.items place
-          ≡ Some (number_in (sets_of entries index.ends.items)
-          (has_hash index.hasher (hash_at index.hasher (sets_of entries index.ends.items) place)) place)
+      ≡ Some (number_in (sets_of entries index.ends.items)
+      (has_hash index.hasher (hash_at index.hasher (sets_of entries index.ends.items) place)) place)
   pub last : (hash : ℕ) → number_of_hash index hash ≡ number_in (sets_of entries index.ends.items) (has_hash index.hasher hash) (length index.ends.items)
 
 -- this is found of a series

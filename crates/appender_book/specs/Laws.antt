@@ -12,5 +12,5 @@ VerdictsStand = (entries later : List Entry) (place : ℕ) → place < length en
 abbrev pub KeptRise : Type 0
 KeptRise =
     (entries : List Entry) (first second : ℕ) (a b : Entry) → first < second → slice_get entries first ≡ Some a →
-        slice_get entries second ≡ Some b →
+    slice_get entries second ≡ Some b →
     a.series ≡ b.series → verdict_at entries first ≡ Some Kept → verdict_at entries second ≡ Some Kept → a.moment <ℤ b.moment

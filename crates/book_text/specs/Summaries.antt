@@ -36,7 +36,7 @@ abbrev pub kind_lines : (Kind → ℕ) → List ℕ
 kind_lines count =
     number_line (kind_word Scraped) (count Scraped)
     ++ (number_line (kind_word Stale) (count Stale)
-        ++ (number_line (kind_word Report) (count Report) ++ number_line (kind_word ReportStale) (count ReportStale)))
+    ++ (number_line (kind_word Report) (count Report) ++ number_line (kind_word ReportStale) (count ReportStale)))
 
 -- `digest <hex>` and a line feed
 abbrev pub digest_line : List ℕ → List ℕ

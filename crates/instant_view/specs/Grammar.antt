@@ -52,7 +52,7 @@ IsNamed text (Some name) ms =
     (is_metric_name name ≡ true)
     × (((ms ≡ []) × (text ≡ name))
     ⊎ ((blanks : List ℕ) × (braces : List ℕ) × IsBlanks blanks × IsBraced braces ms × (list_all is_apart ms ≡ true)
-        × (text ≡ name ++ (blanks ++ braces))))
+    × (text ≡ name ++ (blanks ++ braces))))
 
 unfoldable pub IsSelector : List ℕ → SelectorParts → Type 0
 IsSelector text parts = IsNamed text parts.name parts.matchers

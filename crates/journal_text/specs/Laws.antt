@@ -16,4 +16,4 @@ BeginAlike = (es fs : List Event) (rest : List ℕ) → IsJournal es → IsJourn
 abbrev pub StandApart : Type 0
 StandApart =
     (e f : Event) (rest : List ℕ) → IsInLimits e → HasNames e → IsInLimits f → HasNames f →
-        spelling e ++ rest ≡ spelling f → (e ≡ f) × (rest ≡ [])
+    spelling e ++ rest ≡ spelling f → (e ≡ f) × (rest ≡ [])

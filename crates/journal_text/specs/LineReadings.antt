@@ -19,8 +19,8 @@ unfoldable pub targets_line : List ℕ → Option (Line × List ℕ)
 targets_line bytes =
     option_and_then
     (λ m. option_and_then (λ j. option_and_then
-        (λ f. option_map (λ t. (Targets m.0 j.0 f.0 t.0, t.1)) (field 0 most_text_bytes 10 f.1))
-        (field 1 most_name_bytes 32 j.1)) (field 1 most_name_bytes 32 m.1))
+    (λ f. option_map (λ t. (Targets m.0 j.0 f.0 t.0, t.1)) (field 0 most_text_bytes 10 f.1))
+    (field 1 most_name_bytes 32 j.1)) (field 1 most_name_bytes 32 m.1))
     (moment_field 32 bytes)
 
 unfoldable pub tick_line : List ℕ → Option (Line × List ℕ)
@@ -33,8 +33,8 @@ unfoldable pub body_line : List ℕ → Option (Line × List ℕ)
 body_line bytes =
     option_and_then
     (λ m. option_and_then (λ t. option_and_then
-        (λ s. option_map (λ n. (Body m.0 t.0 s.0 n.0, n.1)) (field 0 most_body_bytes 10 s.1)) (field 100 999 32 t.1))
-        (word_field 32 m.1))
+    (λ s. option_map (λ n. (Body m.0 t.0 s.0 n.0, n.1)) (field 0 most_body_bytes 10 s.1)) (field 100 999 32 t.1))
+    (word_field 32 m.1))
     (moment_field 32 bytes)
 
 unfoldable pub lost_line : List ℕ → Option (Line × List ℕ)

@@ -21,7 +21,7 @@ ReadsTheFormat = (bytes : List ℕ) (said : Result (List BodyRow) ℕ) → (read
 abbrev pub HasOneReading : Type 0
 HasOneReading =
     (bytes : List ℕ) → (said : Result (List BodyRow) ℕ) × IsReading bytes said
-        × ((other : Result (List BodyRow) ℕ) → IsReading bytes other → other ≡ said)
+    × ((other : Result (List BodyRow) ℕ) → IsReading bytes other → other ≡ said)
 
 -- bytes are the text of these rows, and as a body of the text exposition format they have just these rows, in lines of their own
 abbrev pub IsPlain : List ℕ → List BodyRow → Type 0

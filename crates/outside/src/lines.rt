@@ -86,8 +86,15 @@ impl Model for MemLink {
 
     ghost Value = { FailingLineView };
 
-    ghost view = { λ l. record { dialled = l.link.dialled; left = l.link.left; sent = l.sent.items; room = l.room;
-        fails = l.fails; calls = l.calls; faults = l.faults } };
+    ghost view = { λ l. record {
+      dialled = l.link.dialled;
+      left = l.link.left;
+      sent = l.sent.items;
+      room = l.room;
+      fails = l.fails;
+      calls = l.calls;
+      faults = l.faults;
+    } };
 
     ghost invariant = { λ l. (vec_len l.sent ≤ l.room) × (l.room ≤ vec_capacity l.sent) };
 }

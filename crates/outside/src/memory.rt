@@ -77,8 +77,14 @@ impl Model for MemShelf {
 
     ghost Value = { FailingShelfView };
 
-    ghost view = { λ s. record { files = s.shelf.files; misses = s.shelf.misses; overs = s.shelf.overs;
-        fails = s.fails; calls = s.calls; faults = s.faults } };
+    ghost view = { λ s. record {
+      files = s.shelf.files;
+      misses = s.shelf.misses;
+      overs = s.shelf.overs;
+      fails = s.fails;
+      calls = s.calls;
+      faults = s.faults;
+    } };
 }
 
 impl MemShelf {

@@ -9,10 +9,10 @@ ghost use Rattle.relabel.specs.Relabelling.{joined_text, value_or_empty, shard_o
 ghost use Rattle.relabel.specs.Built.{AreTemplatesOf};
 ghost use Rattle.relabel.specs.Effects.{template_of, label_of, option_list};
 
-use rule_conf::RuleConf;
 use crate::joined::{joined, shard, value_of};
 use label_set::{Label, LabelSet, Name, NoMemory, Pair, is_label_name, lent};
 use pattern_rule::{Filling, Matching};
+use rule_conf::RuleConf;
 use std::alloc::Global;
 
 /// Whether the joined text matches.

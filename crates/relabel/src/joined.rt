@@ -3,9 +3,9 @@ ghost use Rattle.std.specs.Prelude.{◌≡◌, ◌<◌, ◌++◌, map, flat_map,
 ghost use Rattle.std.specs.Char.{to_ascii_lowercase, to_ascii_uppercase};
 ghost use Rattle.relabel.specs.Relabelling.{value_or_empty, joined_by, joined_text, shard_of};
 
-use rule_conf::RuleConf;
 use label_set::{LabelSet, Name, NoMemory};
 use md5::{Digest, Md5};
+use rule_conf::RuleConf;
 use std::alloc::Global;
 
 /// The value of a label, empty where there is none.

@@ -60,7 +60,7 @@ rules_pattern list rules = option_map (λ n. field_place (item_place list n) (co
 abbrev pub job_pattern : ℕ → Job → Option (List ℕ)
 job_pattern n job =
     option_or (rules_pattern (rules_place n (codes "metric_relabel_configs")) job.conf.metric_relabel)
-        (rules_pattern (rules_place n (codes "relabel_configs")) job.conf.relabel)
+    (rules_pattern (rules_place n (codes "relabel_configs")) job.conf.relabel)
 
 -- the same of jobs, where the first has number n
 abbrev pub jobs_pattern : ℕ → List Job → Option (List ℕ)

@@ -18,7 +18,7 @@ abbrev pub HasSameReach : JobConf → JobConf → Type 0
 HasSameReach a b =
     (a.job_name ≡ b.job_name) × (a.honor_labels ≡ b.honor_labels) × (a.honor_timestamps ≡ b.honor_timestamps)
     × (a.track_timestamps_staleness ≡ b.track_timestamps_staleness)
-        × (a.extra_scrape_metrics ≡ b.extra_scrape_metrics) × (a.metrics_path ≡ b.metrics_path)
+    × (a.extra_scrape_metrics ≡ b.extra_scrape_metrics) × (a.metrics_path ≡ b.metrics_path)
     × (a.scheme ≡ b.scheme)
 
 -- two jobs have the same parameters and rules

@@ -191,7 +191,7 @@ fn of_page<L: Ledger>(
     ensures at_least { steps.old ≤ steps.new }
     ensures at_most { steps.new + length cache.old.texts
         ≤ steps.old + length (spec.texts_by terms.now.rules.now terms.now.metric.now terms.now.target.now cache.old
-            (or_line (reading (body_of reply.now)))).texts }
+        (or_line (reading (body_of reply.now)))).texts }
 {
     let (body, places) = match reply.page() {
         Page::Rows {

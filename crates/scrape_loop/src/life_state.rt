@@ -99,7 +99,7 @@ fn append(
     requires timeout { IfSome extra (λ e. pos 0 ≤ℤ e.timeout) }
     ensures entries { OnOk result (book.new.entries ≡ book.old.entries
         ++ entries_of (spec.life_of past.now.life past.now.target past.now.extra cache.now past.now.scraped)
-            extra scrape moment took) }
+        extra scrape moment took) }
     ensures spare { OnOk result (book.old.spare ≤ book.new.spare + length (entries_of
         (spec.life_of past.now.life past.now.target past.now.extra cache.now past.now.scraped)
         extra scrape moment took)) }

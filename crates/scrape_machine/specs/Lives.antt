@@ -32,8 +32,13 @@ interval_of s = number s.conf.scrape_interval
 -- life number n, of a target of a job, that begins at m: its first scrape is planned then
 unfoldable pub born : ℕ → ℕ → Job → Target → Life
 born m n s t =
-    record { state = fresh n t.labels s.conf.extra_scrape_metrics; identity = t.identity; settings = s;
-        schedule = schedule.begun_at m (interval_of s); ended = false }
+    record {
+      state = fresh n t.labels s.conf.extra_scrape_metrics;
+      identity = t.identity;
+      settings = s;
+      schedule = schedule.begun_at m (interval_of s);
+      ended = false;
+    }
 
 -- a scan at m makes a scrape of the life: it starts one, or forces one where its job is over its limit of targets
 abbrev pub starts : ℕ → Bool → Life → Bool

@@ -19,7 +19,7 @@ abbrev pub IsExponent : List ℕ → Type 0
 IsExponent bs =
     (bs ≡ [])
     ⊎ ((e : ℕ) × (sign : List ℕ) × (digits : List ℕ) × ((e ≡ 101) ⊎ (e ≡ 69)) × IsSign sign × AreDigits digits
-        × (digits ≢ []) × (bs ≡ e ∷ (sign ++ digits)))
+    × (digits ≢ []) × (bs ≡ e ∷ (sign ++ digits)))
 
 -- digits, or a point with digits before or behind it; one digit at least
 abbrev pub IsMantissa : List ℕ → Type 0
