@@ -1,5 +1,5 @@
 //! What the scrapes of one life leave for the next.
-ghost use Rattle.std.specs.Prelude.{◌≡◌, ◌≤◌, ◌+◌, List, [], ◌++◌, length, pos, ◌≤ℤ◌, Bool, false, true, IfOk, IfSome, OnOk, OnErr};
+ghost use Rattle.std.specs.Prelude.{◌≡◌, ◌≤◌, ◌+◌, List, [], ◌++◌, length, pos, ◌≤ℤ◌, Bool, cond, false, true, IfOk, IfSome, OnOk, OnErr};
 ghost use Rattle.label_conflict.specs.Merging.{bears};
 ghost use Rattle.label_set.specs.SetText.{metric_label};
 ghost use Rattle.rule_conf.specs.declared.conf.RuleConf.{RuleConf};
@@ -20,7 +20,7 @@ use crate::scrape_parts::{extra_in, fault_in, size_in};
 use crate::target_labels::TargetLabels;
 use appender_book::Book;
 use expo_reader::RawTexts;
-use label_set::{LabelSet, NoMemory, Steps};
+use label_set::{Form, LabelSet, NoMemory, Steps};
 use outside::Reply;
 use relabel::Rules;
 use report_samples::{Closing, EntryList, ExtraCounts};
@@ -47,6 +47,8 @@ pub struct LifeState {
     past: Past,
     /// What is known of the raw texts of the last good scrape.
     cache: SeriesCache,
+    /// The form of the body in which they stood.
+    form: Form,
 }
 
 impl Model for LifeState {
@@ -58,7 +60,7 @@ impl Model for LifeState {
 
     ghost view = { λ s. life_of s.past.life s.past.target s.past.extra s.cache s.past.scraped };
 
-    ghost invariant = { λ s. IsAtRest s.cache × AreRaw s.cache };
+    ghost invariant = { λ s. IsAtRest s.cache × AreRaw s.form s.cache };
 }
 
 /// The raw texts of the last good scrape.
@@ -67,9 +69,22 @@ impl RawTexts for LifeState {
 
     ghost texts = { λ s. texts_in s.cache };
 
+    ghost form_of = { λ s. s.form };
+
+    fn form(&self) -> Form {
+        self.form
+    }
+
     fn text_at(&self, place: usize) -> Option<&[u8]> {
         self.cache.text_at(place)
     }
+}
+
+/// The form of the texts that are known after a scrape: that of its body where it is good, and else the one of before.
+fn form_after(good: bool, form: Form, before: Form) -> Form
+    ensures { result ≡ cond good form before }
+{
+    if good { form } else { before }
 }
 
 /// Lets a cache without texts begin its hashes as a book does, whose seed a target doesn't know.
@@ -134,6 +149,7 @@ impl LifeState {
                 scraped: false,
             },
             cache: SeriesCache::new(alloc)?,
+            form: Form::Plain,
         })
     }
 
@@ -276,6 +292,7 @@ impl LifeState {
             Ok(()) => {
                 self.past.scraped = true;
                 self.cache.turn(fault.is_none());
+                self.form = form_after(fault.is_none(), reply.form(), self.form);
                 Ok(Counted { fault, runs })
             }
         }

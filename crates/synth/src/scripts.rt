@@ -7,7 +7,7 @@ ghost use Rattle.journal_text.specs.declared.events.Event.TheVariants as events;
 ghost use Rattle.synth.specs.Scripts as spec;
 
 use crate::pages::{conf_text, page};
-use journal_text::{Event, Journal, write_journal};
+use journal_text::{Event, Journal, Version, write_version};
 use label_set::{Blob, NoMemory};
 use outside::Reply;
 use std::alloc::Global;
@@ -164,11 +164,11 @@ pub fn journal_of(alloc: Global, plan: &Plan) -> Result<Journal, NoMemory>
 }
 
 /// The text of the journal that a seed, 1 to 10,000 targets and up to 1,000 scrapes of each make, at most 20,000 scrapes in all.
-/// It spells that journal.
+/// It spells that journal, in version 1.
 pub fn make_script(alloc: Global, seed: u32, targets: u32, scrapes: u32) -> Result<Blob, NoMemory>
     requires targets { (1 ≤ targets) × (targets ≤ spec.most_targets) }
     requires scrapes { (scrapes ≤ spec.most_scrapes) × (targets * scrapes ≤ spec.most_scrapes_of_all) }
-    ensures text { IfOk result (λ text. text ≡ journal_text (spec.script_events (spec.plan seed targets scrapes))) }
+    ensures text { IfOk result (λ text. text ≡ journal_text Version.One (spec.script_events (spec.plan seed targets scrapes))) }
     ensures spells { IfOk result (λ _. IsJournal (spec.script_events (spec.plan seed targets scrapes))) }
 {
     let plan = Plan {
@@ -177,7 +177,7 @@ pub fn make_script(alloc: Global, seed: u32, targets: u32, scrapes: u32) -> Resu
         scrapes: scrapes as u64,
     };
     let journal = journal_of(alloc, &plan)?;
-    let text = write_journal(alloc, &journal)?;
+    let text = write_version(alloc, Version::One, &journal)?;
     let _events = journal.into_events();
     Ok(text)
 }
