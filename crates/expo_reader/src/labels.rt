@@ -120,7 +120,8 @@ fn push_valued<'b>(
     rest: &'b [u8],
     labels: &mut Vec<LentLabel<'b>>,
 ) -> Result<&'b [u8], Fault>
-    ensures label { let said = spec.label_behind name.entry rest.now in MatchResult result (λ after. (p : Pair) × (said ≡ Some (p, after.now)) × (labels.new.items ≡ labels.old.items ++ p ∷ [])) (λ f. FaultIs f said) }
+    ensures label { let said = spec.label_behind name.entry rest.now in MatchResult result
+        (λ after. (p : Pair) × (said ≡ Some (p, after.now)) × (labels.new.items ≡ labels.old.items ++ p ∷ [])) (λ f. FaultIs f said) }
     ensures shorter { IfOk result (λ after. length after.now < length rest.now) }
 {
     let Some(quoted) = mark_in(b'=', rest) else {
@@ -143,7 +144,8 @@ fn push_quoted<'b>(
     text: &'b [u8],
     labels: &mut Vec<LentLabel<'b>>,
 ) -> Result<&'b [u8], Fault>
-    ensures label { let said = spec.named_label (named.quoted_name text.now) in MatchResult result (λ rest. (p : Pair) × (said ≡ Some (p, rest.now)) × (labels.new.items ≡ labels.old.items ++ p ∷ [])) (λ f. FaultIs f said) }
+    ensures label { let said = spec.named_label (named.quoted_name text.now) in MatchResult result
+        (λ rest. (p : Pair) × (said ≡ Some (p, rest.now)) × (labels.new.items ≡ labels.old.items ++ p ∷ [])) (λ f. FaultIs f said) }
     ensures shorter { IfOk result (λ rest. length rest.now < length text.now) }
 {
     match quoted_name(alloc, text) {
@@ -160,7 +162,8 @@ fn push_label<'b>(
     text: &'b [u8],
     labels: &mut Vec<LentLabel<'b>>,
 ) -> Result<&'b [u8], Fault>
-    ensures label { MatchResult result (λ rest. (p : Pair) × (spec.label_in form text.now ≡ Some (p, rest.now)) × (labels.new.items ≡ labels.old.items ++ p ∷ [])) (λ f. FaultIs f (spec.label_in form text.now)) }
+    ensures label { MatchResult result (λ rest. (p : Pair) × (spec.label_in form text.now ≡ Some (p, rest.now))
+        × (labels.new.items ≡ labels.old.items ++ p ∷ [])) (λ f. FaultIs f (spec.label_in form text.now)) }
     ensures shorter { IfOk result (λ rest. length rest.now < length text.now) }
 {
     if let Some(name) = exposed_in(text) {
@@ -180,7 +183,8 @@ pub fn labels_in<'b>(
     text: &'b [u8],
     labels: &mut Vec<LentLabel<'b>>,
 ) -> Result<&'b [u8], Fault>
-    ensures labels { MatchResult result (λ rest. (more : List Pair) × (spec.all_labels_in form text.now ≡ Some (more, rest.now)) × (labels.new.items ≡ labels.old.items ++ more)) (λ f. FaultIs f (spec.all_labels_in form text.now)) }
+    ensures labels { MatchResult result (λ rest. (more : List Pair) × (spec.all_labels_in form text.now ≡ Some (more, rest.now))
+        × (labels.new.items ≡ labels.old.items ++ more)) (λ f. FaultIs f (spec.all_labels_in form text.now)) }
     ensures shorter { IfOk result (λ rest. length rest.now < length text.now) }
 {
     let mut left = text;
@@ -205,7 +209,8 @@ pub fn labels_after<'b>(
     text: &'b [u8],
     labels: &mut Vec<LentLabel<'b>>,
 ) -> Result<&'b [u8], Fault>
-    ensures labels { MatchResult result (λ rest. (more : List Pair) × (spec.labels_after text.now ≡ Some (more, rest.now)) × (labels.new.items ≡ labels.old.items ++ more)) (λ f. FaultIs f (spec.labels_after text.now)) }
+    ensures labels { MatchResult result (λ rest. (more : List Pair) × (spec.labels_after text.now ≡ Some (more, rest.now))
+        × (labels.new.items ≡ labels.old.items ++ more)) (λ f. FaultIs f (spec.labels_after text.now)) }
     ensures shorter { IfOk result (λ rest. length rest.now < length text.now) }
 {
     match mark_in(b',', text) {

@@ -215,7 +215,8 @@ pub(crate) fn like_parts<'b, T: RawTexts>(
 ) -> Result<(LineSpan, u32), Fault>
     requires bare { blank_len line.now ≡ 0 }
     requires few { length line.now < 2 ^ 32 }
-    ensures said { (number : ℕ) → MatchResult result (λ p. spec.sample_in form number line.now ≡ Some (seen.row_at number line.now p.0)) (λ f. FaultIs f (spec.sample_in form number line.now)) }
+    ensures said { (number : ℕ) → MatchResult result (λ p. spec.sample_in form number line.now ≡ Some (seen.row_at number line.now p.0))
+        (λ f. FaultIs f (spec.sample_in form number line.now)) }
     ensures inside { IfOk result (λ p. seen.IsInside (length line.now) p.0) }
     ensures like { IfOk result (λ p. IsLike (T.texts like.now) p.1 (take p.0.raw_len line.now)) }
 {

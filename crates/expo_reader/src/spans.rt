@@ -102,7 +102,8 @@ fn labelled_parts(
 ) -> Result<LineSpan, Fault>
     requires tail { seen.IsTail rest.now line.now }
     requires few { length line.now < 2 ^ 32 }
-    ensures said { (number : ℕ) (name : List ℕ) → let said = spec.differing_row number line.now name labels.now rest.now in MatchResult result (λ s. said ≡ Some (seen.spanned_row number line.now name labels.now s)) (λ f. FaultIs f said) }
+    ensures said { (number : ℕ) (name : List ℕ) → let said = spec.differing_row number line.now name labels.now rest.now in MatchResult result
+        (λ s. said ≡ Some (seen.spanned_row number line.now name labels.now s)) (λ f. FaultIs f said) }
     ensures inside { IfOk result (λ s. seen.IsInside (length line.now) s) }
 {
     let differ = names_differ(alloc, labels)?;
@@ -120,7 +121,9 @@ fn braced_parts<'b>(
     labels: &mut Vec<LentLabel<'b>>,
 ) -> Result<LineSpan, Fault>
     requires few { length line.now < 2 ^ 32 }
-    ensures said { (number : ℕ) → let said = spec.braced_row number line.now (braced_name line.now) in MatchResult result (λ s. said ≡ Some (seen.spanned_row number line.now (seen.word_of (braced_name line.now)) (seen.braced_labels (braced_name line.now)) s)) (λ f. FaultIs f said) }
+    ensures said { (number : ℕ) → let said = spec.braced_row number line.now (braced_name line.now) in MatchResult result
+        (λ s. said ≡ Some (seen.spanned_row number line.now (seen.word_of (braced_name line.now)) (seen.braced_labels (braced_name line.now)) s))
+        (λ f. FaultIs f said) }
     ensures inside { IfOk result (λ s. seen.IsInside (length line.now) s) }
 {
     let rest = match braced_name(alloc, line) {
@@ -143,7 +146,8 @@ pub(crate) fn line_parts<'b>(
 ) -> Result<LineSpan, Fault>
     requires bare { blank_len line.now ≡ 0 }
     requires few { length line.now < 2 ^ 32 }
-    ensures said { (number : ℕ) → MatchResult result (λ s. spec.sample_in form number line.now ≡ Some (seen.row_at number line.now s)) (λ f. FaultIs f (spec.sample_in form number line.now)) }
+    ensures said { (number : ℕ) → MatchResult result (λ s. spec.sample_in form number line.now ≡ Some (seen.row_at number line.now s))
+        (λ f. FaultIs f (spec.sample_in form number line.now)) }
     ensures inside { IfOk result (λ s. seen.IsInside (length line.now) s) }
 {
     let Some(name) = metric_in(line) else {
@@ -174,7 +178,8 @@ fn read_parts<'b, T: RawTexts>(
     labels: &mut Vec<LentLabel<'b>>,
 ) -> Result<(Option<(usize, LineSpan)>, u32), BodyCause>
     requires { length line.now < 2 ^ 32 }
-    ensures said { MatchResult result (λ r. line_reading form number line.now ≡ Ok (seen.span_row number line.now r.0)) (λ c. CauseIs c (line_reading form number line.now)) }
+    ensures said { MatchResult result (λ r. line_reading form number line.now ≡ Ok (seen.span_row number line.now r.0))
+        (λ c. CauseIs c (line_reading form number line.now)) }
     ensures inside { IfOk result (λ r. IfSome r.0 (λ p. (p.0 ≤ length line.now) × seen.IsInside (length line.now - p.0) p.1)) }
     ensures like { IfOk result (λ r. IfSome r.0 (λ p. IsLike (T.texts like.now) r.1 (take p.1.raw_len (drop p.0 line.now)))) }
 {

@@ -143,10 +143,12 @@ fn advance(
     pending: &mut Vec<u8>,
     piece: &[u8],
 ) -> Result<Place, NoMemory>
-    ensures leads { IfOk result (λ next. Fits place.stage limit body.old.items → Leads limit place.stage body.old.items (pending.old.items ++ piece.now) next.stage body.new.items pending.new.items) }
+    ensures leads { IfOk result (λ next. Fits place.stage limit body.old.items →
+        Leads limit place.stage body.old.items (pending.old.items ++ piece.now) next.stage body.new.items pending.new.items) }
     ensures waits { IfOk result (λ next. Fits place.stage limit body.old.items → Waits next.stage pending.new.items) }
     ensures short { IfOk result (λ next. Fits place.stage limit body.old.items → is_done next.stage ≡ false → IsShort pending.new.items) }
-    ensures kind { IfOk result (λ next. (b : List ℕ) → Tells place.stage place.kind 8 b (pending.old.items ++ piece.now) → Tells next.stage next.kind 8 b pending.new.items) }
+    ensures kind { IfOk result (λ next. (b : List ℕ) → Tells place.stage place.kind 8 b (pending.old.items ++ piece.now) →
+        Tells next.stage next.kind 8 b pending.new.items) }
     ensures body { OnErr result (body.new.items ≡ body.old.items) }
     ensures pending { OnErr result (pending.new.items ≡ pending.old.items) }
 {

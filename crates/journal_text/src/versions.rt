@@ -28,7 +28,8 @@ pub(crate) fn first_line(version: Version) -> &'static [u8]
 
 /// The version of a text by its first line, and what follows that.
 pub(crate) fn version_of(bytes: &[u8]) -> Option<(Version, &[u8])>
-    ensures { MatchOption result ((version : Version) (rest : List ℕ) → bytes.now ≡ spec.first_line version ++ rest → ⊥) (λ p. bytes.now ≡ spec.first_line p.0 ++ p.1.now) }
+    ensures { MatchOption result ((version : Version) (rest : List ℕ) → bytes.now ≡ spec.first_line version ++ rest → ⊥)
+        (λ p. bytes.now ≡ spec.first_line p.0 ++ p.1.now) }
 {
     if let Some(rest) = bytes.strip_prefix(FIRST_LINE) {
         return Some((Version::One, rest));

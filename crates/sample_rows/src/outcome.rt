@@ -90,7 +90,8 @@ fn of_page<L: Ledger>(
     steps: &mut Steps<L>,
 ) -> Result<Scrape, NoMemory>
     requires nameless { bears target.now metric_label ≡ false }
-    ensures outcome { IfOk result (λ s. s ≡ spec.of_early rules.now metric.now target.now (spec.or_line (reading (spec.form_of reply.now) (spec.body_of reply.now)))) }
+    ensures outcome { IfOk result (λ s. s ≡ spec.of_early rules.now metric.now target.now
+        (spec.or_line (reading (spec.form_of reply.now) (spec.body_of reply.now)))) }
     ensures steps { OnOk result (steps.new ≡ steps.old + spec.row_count (spec.or_line (reading (spec.form_of reply.now) (spec.body_of reply.now)))) }
     ensures at_least { steps.old ≤ steps.new }
 {

@@ -144,8 +144,10 @@ fn sift_known<L: Ledger>(
 ) -> Result<Sifted, NoMemory>
     requires nameless { bears terms.now.target.now metric_label ≡ false }
     requires right { spec.AreRight terms.now.rules.now.honor_labels terms.now.metric.now terms.now.target.now cache.old.texts }
-    ensures samples { IfOk result (λ s. s.samples.items ≡ samples_of (left_from terms.now.rules.now terms.now.metric.now terms.now.target.now 0 body.now.rows)) }
-    ensures fault { IfOk result (λ s. s.fault ≡ first_fault terms.now.rules.now.limits (left_from terms.now.rules.now terms.now.metric.now terms.now.target.now 0 body.now.rows)) }
+    ensures samples { IfOk result (λ s. s.samples.items
+        ≡ samples_of (left_from terms.now.rules.now terms.now.metric.now terms.now.target.now 0 body.now.rows)) }
+    ensures fault { IfOk result (λ s. s.fault ≡ first_fault terms.now.rules.now.limits
+        (left_from terms.now.rules.now terms.now.metric.now terms.now.target.now 0 body.now.rows)) }
     ensures cache { OnOk result (cache.new ≡ spec.shown_all terms.now.rules.now terms.now.metric.now terms.now.target.now cache.old body.now.rows) }
     ensures undone { undone cache.new ≡ undone cache.old }
     ensures steps { OnOk result (steps.new + length cache.old.texts ≡ steps.old + length cache.new.texts) }
@@ -179,13 +181,16 @@ fn of_page<L: Ledger>(
     requires page { is_page reply.now ≡ true }
     requires nameless { bears terms.now.target.now metric_label ≡ false }
     requires right { spec.AreRight terms.now.rules.now.honor_labels terms.now.metric.now terms.now.target.now cache.old.texts }
-    ensures outcome { IfOk result (λ s. s ≡ of_early terms.now.rules.now terms.now.metric.now terms.now.target.now (or_line (reading (form_of reply.now) (body_of reply.now)))) }
-    ensures cache { OnOk result (cache.new ≡ spec.texts_by terms.now.rules.now terms.now.metric.now terms.now.target.now cache.old (or_line (reading (form_of reply.now) (body_of reply.now)))) }
+    ensures outcome { IfOk result (λ s. s ≡ of_early terms.now.rules.now terms.now.metric.now terms.now.target.now
+        (or_line (reading (form_of reply.now) (body_of reply.now)))) }
+    ensures cache { OnOk result (cache.new ≡ spec.texts_by terms.now.rules.now terms.now.metric.now terms.now.target.now cache.old
+        (or_line (reading (form_of reply.now) (body_of reply.now)))) }
     ensures undone { undone cache.new ≡ undone cache.old }
     ensures steps { OnOk result (steps.new + length cache.old.texts ≡ steps.old + length cache.new.texts) }
     ensures at_least { steps.old ≤ steps.new }
     ensures at_most { steps.new + length cache.old.texts
-        ≤ steps.old + length (spec.texts_by terms.now.rules.now terms.now.metric.now terms.now.target.now cache.old (or_line (reading (form_of reply.now) (body_of reply.now)))).texts }
+        ≤ steps.old + length (spec.texts_by terms.now.rules.now terms.now.metric.now terms.now.target.now cache.old
+        (or_line (reading (form_of reply.now) (body_of reply.now)))).texts }
 {
     let (body, places) = match reply.page() {
         Page::Rows {
@@ -254,7 +259,8 @@ pub fn shown_rows<L: Ledger>(
     requires kept { cache.old.kept ≤ length cache.old.texts }
     ensures outcome { IfOk result (λ s. s.scrape ≡ outcome terms.now.rules.now terms.now.metric.now terms.now.target.now reply.now took) }
     ensures shows { IfOk result (λ s. Shows cache.new s.scrape) }
-    ensures cache { IfOk result (λ s. turned (is_good s.scrape) cache.new ≡ turned (is_good s.scrape) (spec.texts_shown terms.now reply.now took cache.old)) }
+    ensures cache { IfOk result (λ s. turned (is_good s.scrape) cache.new
+        ≡ turned (is_good s.scrape) (spec.texts_shown terms.now reply.now took cache.old)) }
     ensures was { OnOk result (was_sets cache.new.texts ≡ was_sets cache.old.texts) }
     ensures undone { undone cache.new ≡ cache.old }
     ensures err { OnErr result (cache.new ≡ cache.old) }
