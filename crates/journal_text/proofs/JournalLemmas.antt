@@ -162,8 +162,11 @@ all_two : (es : List Event) → All (HasEvent Two) es
 all_two es = λ k d within. has_two (get_or es k d)
 
 -- texts of two versions begin with lines that differ
+one_two : ◌≡◌ {A = ℕ} 49 50 → ⊥
+one_two e = omega arith
+
 versions_differ : (x y : List ℕ) → first_line One ++ x ≡ first_line Two ++ y → ⊥
-versions_differ x y same = cc
+versions_differ x y same = one_two (ap (λ (ts : List ℕ). get_or ts 15 0) same)
 
 -- what two versions of the same text have in common
 pub record Alike (v w : Version) (es fs : List Event) (rest more : List ℕ) (o u : Option ScriptCause) : Type 0 where

@@ -63,13 +63,33 @@ impl Model for LifeState {
     ghost invariant = { λ s. IsAtRest s.cache × AreRaw s.form s.cache };
 }
 
-/// The raw texts of the last good scrape.
-impl RawTexts for LifeState {
+/// The raw texts of the last good scrape of a life, all of one form.
+#[derive(Drop)]
+struct LastTexts<'a> {
+    cache: &'a SeriesCache,
+    form: Form,
+}
+
+impl<'a> Model for LastTexts<'a> {
+    ghost use Rattle.std.specs.Prelude.{◌×◌};
+    ghost use Rattle.label_set.specs.declared.forms.Form.{Form};
+    ghost use Rattle.series_cache.specs.Caches.{CacheView};
+
+    ghost Value = { CacheView × Form };
+
+    ghost use Rattle.scrape_loop.specs.Raw.{AreRaw};
+
+    ghost view = { λ t. (t.cache.now, t.form) };
+
+    ghost invariant = { λ t. AreRaw t.form t.cache.now };
+}
+
+impl<'a> RawTexts for LastTexts<'a> {
     ghost use Rattle.scrape_loop.specs.Fresh.{texts_in};
 
-    ghost texts = { λ s. texts_in s.cache };
+    ghost texts = { λ t. texts_in t.0 };
 
-    ghost form_of = { λ s. s.form };
+    ghost form_of = { λ t. t.1 };
 
     fn form(&self) -> Form {
         self.form
@@ -181,7 +201,11 @@ impl LifeState {
     pub fn read(&self, alloc: Global, reply: Reply) -> Result<ReadReply, NoMemory>
         ensures { IfOk result (λ r. r ≡ reply) }
     {
-        ReadReply::like(alloc, reply, self)
+        let known = LastTexts {
+            cache: &self.cache,
+            form: self.form,
+        };
+        ReadReply::like(alloc, reply, &known)
     }
 
     /// What the life leaves behind where it is closed at a moment, with its next scrape planned at another one and this scrape interval.
@@ -274,6 +298,7 @@ impl LifeState {
             steps,
         )?;
         let fault = fault_in(&scrape);
+        let good = fault.is_none();
         let extra = extra_in(rules, size_in(&scrape, reply.size()));
         match append(
             alloc,
@@ -291,8 +316,8 @@ impl LifeState {
             }
             Ok(()) => {
                 self.past.scraped = true;
-                self.cache.turn(fault.is_none());
-                self.form = form_after(fault.is_none(), reply.form(), self.form);
+                self.form = form_after(good, reply.form(), self.form);
+                self.cache.turn(good);
                 Ok(Counted { fault, runs })
             }
         }

@@ -22,8 +22,8 @@ returns-in-Ok-clause-state g c =
     let took : to_z w64 (of_z w64 c.args.took) ≡ c.args.took = to_z-of_z w64 c.args.took c.ranges.took in
     let s = c.in_ok-scrape in
     reply_state p.life p.target c.set-target.result.now p.extra p.scraped c.self.inside.cache c.seed.new.cache c.shown_rows.new.cache c.args.rules.now c.args.metric.now c.args.reply.now
-    c.args.took (to_z w64 (of_z w64 c.args.took)) s.field-0.scrape c.args.self.now c.self.view_is c.set-target.ensures.value c.seed.ensures.same took s.ensures.outcome s.ensures.undone c.is_none.result
-    c.turn.new.self (sym (ap is_some c.fault_in-fault.ensures) ∙ c.is_none.ensures) s.ensures.shows s.ensures.cache c.turn.ensures.turned c.turn.ensures.was
+    c.args.took (to_z w64 (of_z w64 c.args.took)) s.field-0.scrape c.args.self.now c.self.view_is c.set-target.ensures.value c.seed.ensures.same took s.ensures.outcome s.ensures.undone c.is_none-good.result
+    c.turn.new.self (sym (ap is_some c.fault_in-fault.ensures) ∙ c.is_none-good.ensures) s.ensures.shows s.ensures.cache c.turn.ensures.turned c.turn.ensures.was
 
 law : (g : _) (c : goal.After-turn g) → KnownLaw c.args.self.now c.args.rules.now c.args.metric.now c.args.reply.now c.args.took
 law g c =
@@ -35,13 +35,13 @@ invariant_of-self-in-Ok g c =
     let p = c.self.inside.past in
     let took : to_z w64 (of_z w64 c.args.took) ≡ c.args.took = to_z-of_z w64 c.args.took c.ranges.took in
     let s = c.in_ok-scrape in
-    let good : c.is_none-2.result ≡ is_good (outcome_for c.args.self.now c.args.rules.now c.args.metric.now c.args.reply.now c.args.took) =
-    good_told s.field-0.scrape c.is_none-2.result (sym (ap is_some c.fault_in-fault.ensures) ∙ c.is_none-2.ensures)
+    let good : c.is_none-good.result ≡ is_good (outcome_for c.args.self.now c.args.rules.now c.args.metric.now c.args.reply.now c.args.took) =
+    good_told s.field-0.scrape c.is_none-good.result (sym (ap is_some c.fault_in-fault.ensures) ∙ c.is_none-good.ensures)
     ∙ ap is_good (reply_told p.life p.target c.set-target.result.now p.extra p.scraped c.self.inside.cache c.seed.new.cache c.shown_rows.new.cache c.args.rules.now c.args.metric.now c.args.reply.now
     c.args.took (to_z w64 (of_z w64 c.args.took)) s.field-0.scrape c.args.self.now c.self.view_is c.set-target.ensures.value c.seed.ensures.same took s.ensures.outcome s.ensures.undone) in
-    let form : c.form_after.result ≡ cond (is_good (outcome_for c.args.self.now c.args.rules.now c.args.metric.now c.args.reply.now c.args.took)) (form_of c.args.reply.now) c.self.inside.form =
-    c.form_after.ensures ∙ ap₂ (λ (b : Bool) (f : Form). cond b f c.self.inside.form) good c.form.ensures in (
-      subst IsAtRest (sym c.turn.ensures.turned) (turned_rests c.is_none.result c.shown_rows.new.cache),
+    let form : c.form_after-self-inside.result ≡ cond (is_good (outcome_for c.args.self.now c.args.rules.now c.args.metric.now c.args.reply.now c.args.took)) (form_of c.args.reply.now) c.self.inside.form =
+    c.form_after-self-inside.ensures ∙ ap₂ (λ (b : Bool) (f : Form). cond b f c.self.inside.form) good c.form.ensures in (
+      subst IsAtRest (sym c.turn.ensures.turned) (turned_rests c.is_none-good.result c.shown_rows.new.cache),
       subst (λ (f : Form). AreRaw f c.turn.new.self) (sym form)
           (subst (λ (v : LifeView). AreRaw (cond (is_good (outcome_for c.args.self.now c.args.rules.now c.args.metric.now c.args.reply.now c.args.took)) (form_of c.args.reply.now) c.self.inside.form) v.cache)
           (sym (returns-in-Ok-clause-state g c))
