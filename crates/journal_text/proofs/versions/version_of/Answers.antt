@@ -8,6 +8,6 @@ use Rattle.journal_text.proofs.versions.version_of.Goals as goal
 -- a text is what its front and the rest come to
 abbrev pub returns-in-Some-strip_prefix : goal.returns-in-Some-strip_prefix
 returns-in-Some-strip_prefix c =
-    let found = c.strip_prefix_2.in-Some in
+    let found = c.in-Some-strip_prefix.ensures.cases in
     let front : take 17 c.args.bytes.now ≡ first_line Two = (bytes_eq-Decides (take 17 c.args.bytes.now) (first_line Two)).0 found.0 in
     sym (take-append-drop 17 c.args.bytes.now) ∙ ap₂ (λ a b. a ++ b) front (sym found.1)
