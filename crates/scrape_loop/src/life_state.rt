@@ -71,7 +71,6 @@ struct LastTexts<'a> {
 }
 
 impl<'a> Model for LastTexts<'a> {
-    ghost use Rattle.std.specs.Prelude.{◌×◌};
     ghost use Rattle.label_set.specs.declared.forms.Form.{Form};
     ghost use Rattle.series_cache.specs.Caches.{CacheView};
 
