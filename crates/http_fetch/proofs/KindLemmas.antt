@@ -1,4 +1,4 @@
--- Whether a body is of OpenMetrics, step by step.
+-- What a body is of, step by step.
 use Rattle.std.proofs.Common.{◌≡◌, ℕ, ◌+◌, ◌-◌, ◌<◌, ◌≤◌, Bool, true, false, nat_lt, ◌==◌, List, [], ◌++◌, length, drop, Option, Some, None, refl, sym, ap, ◌∙◌, subst, arith, ⊎_elim, append_assoc, append-nil, if◌then◌else◌}
 use Rattle.std.proofs.lemmas.Bool.{cases_Bool}
 use Rattle.std.proofs.lemmas.Bool.Decides.{nat_tests}
@@ -74,9 +74,9 @@ head-kind text status len f kind limit left w =
     (cases_Bool (left == 0)))
     (λ (interim : nat_lt status 200 ≡ false).
     (let final : 200 ≤ status_code w.head = (let h : 200 ≤ status = grind (arith, nat_tests) in omega (arith, h, w.status_is)) in
-    let kind : HasKind left text kind = (w.head, drop len text, reaches-here left w.reads final, w.kind_is) in
+    let known : HasKind left text kind = (w.head, drop len text, reaches-here left w.reads final, w.kind_is) in
     rw (low, interim) (tells-of (if status == 200 then after_good f limit else Whole status) kind left text (drop len text)
-    (if-behind (status == 200) (after_good f limit) (Whole status) (good-behind f limit) refl) kind)))
+    (if-behind (status == 200) (after_good f limit) (Whole status) (good-behind f limit) refl) known)))
     (cases_Bool (nat_lt status 200)))
     (cases_Bool (nat_lt status 100))
 
