@@ -1,5 +1,5 @@
 -- What becomes of what came.
-use Rattle.std.proofs.Common.{◌≡◌, ℕ, ◌≤◌, ◌↔◌, Bool, true, false, ◌&&◌, ◌==◌, nat_le, List, [], ◌++◌, length, Result, Ok, Err, refl, sym, ap, ◌∙◌, subst, arith, if◌then◌else◌}
+use Rattle.std.proofs.Common.{◌≡◌, ℕ, ◌≤◌, Bool, true, false, ◌==◌, nat_le, List, ◌++◌, length, Result, Ok, Err, refl, sym, ap, ◌∙◌, subst, arith, if◌then◌else◌}
 use Rattle.std.proofs.lemmas.Bool.Decides.{nat_tests}
 use Rattle.httparse.specs.Grammar.{ResponseHead}
 use Rattle.outside.specs.declared.replies.Reply.{Reply}
@@ -13,7 +13,7 @@ use Rattle.http_fetch.specs.declared.stages.Stage.{Stage}
 use Rattle.http_fetch.specs.declared.stages.Stage.TheVariants.{Heads, Length, Line, Data, Trailer, Open, Whole, Over, Never}
 use Rattle.http_fetch.specs.Decoders.{IsSettled}
 use Rattle.http_fetch.specs.Kinds.{Tells}
-use Rattle.http_fetch.specs.Replies.{Becomes, Came, Http, Reaches, converted_reply, kind_of, page_of, rendered}
+use Rattle.http_fetch.specs.Replies.{Becomes, Came, Http, converted_reply, kind_of, page_of, rendered}
 use Rattle.http_fetch.specs.Stages.{Stands}
 use Rattle.http_fetch.proofs.DecoderLemmas.{CameSettled, reaches-append}
 use Rattle.http_fetch.proofs.LimitLemmas.{came-limits}
