@@ -55,14 +55,14 @@ line-full text none full more k rest y =
 
 pub head-found : (text : List ℕ) (len code : ℕ) (f : Framing) (kind : Kind) (h : ResponseHead) → ReadsResponse text h (drop len text) → len ≡ length (print_response h) → code ≡ status_code h → f ≡ framing_of h → kind ≡ kind_of h →
     length h.fields ≤ 64 → len ≤ 65536 → HasHead text code len f kind
-head-found text len code f kind h reads is status framing kind few small =
+head-found text len code f kind h reads is status framing says few small =
     let all : length text ≡ length (print_response h) + length (drop len text) = ap length reads.1 ∙ length-append (print_response h) (drop len text) in
     record {
       head = h;
       reads = record { reads = reads; few = few; short = omega (arith, is, small) };
       status_is = status;
       framing_is = framing;
-      kind_is = kind;
+      kind_is = says;
       some = pos_of-some (print_response h) len is (λ e. print-some h [] (ap (λ (t : List ℕ). t ++ []) e));
       within = omega (arith, all, is);
     }

@@ -1,8 +1,8 @@
--- Whether a body is of OpenMetrics, step by step.
-use Rattle.std.proofs.Common.{◌≡◌, ℕ, ◌+◌, ◌-◌, ◌<◌, ◌≤◌, Bool, true, false, nat_lt, ◌==◌, List, [], ◌++◌, length, drop, Option, Some, None, refl, sym, ap, ◌∙◌, subst, arith, ⊎_elim, append_assoc, append-nil, if◌then◌else◌}
+-- What a body is of, step by step.
+use Rattle.std.proofs.Common.{◌≡◌, ℕ, ◌<◌, ◌≤◌, Bool, true, false, nat_lt, ◌==◌, List, [], ◌++◌, drop, Some, refl, sym, subst, arith, ⊎_elim, append_assoc, append-nil, if◌then◌else◌}
 use Rattle.std.proofs.lemmas.Bool.{cases_Bool}
 use Rattle.std.proofs.lemmas.Bool.Decides.{nat_tests}
-use Rattle.httparse.specs.Grammar.{ResponseHead, status_code}
+use Rattle.httparse.specs.Grammar.{status_code}
 use Rattle.http_fetch.specs.declared.fields.Kind.{Kind}
 use Rattle.http_fetch.specs.declared.fields.Framing.{Framing}
 use Rattle.http_fetch.specs.declared.fields.Framing.TheVariants as framings
@@ -11,7 +11,7 @@ use Rattle.http_fetch.specs.declared.stages.Stage.TheVariants.{Heads, Length, Li
 use Rattle.http_fetch.specs.declared.stages.Step.{Step}
 use Rattle.http_fetch.specs.Kinds.{GoesOn, HasKind, KeepsKind, Tells, is_heads}
 use Rattle.http_fetch.specs.Reading.{HasHead}
-use Rattle.http_fetch.specs.Replies.{Reaches, kind_of}
+use Rattle.http_fetch.specs.Replies.{Reaches}
 use Rattle.http_fetch.specs.Steps.{after_good, after_head, after_length, after_line, is_body, is_done}
 use Rattle.http_fetch.proofs.DecoderLemmas.{reaches-append}
 use Rattle.http_fetch.proofs.FrontLemmas.{head-append}
@@ -74,9 +74,9 @@ head-kind text status len f kind limit left w =
     (cases_Bool (left == 0)))
     (λ (interim : nat_lt status 200 ≡ false).
     (let final : 200 ≤ status_code w.head = (let h : 200 ≤ status = grind (arith, nat_tests) in omega (arith, h, w.status_is)) in
-    let kind : HasKind left text kind = (w.head, drop len text, reaches-here left w.reads final, w.kind_is) in
+    let known : HasKind left text kind = (w.head, drop len text, reaches-here left w.reads final, w.kind_is) in
     rw (low, interim) (tells-of (if status == 200 then after_good f limit else Whole status) kind left text (drop len text)
-    (if-behind (status == 200) (after_good f limit) (Whole status) (good-behind f limit) refl) kind)))
+    (if-behind (status == 200) (after_good f limit) (Whole status) (good-behind f limit) refl) known)))
     (cases_Bool (nat_lt status 200)))
     (cases_Bool (nat_lt status 100))
 

@@ -1,5 +1,5 @@
 -- The steps that the functions answer.
-use Rattle.std.proofs.Common.{◌≡◌, ℕ, ◌+◌, ◌-◌, ◌<◌, ◌≤◌, Bool, true, false, nat_lt, ◌==◌, List, [], ◌∷◌, ◌++◌, length, take, drop, refl, sym, ap, subst, arith, map}
+use Rattle.std.proofs.Common.{◌≡◌, ℕ, ◌+◌, ◌-◌, ◌<◌, ◌≤◌, true, false, nat_lt, ◌==◌, List, [], ◌∷◌, ◌++◌, length, take, drop, refl, sym, ap, subst, arith, map}
 use Rattle.std.proofs.lemmas.List.{length-take-le, length-map}
 use Rattle.httparse.specs.Grammar.{Field, status_code, chunk_size}
 use Rattle.httparse.specs.Spans.{name_and_value}

@@ -1,6 +1,6 @@
 -- What the fields of a head say of the body that follows it. A field is its name and its value.
 use Rattle.std.specs.Prelude.{ℕ, ◌+◌, ◌-◌, ◌*◌, ◌^◌, Bool, false, ◌&&◌, ◌||◌, not, ◌==◌, nat_lt, if◌then◌else◌, List, [], ◌∷◌, length, take, drop, Option, Some, None, codes}
-use Rattle.std.specs.List.{list_all, list_any, prefix_len}
+use Rattle.std.specs.List.{list_all, list_any, prefix_len, slice_split}
 use Rattle.std.specs.Char.{is_ascii_digit}
 use Rattle.std.specs.Str.{str_eq_ignore_ascii_case}
 use Rattle.std.specs.Str.Parse.{digits_value}
@@ -84,23 +84,15 @@ media v = drop (prefix_len is_space (media_front v)) (media_front v)
 unfoldable pub is_named_openmetrics : List ℕ → Bool
 is_named_openmetrics v = same_word (take 28 (media v)) (codes "application/openmetrics-text") && list_all is_space (drop 28 (media v))
 
--- the value is cut at each `;`
-abbrev pub onto_part : ℕ → List (List ℕ) → List (List ℕ)
-onto_part b [] = (b ∷ []) ∷ []
-onto_part b (p ∷ ps) = (b ∷ p) ∷ ps
-
-unfoldable pub parts_of : List ℕ → List (List ℕ)
-parts_of [] = [] ∷ []
-parts_of (b ∷ bs) = if b == 59 then [] ∷ parts_of bs else onto_part b (parts_of bs)
-
--- a part that says, in any case of letters and with blanks at its ends, that names stand in quotes ("UTF-8 in Prometheus", content negotiation)
+-- the part says, in any case of letters and with blanks at its ends, that names stand in quotes ("UTF-8 in Prometheus", content negotiation)
 unfoldable pub is_escaping : List ℕ → Bool
 is_escaping p =
     let word = drop (prefix_len is_space p) p in
     same_word (take 20 word) (codes "escaping=allow-utf-8") && list_all is_space (drop 20 word)
 
+-- a part of the value that is cut at each `;` does
 unfoldable pub says_quoted : List ℕ → Bool
-says_quoted v = list_any is_escaping (parts_of v)
+says_quoted v = list_any is_escaping (slice_split (λ b. b == 59) v)
 
 -- what the body is of, by a value
 unfoldable pub kind_by : List ℕ → Kind

@@ -1,5 +1,5 @@
 -- What the functions that look at the front of some bytes say of them.
-use Rattle.std.specs.Prelude.{◌≡◌, ◌≢◌, ℕ, ◌+◌, ◌<◌, ◌≤◌, max, Bool, true, false, List, ◌∷◌, ◌++◌, length, drop, take}
+use Rattle.std.specs.Prelude.{◌≡◌, ◌≢◌, ℕ, ◌+◌, ◌<◌, ◌≤◌, max, true, false, List, ◌∷◌, ◌++◌, length, drop, take}
 use Rattle.std.specs.List.{list_all}
 use Rattle.httparse.specs.Grammar.{ResponseHead, status_code, ChunkLine, chunk_size}
 use Rattle.http_fetch.specs.declared.fields.Kind.{Kind}
@@ -23,7 +23,7 @@ IsShort text = length text ≤ 65536
 abbrev pub NoHead : List ℕ → Type 0
 NoHead text = (h : ResponseHead) (rest : List ℕ) → ¬ (HeadAt text h rest)
 
--- a head of this status and length is at the front, and says whether the body is of OpenMetrics
+-- a head of this status and length is at the front, and says what the body is of
 pub record HasHead (text : List ℕ) (status len : ℕ) (f : Framing) (kind : Kind) : Type 0 where
   pub head : ResponseHead
   pub reads : HeadAt text head (drop len text)

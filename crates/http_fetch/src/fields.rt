@@ -254,17 +254,7 @@ fn is_escaping(part: &[u8]) -> bool
 fn says_quoted(value: &[u8]) -> bool
     ensures { result ≡ spec.says_quoted value.now }
 {
-    let mut rest = value;
-    loop {
-        let len = front_len(rest);
-        if is_escaping(front_of(rest, len)) {
-            return true;
-        }
-        if len == rest.len() {
-            return false;
-        }
-        rest = behind(rest, len + 1);
-    }
+    value.split(|b| *b == b';').any(|part| is_escaping(part))
 }
 
 /// What the body is of, by a value of `Content-Type`.
