@@ -20,7 +20,7 @@ const EACH_KIND: &[u8] =
 sweep 4503599627370495\nbody 0 0 100 0\n\nbody 4503599627370495 18446744073709551615 999 1\n\n\nlost 1 2\n\
 garbled 3 4\nunsent 5 6\noversize 7 8\nhalt 4503599627370495\nsweep 4503599627370495\n";
 
-/// A body whose names may stand in quotes, and one that has none.
+/// A finish with a body whose names may stand in quotes, and one with an empty body.
 const QUOTED: &[u8] = b"scrape-journal 2\nquoted 1 2 200 4\nx 1\n\nbody 1 2 200 0\n\n";
 
 /// Where a text has its fault, and why; nothing for a journal's text.
@@ -32,26 +32,30 @@ fn fault_of(rt: &impl Abort, alloc: Global, text: &[u8]) -> Option<(u64, ScriptC
     }
 }
 
+/// The journal of a text.
+fn journal_of(rt: &impl Abort, alloc: Global, script: &[u8]) -> Journal {
+    match read_journal(alloc, script) {
+        Ok(journal) => journal,
+        Err(_) => panic!(rt; "not read"),
+    }
+}
+
 /// Ends the test where a journal is not written, in a version, as its text was read.
 fn is_written_as_read(rt: &impl Abort, alloc: Global, version: Version, script: &[u8]) {
-    let Ok(journal) = read_journal(alloc, script) else {
-        panic!(rt; "not read");
-    };
-    let Ok(text) = write_version(alloc, version, &journal) else {
-        panic!(rt; "not written");
-    };
-    are_bytes(rt, text.as_slice(), script);
+    let journal = journal_of(rt, alloc, script);
+    match write_version(alloc, version, &journal) {
+        Ok(text) => are_bytes(rt, text.as_slice(), script),
+        Err(_) => panic!(rt; "not written"),
+    }
 }
 
 /// Ends the test where the journal of a text is not written as another one.
 fn is_written_as(rt: &impl Abort, alloc: Global, script: &[u8], wanted: &[u8]) {
-    let Ok(journal) = read_journal(alloc, script) else {
-        panic!(rt; "not read");
-    };
-    let Ok(text) = write_journal(alloc, &journal) else {
-        panic!(rt; "not written");
-    };
-    are_bytes(rt, text.as_slice(), wanted);
+    let journal = journal_of(rt, alloc, script);
+    match write_journal(alloc, &journal) {
+        Ok(text) => are_bytes(rt, text.as_slice(), wanted),
+        Err(_) => panic!(rt; "not written"),
+    }
 }
 
 /// The fault of `ONE_LOAD` cut to its first bytes.
@@ -175,14 +179,11 @@ fn is_quoted(events: &[Event]) -> bool {
 }
 
 fn events_are_read(rt: &impl Abort, alloc: Global) {
-    match read_journal(alloc, ONE_LOAD) {
-        Ok(journal) => holds(rt, is_one_load(journal.events()), "one load"),
-        Err(_) => panic!(rt; "not read"),
-    }
-    match read_journal(alloc, QUOTED) {
-        Ok(journal) => holds(rt, is_quoted(journal.events()), "names in quotes"),
-        Err(_) => panic!(rt; "not read"),
-    }
+    let one = journal_of(rt, alloc, ONE_LOAD);
+    holds(rt, is_one_load(one.events()), "one load");
+    drop(one);
+    let quoted = journal_of(rt, alloc, QUOTED);
+    holds(rt, is_quoted(quoted.events()), "names in quotes");
 }
 
 fn events_are_written(rt: &impl Abort, alloc: Global) {

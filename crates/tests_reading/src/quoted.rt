@@ -225,8 +225,10 @@ fn shown_alike(
     }
 }
 
+/// A line with names in quotes, and one that is of both forms.
 const QUOTED: &str = "{\"a.b\",\"c\"=\"d\"} 1\nx{c=\"d\"} 2\n";
 
+/// The second line alone.
 const PLAIN: &str = "x{c=\"d\"} 2\n";
 
 /// Texts and their forms, texts that they are read like, and what they show.
