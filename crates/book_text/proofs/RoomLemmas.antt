@@ -8,8 +8,8 @@ use Rattle.std.proofs.lemmas.List.{length-append, length-drop}
 use Rattle.std.proofs.lemmas.List.Concat.{flat_map-cons}
 use Rattle.std.proofs.lemmas.List.Sums.{sum_by-cons}
 use Rattle.itoa.proofs.Decimal.{length_wide}
-use Rattle.label_set.specs.Bytes.{is_metric_name}
-use Rattle.label_set.specs.SetText.{escaped_byte, escaped, metric_label, other_labels, label_text, labels_after, in_braces, braces_if_any, text_with_name, set_text}
+use Rattle.label_set.specs.Bytes.{is_label_name, is_metric_name}
+use Rattle.label_set.specs.SetText.{escaped_byte, escaped, metric_label, other_labels, name_text, label_text, labels_after, in_braces, braces_if_any, text_with_name, set_text}
 use Rattle.label_set.specs.Sets.{value_of}
 use Rattle.label_set.specs.declared.texts.Pair.{Pair}
 use Rattle.report_samples.specs.declared.entries.Entry.{Entry}
@@ -37,12 +37,19 @@ escaped_len (b ∷ bs) =
     ap length (flat_map-cons escaped_byte b bs) ∙ length-append (escaped_byte b) (escaped bs) in
     omega (arith, more, escape_len b, escaped_len bs)
 
+name_by : (name : List ℕ) (b : Bool) → length (if b then name else codes "\"" ++ (escaped name ++ codes "\"")) ≤ length name + length name + 2
+name_by name true = omega arith
+name_by name false = omega (arith, length-append (escaped name) (codes "\""), escaped_len name)
+
+name_len : (name : List ℕ) → length (name_text name) ≤ length name + length name + 2
+name_len name = name_by name (is_label_name name)
+
 label_len : (p : Pair) → length (codes "," ++ label_text p) ≤ label_room p
 label_len p =
-    let name : length (label_text p) ≡ length p.name + length (codes "=\"" ++ (escaped p.value ++ codes "\"")) =
-    length-append p.name (codes "=\"" ++ (escaped p.value ++ codes "\"")) in
+    let name : length (label_text p) ≡ length (name_text p.name) + length (codes "=\"" ++ (escaped p.value ++ codes "\"")) =
+    length-append (name_text p.name) (codes "=\"" ++ (escaped p.value ++ codes "\"")) in
     let value : length (escaped p.value ++ codes "\"") ≡ length (escaped p.value) + length (codes "\"") = length-append (escaped p.value) (codes "\"") in
-    omega (arith, name, value, escaped_len p.value)
+    omega (arith, name, value, name_len p.name, escaped_len p.value)
 
 more_labels : (p : Pair) (ps : List Pair) → length (labels_after (p ∷ ps)) ≡ length (codes "," ++ label_text p) + length (labels_after ps)
 more_labels p ps =

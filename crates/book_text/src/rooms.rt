@@ -12,9 +12,7 @@ fn with_label(room: usize, label: Label<'_>) -> Option<usize>
     ensures { IfSome result (λ n. n ≡ room + spec.label_room (pair_of label.entry)) }
 {
     let texts = label.name.len() + label.value.len();
-    room.checked_add(texts)?
-        .checked_add(label.value.len())?
-        .checked_add(4)
+    room.checked_add(texts)?.checked_add(texts)?.checked_add(6)
 }
 
 /// Room for the labels of a set.

@@ -1,5 +1,5 @@
 -- Labels, one at a time.
-use Rattle.std.proofs.Common.{◌≡◌, ℕ, suc, zero, ◌+◌, ◌<◌, ◌≤◌, Bool, true, false, not, ◌||◌, List, [], ◌∷◌, ◌++◌, length, take, drop, refl, sym, ap, ◌∙◌, arith, get_or, Option, Some, None, option_map, append_assoc, append-nil, add-one, drop-cons, if◌then◌else◌}
+use Rattle.std.proofs.Common.{◌≡◌, ℕ, suc, zero, ◌+◌, ◌<◌, ◌≤◌, Bool, true, false, not, ◌||◌, List, [], ◌∷◌, ◌++◌, length, take, drop, refl, sym, ap, ◌∙◌, arith, get_or, Option, Some, None, option_map, option_and_then, append_assoc, append-nil, add-one, drop-cons, if◌then◌else◌}
 use Rattle.std.specs.List.{list_any}
 use Rattle.std.specs.Str.{bytes_eq}
 use Rattle.std.proofs.lemmas.List.{take_more, map-append}
@@ -9,50 +9,48 @@ use Rattle.label_set.specs.declared.texts.Pair.{Pair}
 use Rattle.expo_reader.specs.declared.faults.Fault.{Fault}
 use Rattle.expo_reader.specs.declared.faults.Fault.TheVariants.{Faulty, NoMemory}
 use Rattle.expo_reader.specs.Faults.{FaultIs}
-use Rattle.expo_reader.specs.Texts.{word_in, mark_in, text_in, text_value}
-use Rattle.expo_reader.specs.Forms.{is_exposed_name, label_in, label_of, labels_in, named_label, valued_label, closed_or, label_and_more, after_label, with_first, names_differ_from, label_names}
+use Rattle.expo_reader.specs.Texts.{word_in, mark_in}
+use Rattle.label_set.specs.declared.forms.Form.{Form}
+use Rattle.label_set.specs.declared.forms.Form.TheVariants.{Plain, Quoted}
+use Rattle.expo_reader.specs.Names.{or_else, passing, bare_name, quoted_name, quote_in, name_in, is_exposed_name}
+use Rattle.expo_reader.specs.Forms.{label_behind, label_in, labels_in, named_label, valued_label, closed_or, label_and_more, after_label, with_first, names_differ_from, label_names}
 
--- a label by its parts
-pub label-no_word : (bs : List ℕ) → word_in bs ≡ None → label_in bs ≡ None
-unfolding label_in
-label-no_word bs e = ap named_label e
-
-module _ (bs name rest : List ℕ) (word : word_in bs ≡ Some (name, rest)) where
-  pub label-no_mark : mark_in 61 rest ≡ None → label_in bs ≡ None
-  unfolding label_in
-  label-no_mark e = ap named_label word ∙ rw e refl
+-- what stands behind a name
+module _ (name rest : List ℕ) where
+  pub behind-no_mark : mark_in 61 rest ≡ None → label_behind name rest ≡ None
+  behind-no_mark e = ap (option_and_then (λ (quoted : List ℕ). valued_label name (quote_in quoted))) e
 
   module _ (quoted : List ℕ) (mark : mark_in 61 rest ≡ Some quoted) where
-    pub by_text : label_in bs ≡ valued_label name (text_in quoted)
-    unfolding label_in
-    by_text = ap named_label word ∙ rw mark refl
+    by_mark : label_behind name rest ≡ valued_label name (quote_in quoted)
+    by_mark = ap (option_and_then (λ (q : List ℕ). valued_label name (quote_in q))) mark
 
-    pub label-no_text : text_in quoted ≡ None → label_in bs ≡ None
-    label-no_text e = by_text ∙ ap (valued_label name) e
+    pub behind-some : (value after : List ℕ) → quote_in quoted ≡ Some (value, after) → label_behind name rest ≡ Some (record { name = name; value = value }, after)
+    behind-some value after e = by_mark ∙ ap (valued_label name) e
 
-    module _ (text after : List ℕ) (is_text : text_in quoted ≡ Some (text, after)) where
-      pub label-some : (label : Pair) → label_of name text ≡ Some label → label_in bs ≡ Some (label, after)
-      label-some label e = by_text ∙ ap (valued_label name) is_text ∙ ap (option_map (λ (label : Pair). (label, after))) e
+    pub behind-fault : (f : Fault) → FaultIs f (quote_in quoted) → FaultIs f (label_behind name rest)
+    behind-fault Faulty e = by_mark ∙ ap (valued_label name) e
+    behind-fault NoMemory e = tt
 
-      pub label-fault : (f : Fault) → FaultIs f (label_of name text) → FaultIs f (label_in bs)
-      label-fault Faulty e = by_text ∙ ap (valued_label name) is_text ∙ ap (option_map (λ (label : Pair). (label, after))) e
-      label-fault NoMemory e = tt
+pub named-fault : (f : Fault) (o : Option (List ℕ × List ℕ)) → FaultIs f o → FaultIs f (named_label o)
+named-fault Faulty o e = ap named_label e
+named-fault NoMemory o e = tt
 
-      pub label-valued : (label : Pair) → label_of name text ≡ Some label → valued_label name (text_in quoted) ≡ Some (label, after)
-      label-valued label e = ap (valued_label name) is_text ∙ ap (option_map (λ (label : Pair). (label, after))) e
+-- a label by its name
+bare-found : (bs name rest : List ℕ) → word_in bs ≡ Some (name, rest) → is_exposed_name name ≡ true → bare_name bs ≡ Some (name, rest)
+bare-found bs name rest word e = ap (passing is_exposed_name) word ∙ rw e refl
 
-      pub valued-fault : (f : Fault) → FaultIs f (label_of name text) → FaultIs f (valued_label name (text_in quoted))
-      valued-fault Faulty e = ap (valued_label name) is_text ∙ ap (option_map (λ (label : Pair). (label, after))) e
-      valued-fault NoMemory e = tt
+pub bare-label : (form : Form) (bs name rest : List ℕ) → word_in bs ≡ Some (name, rest) → is_exposed_name name ≡ true → label_in form bs ≡ label_behind name rest
+unfolding label_in name_in
+bare-label Plain bs name rest word e = ap named_label (bare-found bs name rest word e)
+bare-label Quoted bs name rest word e = ap (λ o. named_label (or_else o (quoted_name bs))) (bare-found bs name rest word e)
 
-    pub valued-label : (f : Fault) → FaultIs f (valued_label name (text_in quoted)) → FaultIs f (label_in bs)
-    valued-label Faulty e = by_text ∙ e
-    valued-label NoMemory e = tt
+pub plain-no_label : (bs : List ℕ) → bare_name bs ≡ None → label_in Plain bs ≡ None
+unfolding label_in name_in
+plain-no_label bs e = ap named_label e
 
-pub label-made : (name text n v : List ℕ) → is_exposed_name name ≡ true → text_value text ≡ Some text → n ≡ name → v ≡ text → label_of name text ≡ Some (record { name = n; value = v })
-label-made name text n v exposed value n_is v_is =
-    let made : List ℕ → List ℕ → Pair = λ a b. record { name = a; value = b } in
-    rw exposed (ap (option_map {U = Pair} (made name)) value ∙ ap (λ a. Some (made a text)) (sym n_is) ∙ ap (λ b. Some (made n b)) (sym v_is))
+pub quoted-label : (bs : List ℕ) → bare_name bs ≡ None → label_in Quoted bs ≡ named_label (quoted_name bs)
+unfolding label_in name_in
+quoted-label bs e = ap (λ o. named_label (or_else o (quoted_name bs))) e
 
 -- labels in front of those that are found
 abbrev pub put : List Pair → Option (List Pair × List ℕ) → Option (List Pair × List ℕ)
@@ -60,8 +58,8 @@ put xs None = None
 put xs (Some (labels, rest)) = Some (xs ++ labels, rest)
 
 -- with the labels so far, the rest gives what is wanted
-abbrev pub Reaches : List Pair → List ℕ → Option (List Pair × List ℕ) → Type 0
-Reaches xs bs total = (k : ℕ) × (length bs < k) × (put xs (labels_in k bs) ≡ total)
+abbrev pub Reaches : Form → List Pair → List ℕ → Option (List Pair × List ℕ) → Type 0
+Reaches form xs bs total = (k : ℕ) × (length bs < k) × (put xs (labels_in form k bs) ≡ total)
 
 put-twice : (xs : List Pair) (x : Pair) (o : Option (List Pair × List ℕ)) → put xs (with_first x o) ≡ put (xs ++ x ∷ []) o
 put-twice xs x None = refl
@@ -71,61 +69,58 @@ put-nil : (o : Option (List Pair × List ℕ)) → put [] o ≡ o
 put-nil None = refl
 put-nil (Some (labels, rest)) = refl
 
-pub reaches-start : (bs : List ℕ) → Reaches [] bs (labels_in (length bs + 1) bs)
-reaches-start bs = (length bs + 1, omega arith, put-nil _)
+pub reaches-start : (form : Form) (bs : List ℕ) → Reaches form [] bs (labels_in form (length bs + 1) bs)
+reaches-start form bs = (length bs + 1, omega arith, put-nil _)
 
-more : ℕ → List ℕ → Option (List Pair × List ℕ)
-more n next = labels_in n next
-
-module _ (xs : List Pair) (bs : List ℕ) (total : Option (List Pair × List ℕ)) where
+module _ (form : Form) (xs : List Pair) (bs : List ℕ) (total : Option (List Pair × List ℕ)) where
   module _ (rest : List ℕ) (brace : mark_in 125 bs ≡ Some rest) where
-    closed : (k : ℕ) → length bs < k → put xs (labels_in k bs) ≡ total → total ≡ Some (xs, rest)
+    closed : (k : ℕ) → length bs < k → put xs (labels_in form k bs) ≡ total → total ≡ Some (xs, rest)
     unfolding labels_in
     closed zero h e = absurd (omega arith)
     closed (suc n) h e =
-        sym e ∙ ap (λ o. put xs (closed_or o (label_and_more (λ next. labels_in n next) (label_in bs)))) brace ∙ ap (λ l. Some (l, rest)) (append-nil xs)
+        sym e ∙ ap (λ o. put xs (closed_or o (label_and_more (λ next. labels_in form n next) (label_in form bs)))) brace ∙ ap (λ l. Some (l, rest)) (append-nil xs)
 
-    pub labels-closed : Reaches xs bs total → total ≡ Some (xs, rest)
+    pub labels-closed : Reaches form xs bs total → total ≡ Some (xs, rest)
     labels-closed r = closed r.0 r.1 r.2
 
   module _ (brace : mark_in 125 bs ≡ None) where
-    open_step : (n : ℕ) → put xs (labels_in (suc n) bs) ≡ put xs (label_and_more (λ next. labels_in n next) (label_in bs))
+    open_step : (n : ℕ) → put xs (labels_in form (suc n) bs) ≡ put xs (label_and_more (λ next. labels_in form n next) (label_in form bs))
     unfolding labels_in
-    open_step n = ap (λ o. put xs (closed_or o (label_and_more (λ next. labels_in n next) (label_in bs)))) brace
+    open_step n = ap (λ o. put xs (closed_or o (label_and_more (λ next. labels_in form n next) (label_in form bs)))) brace
 
-    fault : (f : Fault) → FaultIs f (label_in bs) → (k : ℕ) → length bs < k → put xs (labels_in k bs) ≡ total → FaultIs f total
+    fault : (f : Fault) → FaultIs f (label_in form bs) → (k : ℕ) → length bs < k → put xs (labels_in form k bs) ≡ total → FaultIs f total
     fault NoMemory e k h t = tt
     fault Faulty e zero h t = absurd (omega arith)
-    fault Faulty e (suc n) h t = sym t ∙ open_step n ∙ ap (λ o. put xs (label_and_more (λ next. labels_in n next) o)) e
+    fault Faulty e (suc n) h t = sym t ∙ open_step n ∙ ap (λ o. put xs (label_and_more (λ next. labels_in form n next) o)) e
 
-    pub labels-fault : (f : Fault) → FaultIs f (label_in bs) → Reaches xs bs total → FaultIs f total
+    pub labels-fault : (f : Fault) → FaultIs f (label_in form bs) → Reaches form xs bs total → FaultIs f total
     labels-fault f e r = fault f e r.0 r.1 r.2
 
-    module _ (label : Pair) (rest : List ℕ) (found : label_in bs ≡ Some (label, rest)) (less : length rest < length bs) where
-      label_step : (n : ℕ) → put xs (labels_in (suc n) bs) ≡ put (xs ++ label ∷ []) (after_label (λ next. labels_in n next) rest (mark_in 44 rest))
-      label_step n = open_step n ∙ ap (λ o. put xs (label_and_more (λ next. labels_in n next) o)) found ∙ put-twice xs label _
+    module _ (label : Pair) (rest : List ℕ) (found : label_in form bs ≡ Some (label, rest)) (less : length rest < length bs) where
+      label_step : (n : ℕ) → put xs (labels_in form (suc n) bs) ≡ put (xs ++ label ∷ []) (after_label (λ next. labels_in form n next) rest (mark_in 44 rest))
+      label_step n = open_step n ∙ ap (λ o. put xs (label_and_more (λ next. labels_in form n next) o)) found ∙ put-twice xs label _
 
       module _ (comma : mark_in 44 rest ≡ None) where
-        last : (o : Option (List ℕ)) → mark_in 125 rest ≡ o → (k : ℕ) → length bs < k → put xs (labels_in k bs) ≡ total →
+        last : (o : Option (List ℕ)) → mark_in 125 rest ≡ o → (k : ℕ) → length bs < k → put xs (labels_in form k bs) ≡ total →
             put (xs ++ label ∷ []) (option_map (λ (r : List ℕ). ([], r)) o) ≡ total
         last o e zero h t = absurd (omega arith)
         last o e (suc n) h t =
-            sym (label_step n ∙ ap (λ m. put (xs ++ label ∷ []) (after_label (λ next. labels_in n next) rest m)) comma
+            sym (label_step n ∙ ap (λ m. put (xs ++ label ∷ []) (after_label (λ next. labels_in form n next) rest m)) comma
             ∙ ap (λ m. put (xs ++ label ∷ []) (option_map (λ (r : List ℕ). ([], r)) m)) e) ∙ t
 
-        pub labels-last : (after : List ℕ) → mark_in 125 rest ≡ Some after → Reaches xs bs total → total ≡ Some (xs ++ label ∷ [], after)
+        pub labels-last : (after : List ℕ) → mark_in 125 rest ≡ Some after → Reaches form xs bs total → total ≡ Some (xs ++ label ∷ [], after)
         labels-last after e r = sym (last (Some after) e r.0 r.1 r.2) ∙ ap (λ l. Some (l, after)) (append-nil (xs ++ label ∷ []))
 
-        pub labels-open : mark_in 125 rest ≡ None → Reaches xs bs total → total ≡ None
+        pub labels-open : mark_in 125 rest ≡ None → Reaches form xs bs total → total ≡ None
         labels-open e r = sym (last None e r.0 r.1 r.2)
 
       module _ (next : List ℕ) (comma : mark_in 44 rest ≡ Some next) (fewer : length next < length rest) where
-        on : (k : ℕ) → length bs < k → put xs (labels_in k bs) ≡ total → Reaches (xs ++ label ∷ []) next total
+        on : (k : ℕ) → length bs < k → put xs (labels_in form k bs) ≡ total → Reaches form (xs ++ label ∷ []) next total
         on zero h t = absurd (omega arith)
         on (suc n) h t =
-            (n, omega (arith, less, fewer, h), sym (label_step n ∙ ap (λ m. put (xs ++ label ∷ []) (after_label (λ next. labels_in n next) rest m)) comma) ∙ t)
+            (n, omega (arith, less, fewer, h), sym (label_step n ∙ ap (λ m. put (xs ++ label ∷ []) (after_label (λ next. labels_in form n next) rest m)) comma) ∙ t)
 
-        pub labels-more : Reaches xs bs total → Reaches (xs ++ label ∷ []) next total
+        pub labels-more : Reaches form xs bs total → Reaches form (xs ++ label ∷ []) next total
         labels-more r = on r.0 r.1 r.2
 
 -- names that differ, one label at a time
@@ -178,7 +173,7 @@ module _ (b : Bool) (v x : List ℕ) (seen : List (List ℕ)) (same : v ≡ x) (
       k ∙ rw first (ap (λ n. seen ++ n ∷ []) same)
 
 -- labels that were added so far, and what the rest gives
-pub record HasAdded (old new : List Pair) (bs : List ℕ) (total : Option (List Pair × List ℕ)) : Type 0 where
+pub record HasAdded (form : Form) (old new : List Pair) (bs : List ℕ) (total : Option (List Pair × List ℕ)) : Type 0 where
   pub more : List Pair
   pub items : new ≡ old ++ more
-  pub reaches : Reaches more bs total
+  pub reaches : Reaches form more bs total

@@ -2,6 +2,7 @@
 use Rattle.std.proofs.Common.{◌≡◌, ℕ, zero, suc, ◌<◌, ◌≤◌, List, [], ◌∷◌, ◌++◌, length, take, drop, get_or, Option, Some, None, IfSome, refl, sym, ap, ◌∙◌, arith, subst, subst₂}
 use Rattle.std.specs.Prelude.{All, Ok, slice_get}
 use Rattle.std.proofs.lemmas.List.Elements.{All-nil}
+use Rattle.label_set.specs.declared.forms.Form.{Form}
 use Rattle.expo_reader.specs.Bodies.{lines_of, reading, row_list, rows_from}
 use Rattle.expo_reader.specs.Like.{AreLike, IsLike, place_list, raws}
 use Rattle.expo_reader.specs.Spans.{IsWithin, rows_seen, span_list, span_row}
@@ -43,8 +44,8 @@ like-seen others body rest rows new number place end p o rest_is h new_is ps mor
     subst₂ (AreLike others) (sym more_is) (sym seen) (like-push others number p (take end (drop place body)) o at ps (rows_seen body rows) all)
 
 -- a body without bytes has no rows
-pub no-rows : (bytes : List ℕ) (rows : List RowSpan) → bytes ≡ [] → rows ≡ [] → (reading bytes ≡ Ok (rows_seen bytes rows)) × All (IsWithin (length bytes)) rows
+pub no-rows : (form : Form) (bytes : List ℕ) (rows : List RowSpan) → bytes ≡ [] → rows ≡ [] → (reading form bytes ≡ Ok (rows_seen bytes rows)) × All (IsWithin (length bytes)) rows
 unfolding reading rows_from lines_of rows_seen
-no-rows [] [] b r = (refl, All-nil (IsWithin 0))
-no-rows (x ∷ bytes) rows b r = absurd cc
-no-rows [] (x ∷ rows) b r = absurd cc
+no-rows form [] [] b r = (refl, All-nil (IsWithin 0))
+no-rows form (x ∷ bytes) rows b r = absurd cc
+no-rows form [] (x ∷ rows) b r = absurd cc

@@ -14,11 +14,14 @@ use Rattle.expo_lexer.specs.Tokens.{is_blank, is_word_byte, blank_len, word_len,
 use Rattle.expo_reader.specs.declared.rows.BodyRow.{BodyRow}
 use Rattle.expo_reader.specs.Bodies.{is_skipped}
 use Rattle.expo_reader.specs.Texts.{bare, is_end, word_at, mark_at, text_at, word_in, mark_in, text_in, text_value}
-use Rattle.expo_reader.specs.Forms.{label_in, named_label, valued_label, labels_in, label_of, is_exposed_name, names_differ, stamp_in, value_in, valued, last_word, sample_in, named_row, after_name, row_of, labelled_row, differing_row, closed_or, label_and_more, after_label}
-use Rattle.expo_reader.specs.Grammar.{IsBlanks, IsLabel, IsLabels, IsLineEnd, IsMiddle, IsSample, IsSkipped}
+use Rattle.label_set.specs.declared.forms.Form.{Form}
+use Rattle.label_set.specs.declared.forms.Form.TheVariants.{Plain, Quoted}
+use Rattle.expo_reader.specs.Forms.{label_in, labels_in, labels_after, names_differ, stamp_in, value_in, valued, last_word, sample_in, named_row, braced_row, after_name, row_of, labelled_row, differing_row, closed_or, label_and_more, after_label}
+use Rattle.expo_reader.specs.Names.{passing, quote_in, resolved_text, is_exposed_name, is_quoted_metric, is_quoted_name, bare_name, quoted_name, name_in, braced_name}
+use Rattle.expo_reader.specs.Grammar.{IsBlanks, IsBraced, IsLabel, IsLabelName, IsLabels, IsLineEnd, IsMiddle, IsNameAndLabels, IsNamed, IsQuote, IsSample, IsSkipped}
 use Rattle.expo_reader.proofs.FrontLemmas.{both, Stops, passes, stops-drop}
 use Rattle.expo_reader.proofs.QuoteLemmas.{is_text, text-sound as text-pieces}
-use Rattle.expo_reader.proofs.RowLemmas.{chosen, first-label, mapped, pair}
+use Rattle.expo_reader.proofs.RowLemmas.{chosen, first-label, mapped, pair, passing-sound, either, behind-sound, label-parts}
 use Rattle.expo_reader.proofs.WordLemmas.{IsWord}
 use Rattle.value_text.proofs.GrammarLemmas.{value-sound as value-written}
 
@@ -110,68 +113,79 @@ text-sound bs text r e =
     let k = text-split (bare bs) text r e in
     (apart bs ∙ ap (λ t. blanks bs ++ t) k.0, k.1)
 
-label-made : (name text : List ℕ) (label : Pair) → label_of name text ≡ Some label → (is_exposed_name name ≡ true) × (label.name ≡ name) × (text_value text ≡ Some label.value)
-label-made name text label e =
-    let k = chosen (is_exposed_name name) (option_map {U = Pair} (λ (value : List ℕ). record { name = name; value = value }) (text_value text)) label e in
-    let m = mapped {B = Pair} (λ (value : List ℕ). record { name = name; value = value }) (text_value text) label k.1 in
-    (k.0, ap (λ (p : Pair). p.name) (sym m.2), m.1 ∙ ap (λ (p : Pair). Some p.value) m.2)
+-- a text in quotes with what it stands for
+pub quote-sound : (bs value r : List ℕ) → quote_in bs ≡ Some (value, r) → (quote : List ℕ) × IsQuote quote value × (bs ≡ blanks bs ++ (quote ++ r))
+unfolding quote_in
+quote-sound bs value r e = by_text (text_in bs) refl e
+  where
+    by_text : (o : Option (List ℕ × List ℕ)) → text_in bs ≡ o → resolved_text o ≡ Some (value, r) → (quote : List ℕ) × IsQuote quote value × (bs ≡ blanks bs ++ (quote ++ r))
+    by_text None t v = absurd cc
+    by_text (Some (text, after)) t v =
+        let m = mapped {B = List ℕ × List ℕ} (λ (w : List ℕ). (w, after)) (text_value text) (value, r) v in
+        let p = pair m.0 value after r (ap (λ (q : List ℕ × List ℕ). Some q) m.2) in
+        let quotes = text-sound bs text after t in
+        let is = text-pieces text value quotes.1 (m.1 ∙ ap (λ (w : List ℕ). Some w) p.0) in
+        let spelled : blanks bs ++ ((34 ∷ (text ++ 34 ∷ [])) ++ r) ≡ blanks bs ++ 34 ∷ (text ++ 34 ∷ r) = simp append_assoc in
+        (34 ∷ (text ++ 34 ∷ []), (text, is.0, is.1, refl), quotes.0 ∙ ap (λ t. blanks bs ++ 34 ∷ (text ++ 34 ∷ t)) p.1 ∙ sym spelled)
+
+-- the name of a label as it is written
+bare-sound : (form : Form) (bs name rest : List ℕ) → bare_name bs ≡ Some (name, rest) → (written : List ℕ) × IsLabelName form written name × (bs ≡ blanks bs ++ (written ++ rest))
+bare-sound form bs name rest e =
+    let k = passing-sound is_exposed_name (word_in bs) name rest e in
+    (name, inl (k.0, refl), (word-sound bs name rest k.1).0)
+
+name-sound : (form : Form) (bs name rest : List ℕ) → name_in form bs ≡ Some (name, rest) → (written : List ℕ) × IsLabelName form written name × (bs ≡ blanks bs ++ (written ++ rest))
+unfolding name_in
+name-sound Plain bs name rest e = bare-sound Plain bs name rest e
+name-sound Quoted bs name rest e =
+    ⊎_elim
+    (λ (b : bare_name bs ≡ Some (name, rest)). bare-sound Quoted bs name rest b)
+    (λ (q : quoted_name bs ≡ Some (name, rest)).
+    (let k = passing-sound is_quoted_name (quote_in bs) name rest q in
+    let found = quote-sound bs name rest k.1 in
+    (found.0, inr (refl, k.0, found.1), found.2)))
+    (either (bare_name bs) (quoted_name bs) (name, rest) e)
 
 -- a label, with no blanks behind it
-module _ (bs name rest : List ℕ) (label : Pair) (r : List ℕ) (whole : bs ≡ blanks bs ++ (name ++ rest)) where
-  by_text : (quoted : List ℕ) → mark_in 61 rest ≡ Some quoted → (o : Option (List ℕ × List ℕ)) → text_in quoted ≡ o → valued_label name o ≡ Some (label, r) →
-      (one : List ℕ) × IsLabel one label × (bs ≡ one ++ r)
-  by_text quoted m None t v = absurd cc
-  by_text quoted m (Some (text, after)) t v =
-      let p = mapped {B = Pair × List ℕ} (λ (l : Pair). (l, after)) (label_of name text) (label, r) v in
-      let is : p.0 ≡ label = ap (λ (q : Pair × List ℕ). q.0) p.2 in
-      let end : after ≡ r = ap (λ (q : Pair × List ℕ). q.1) p.2 in
-      let made = label-made name text label (p.1 ∙ ap Some is) in
-      let mark = mark-sound 61 rest quoted (omega arith) m in
-      let quotes = text-sound quoted text after t in
-      let is = text-pieces text label.value quotes.1 made.2 in
-      let one = blanks bs ++ (name ++ (blanks rest ++ 61 ∷ (blanks quoted ++ 34 ∷ (text ++ 34 ∷ [])))) in
-      let written : one ≡ blanks bs ++ (label.name ++ (blanks rest ++ 61 ∷ (blanks quoted ++ 34 ∷ (text ++ 34 ∷ [])))) =
-      ap (λ n. blanks bs ++ (n ++ (blanks rest ++ 61 ∷ (blanks quoted ++ 34 ∷ (text ++ 34 ∷ []))))) (sym made.1) in
-      let spelled : bs ≡ blanks bs ++ (name ++ (blanks rest ++ 61 ∷ (blanks quoted ++ 34 ∷ (text ++ 34 ∷ r)))) =
-      whole ∙ ap (λ l. blanks bs ++ (name ++ l)) (mark ∙ ap (λ q. blanks rest ++ 61 ∷ q) (quotes.0 ∙ ap (λ a. blanks quoted ++ 34 ∷ (text ++ 34 ∷ a)) end)) in
-      let joined : one ++ r ≡ blanks bs ++ (name ++ (blanks rest ++ 61 ∷ (blanks quoted ++ 34 ∷ (text ++ 34 ∷ r)))) = simp append_assoc in (
-        one,
-        (blanks bs, blanks rest, blanks quoted, text, [], blanks-are bs, blanks-are rest, blanks-are quoted, refl, ap is_exposed_name made.1 ∙ made.0, is.0, is.1, written),
-        spelled ∙ sym joined,
-      )
-
-  by_mark : (o : Option (List ℕ)) → mark_in 61 rest ≡ o → option_and_then (λ (quoted : List ℕ). valued_label name (text_in quoted)) o ≡ Some (label, r) →
-      (one : List ℕ) × IsLabel one label × (bs ≡ one ++ r)
-  by_mark None m e = absurd cc
-  by_mark (Some quoted) m e = by_text quoted m (text_in quoted) refl e
-
-by_word : (bs : List ℕ) (o : Option (List ℕ × List ℕ)) (label : Pair) (r : List ℕ) → word_in bs ≡ o → named_label o ≡ Some (label, r) → (one : List ℕ) × IsLabel one label × (bs ≡ one ++ r)
-by_word bs None label r w e = absurd cc
-by_word bs (Some (name, rest)) label r w e = by_mark bs name rest label r (word-sound bs name rest w).0 (mark_in 61 rest) refl e
-
-label-sound : (bs : List ℕ) (label : Pair) (r : List ℕ) → label_in bs ≡ Some (label, r) → (one : List ℕ) × IsLabel one label × (bs ≡ one ++ r)
-unfolding label_in
-label-sound bs label r e = by_word bs (word_in bs) label r refl e
+label-sound : (form : Form) (bs : List ℕ) (label : Pair) (r : List ℕ) → label_in form bs ≡ Some (label, r) → (one : List ℕ) × IsLabel form one label × (bs ≡ one ++ r)
+label-sound form bs label r e =
+    let p = label-parts form bs label r e in
+    let rest = p.0 in
+    let b = behind-sound label.name rest label r p.2 in
+    let quoted = b.0 in
+    let named = name-sound form bs label.name rest p.1 in
+    let written = named.0 in
+    let mark = mark-sound 61 rest quoted (omega arith) b.1 in
+    let value = quote-sound quoted label.value r b.2 in
+    let quote = value.0 in
+    let one = blanks bs ++ (written ++ (blanks rest ++ 61 ∷ (blanks quoted ++ (quote ++ [])))) in
+    let spelled : bs ≡ blanks bs ++ (written ++ (blanks rest ++ 61 ∷ (blanks quoted ++ (quote ++ r)))) =
+    named.2 ∙ ap (λ l. blanks bs ++ (written ++ l)) (mark ∙ ap (λ q. blanks rest ++ 61 ∷ q) value.2) in
+    let joined : one ++ r ≡ blanks bs ++ (written ++ (blanks rest ++ 61 ∷ (blanks quoted ++ (quote ++ r)))) = simp append_assoc in (
+      one,
+      (blanks bs, written, blanks rest, blanks quoted, quote, [], blanks-are bs, blanks-are rest, blanks-are quoted, refl, named.1, value.1, refl),
+      spelled ∙ sym joined,
+    )
 
 -- blanks behind a label belong to it
-label-blanks : (one b : List ℕ) (label : Pair) → IsLabel one label → IsBlanks b → IsLabel (one ++ b) label
-label-blanks one b label l e =
-    (l.0, l.1, l.2, l.3, l.4 ++ b, l.5, l.6, l.7, list_all-append is_blank l.4 b ∙ and_from _ _ l.8 e, l.9, l.10, l.11, ap (λ s. s ++ b) l.12 ∙ simp append_assoc)
+label-blanks : (form : Form) (one b : List ℕ) (label : Pair) → IsLabel form one label → IsBlanks b → IsLabel form (one ++ b) label
+label-blanks form one b label l e =
+    (l.0, l.1, l.2, l.3, l.4, l.5 ++ b, l.6, l.7, l.8, list_all-append is_blank l.5 b ∙ and_from _ _ l.9 e, l.10, l.11, ap (λ s. s ++ b) l.12 ∙ simp append_assoc)
 
 -- labels and the brace behind them
-unfoldable pub HasLabels : List ℕ → List Pair → List ℕ → Type 0
-HasLabels bs labels r = (inside : List ℕ) × IsLabels inside labels × (bs ≡ inside ++ 125 ∷ r)
+unfoldable pub HasLabels : Form → List ℕ → List Pair → List ℕ → Type 0
+HasLabels form bs labels r = (inside : List ℕ) × IsLabels form inside labels × (bs ≡ inside ++ 125 ∷ r)
 
-module _ (next_labels : List ℕ → Option (List Pair × List ℕ)) (sound : (next : List ℕ) (labels : List Pair) (r : List ℕ) → next_labels next ≡ Some (labels, r) → HasLabels next labels r)
-    (bs one rest : List ℕ) (label : Pair) (is : IsLabel one label) (whole : bs ≡ one ++ rest) (labels : List Pair) (r : List ℕ) where
-  by_comma : (o : Option (List ℕ)) → mark_in 44 rest ≡ o → after_label next_labels rest o ≡ Some (labels, r) → HasLabels bs (label ∷ labels) r
+module _ (form : Form) (next_labels : List ℕ → Option (List Pair × List ℕ)) (sound : (next : List ℕ) (labels : List Pair) (r : List ℕ) → next_labels next ≡ Some (labels, r) → HasLabels form next labels r)
+    (bs one rest : List ℕ) (label : Pair) (is : IsLabel form one label) (whole : bs ≡ one ++ rest) (labels : List Pair) (r : List ℕ) where
+  by_comma : (o : Option (List ℕ)) → mark_in 44 rest ≡ o → after_label next_labels rest o ≡ Some (labels, r) → HasLabels form bs (label ∷ labels) r
   unfolding HasLabels
   by_comma (Some next) c e =
       let h = sound next labels r e in
       let comma = mark-sound 44 rest next (omega arith) c in
       let left = one ++ blanks rest in
       let spelled : bs ≡ (left ++ 44 ∷ h.0) ++ 125 ∷ r = whole ∙ ap (λ l. one ++ l) (comma ∙ ap (λ n. blanks rest ++ 44 ∷ n) h.2) ∙ simp append_assoc in
-      (left ++ 44 ∷ h.0, (left, label-blanks one (blanks rest) label is (blanks-are rest), inr (h.0, refl, h.1)), spelled)
+      (left ++ 44 ∷ h.0, (left, label-blanks form one (blanks rest) label is (blanks-are rest), inr (h.0, refl, h.1)), spelled)
   by_comma None c e =
       let m = mapped {B = List Pair × List ℕ} (λ (q : List ℕ). ([], q)) (mark_in 125 rest) (labels, r) e in
       let none : [] ≡ labels = ap (λ (q : List Pair × List ℕ). q.0) m.2 in
@@ -179,28 +193,28 @@ module _ (next_labels : List ℕ → Option (List Pair × List ℕ)) (sound : (n
       let brace = mark-sound 125 rest m.0 (omega arith) m.1 in
       let left = one ++ blanks rest in
       let spelled : bs ≡ left ++ 125 ∷ r = whole ∙ ap (λ l. one ++ l) (brace ∙ ap (λ q. blanks rest ++ 125 ∷ q) end) ∙ simp append_assoc in
-      (left, (left, label-blanks one (blanks rest) label is (blanks-are rest), inl (sym none, refl)), spelled)
+      (left, (left, label-blanks form one (blanks rest) label is (blanks-are rest), inl (sym none, refl)), spelled)
 
-pub labels-sound : (k : ℕ) (bs : List ℕ) (labels : List Pair) (r : List ℕ) → labels_in k bs ≡ Some (labels, r) → HasLabels bs labels r
+pub labels-sound : (form : Form) (k : ℕ) (bs : List ℕ) (labels : List Pair) (r : List ℕ) → labels_in form k bs ≡ Some (labels, r) → HasLabels form bs labels r
 unfolding labels_in HasLabels
-labels-sound zero bs labels r e = absurd cc
-labels-sound (suc n) bs labels r e = by_brace (λ next ls q h. labels-sound n next ls q h) (mark_in 125 bs) refl (label_in bs) refl e
+labels-sound form zero bs labels r e = absurd cc
+labels-sound form (suc n) bs labels r e = by_brace (λ next ls q h. labels-sound form n next ls q h) (mark_in 125 bs) refl (label_in form bs) refl e
   where
-    by_brace : ((next : List ℕ) (ls : List Pair) (q : List ℕ) → labels_in n next ≡ Some (ls, q) → HasLabels next ls q) →
-        (o : Option (List ℕ)) → mark_in 125 bs ≡ o → (f : Option (Pair × List ℕ)) → label_in bs ≡ f →
-        closed_or o (label_and_more (λ next. labels_in n next) f) ≡ Some (labels, r) → HasLabels bs labels r
+    by_brace : ((next : List ℕ) (ls : List Pair) (q : List ℕ) → labels_in form n next ≡ Some (ls, q) → HasLabels form next ls q) →
+        (o : Option (List ℕ)) → mark_in 125 bs ≡ o → (f : Option (Pair × List ℕ)) → label_in form bs ≡ f →
+        closed_or o (label_and_more (λ next. labels_in form n next) f) ≡ Some (labels, r) → HasLabels form bs labels r
     by_brace sound (Some rest) m f l e =
         let p = pair [] labels rest r e in
-        (blanks bs, subst (IsLabels (blanks bs)) p.0 (blanks-are bs), mark-sound 125 bs rest (omega arith) m ∙ ap (λ q. blanks bs ++ 125 ∷ q) p.1)
+        (blanks bs, subst (IsLabels form (blanks bs)) p.0 (blanks-are bs), mark-sound 125 bs rest (omega arith) m ∙ ap (λ q. blanks bs ++ 125 ∷ q) p.1)
     by_brace sound None m None l e = absurd cc
     by_brace sound None m (Some (label, rest)) l e =
-        let one = label-sound bs label rest l in
-        let g = first-label label (after_label (λ next. labels_in n next) rest (mark_in 44 rest)) labels r e in
-        subst (λ (ls : List Pair). HasLabels bs ls r) (sym g.2)
-        (by_comma (λ next. labels_in n next) sound bs one.0 rest label one.1 one.2 g.0 r (mark_in 44 rest) refl g.1)
+        let one = label-sound form bs label rest l in
+        let g = first-label label (after_label (λ next. labels_in form n next) rest (mark_in 44 rest)) labels r e in
+        subst (λ (ls : List Pair). HasLabels form bs ls r) (sym g.2)
+        (by_comma form (λ next. labels_in form n next) sound bs one.0 rest label one.1 one.2 g.0 r (mark_in 44 rest) refl g.1)
 
 -- the end of a line
-end-blanks : (bs : List ℕ) → is_end bs ≡ true → IsBlanks bs
+pub end-blanks : (bs : List ℕ) → is_end bs ≡ true → IsBlanks bs
 end-blanks bs e =
     let none : bare bs ≡ [] = nil_from_length (bare bs) (eqb-true (length (bare bs)) 0 e) in
     ap (list_all is_blank) (apart bs ∙ ap (λ t. blanks bs ++ t) none ∙ append-nil (blanks bs)) ∙ blanks-are bs
@@ -210,7 +224,7 @@ word-starts [] r w s = omega (arith, w.0)
 word-starts (x ∷ w) r word s = true≢false (sym (both (is_word_byte x) (list_all is_word_byte w) word.1).0 ∙ s)
 
 -- blanks stand before a word that what ends a word is followed by
-some-blanks : (bs w r : List ℕ) → Stops is_word_byte bs → IsWord w → bs ≡ blanks bs ++ (w ++ r) → blanks bs ≢ []
+pub some-blanks : (bs w r : List ℕ) → Stops is_word_byte bs → IsWord w → bs ≡ blanks bs ++ (w ++ r) → blanks bs ≢ []
 some-blanks bs w r s word e none = word-starts w r word (subst (Stops is_word_byte) (e ∙ ap (λ b. b ++ (w ++ r)) none) s)
 
 stamp-word_sound : (bs : List ℕ) (o : Option (List ℕ × List ℕ)) (stamp : Option ℤ) → Stops is_word_byte bs → word_in bs ≡ o → last_word o ≡ Some stamp → IsLineEnd bs stamp
@@ -222,112 +236,10 @@ stamp-word_sound bs (Some (word, rest)) stamp s w e =
     subst (IsLineEnd bs) m.2
     (blanks bs, word, rest, blanks-are bs, some-blanks bs word rest s found.1 found.0, end-blanks rest k.0, m.1, found.0)
 
-stamp-sound : (bs : List ℕ) (stamp : Option ℤ) → Stops is_word_byte bs → stamp_in bs ≡ Some stamp → IsLineEnd bs stamp
+pub stamp-sound : (bs : List ℕ) (stamp : Option ℤ) → Stops is_word_byte bs → stamp_in bs ≡ Some stamp → IsLineEnd bs stamp
 unfolding stamp_in
 stamp-sound bs stamp s e =
     ⊎_elim
     (λ (q : is_end bs ≡ true). (let here : Some None ≡ Some stamp = rw q at e in let none : None ≡ stamp = cc here in subst (IsLineEnd bs) none (end-blanks bs q)))
     (λ (q : is_end bs ≡ false). (let more : last_word (word_in bs) ≡ Some stamp = rw q at e in stamp-word_sound bs (word_in bs) stamp s refl more))
     (cases_Bool (is_end bs))
-
--- the value and the end behind it
-unfoldable pub EndsWith : List ℕ → List ℕ → Option ℤ → Type 0
-EndsWith bs value stamp = (after : List ℕ) × (is_value value ≡ true) × IsLineEnd after stamp × (bs ≡ blanks bs ++ (value ++ after)) × IsWord value
-
-value-word_sound : (bs : List ℕ) (o : Option (List ℕ × List ℕ)) (value : List ℕ) (stamp : Option ℤ) → word_in bs ≡ o → valued o ≡ Some (value, stamp) → EndsWith bs value stamp
-unfolding EndsWith
-value-word_sound bs None value stamp w e = absurd cc
-value-word_sound bs (Some (word, rest)) value stamp w e =
-    let k = chosen (is_value word) (option_map {U = List ℕ × Option ℤ} (λ (s : Option ℤ). (word, s)) (stamp_in rest)) (value, stamp) e in
-    let m = mapped {B = List ℕ × Option ℤ} (λ (s : Option ℤ). (word, s)) (stamp_in rest) (value, stamp) k.1 in
-    let same : word ≡ value = ap (λ (p : List ℕ × Option ℤ). p.0) m.2 in
-    let stamped : m.0 ≡ stamp = ap (λ (p : List ℕ × Option ℤ). p.1) m.2 in
-    let found = word-sound bs word rest w in
-    (rest, ap is_value (sym same) ∙ k.0, subst (IsLineEnd rest) stamped (stamp-sound rest m.0 found.2 m.1), found.0 ∙ ap (λ v. blanks bs ++ (v ++ rest)) same, subst IsWord same found.1)
-
-pub value-sound : (bs value : List ℕ) (stamp : Option ℤ) → value_in bs ≡ Some (value, stamp) → EndsWith bs value stamp
-unfolding value_in
-value-sound bs value stamp e = value-word_sound bs (word_in bs) value stamp refl e
-
--- the row of these parts
-made-row : ℕ → List ℕ → List ℕ → List Pair → List ℕ → Option ℤ → BodyRow
-made-row number raw name labels value stamp = record { line = number; raw = raw; name = name; labels = labels; value = value; stamp = stamp }
-
-row-parts : (number : ℕ) (raw name : List ℕ) (labels : List Pair) (o : Option (List ℕ × Option ℤ)) (row : BodyRow) → row_of number raw name labels o ≡ Some row →
-    (value : List ℕ) × (stamp : Option ℤ) × (o ≡ Some (value, stamp)) × (made-row number raw name labels value stamp ≡ row)
-unfolding made-row
-row-parts number raw name labels None row e = absurd cc
-row-parts number raw name labels (Some (value, stamp)) row e = (value, stamp, refl, cc)
-
-no-blanks : (t : List ℕ) → Stops is_blank t → blanks t ≡ []
-no-blanks [] s = refl
-no-blanks (x ∷ t) s = rw s refl
-
-module _ (number : ℕ) (line name rest : List ℕ) (row : BodyRow) (text_is : bare line ≡ name ++ rest) (named : is_metric_name name ≡ true) (stops : Stops is_word_byte rest) where
-  spelled : line ≡ blanks line ++ (name ++ rest)
-  spelled = apart line ∙ ap (λ t. blanks line ++ t) text_is
-
-  no-labels : row_of number name name [] (value_in rest) ≡ Some row → IsSample number line row
-  unfolding made-row EndsWith
-  no-labels e =
-      let k = row-parts number name name [] (value_in rest) row e in
-      let end = value-sound rest k.0 k.1 k.2 in
-      let middle : IsMiddle (blanks rest) [] [] = inl (blanks-are rest, some-blanks rest k.0 end.0 stops end.4 end.3, refl, refl) in
-      subst (IsSample number line) k.3
-      (blanks line, blanks rest, [], end.0, refl, blanks-are line, named, middle, sym (append-nil name), value-written k.0 end.1, end.2, spelled ∙ ap (λ r. blanks line ++ (name ++ r)) end.3)
-
-  with-labels : (inside : List ℕ) → mark_in 123 rest ≡ Some inside → (labels : List Pair) (tail : List ℕ) → HasLabels inside labels tail →
-      differing_row number (bare line) name labels tail ≡ Some row → IsSample number line row
-  unfolding made-row EndsWith HasLabels
-  with-labels inside m labels tail h e =
-      let raw = take (length (bare line) - length tail) (bare line) in
-      let d = chosen (names_differ labels) (row_of number raw name labels (value_in tail)) row e in
-      let k = row-parts number raw name labels (value_in tail) row d.1 in
-      let end = value-sound tail k.0 k.1 k.2 in
-      let mark = mark-sound 123 rest inside (omega arith) m in
-      let braces = blanks rest ++ 123 ∷ (h.0 ++ 125 ∷ []) in
-      let whole : bare line ≡ (name ++ braces) ++ tail =
-      text_is ∙ ap (λ r. name ++ r) (mark ∙ ap (λ i. blanks rest ++ 123 ∷ i) h.2) ∙ simp append_assoc in
-      let len : length (bare line) - length tail ≡ length (name ++ braces) = omega (arith, ap length whole, length-append (name ++ braces) tail) in
-      let raw_is : raw ≡ name ++ braces = ap₂ take len whole ∙ take-append_seam (name ++ braces) tail in
-      let middle : IsMiddle (braces ++ blanks tail) braces labels = inr (blanks rest, h.0, blanks tail, blanks-are rest, blanks-are tail, h.1, d.0, refl, refl) in
-      let written : line ≡ blanks line ++ (name ++ ((braces ++ blanks tail) ++ (k.0 ++ end.0))) =
-      apart line ∙ ap (λ t. blanks line ++ t) (whole ∙ ap (λ t. (name ++ braces) ++ t) end.3) ∙ simp append_assoc in
-      subst (IsSample number line) k.3
-      (blanks line, braces ++ blanks tail, braces, end.0, refl, blanks-are line, named, middle, raw_is, value-written k.0 end.1, end.2, written)
-
-  by_labels : (inside : List ℕ) → mark_in 123 rest ≡ Some inside → (o : Option (List Pair × List ℕ)) → labels_in (length inside + 1) inside ≡ o →
-      labelled_row number (bare line) name o ≡ Some row → IsSample number line row
-  by_labels inside m None l e = absurd cc
-  by_labels inside m (Some (labels, tail)) l e = with-labels inside m labels tail (labels-sound (length inside + 1) inside labels tail l) e
-
-  by_name : (o : Option (List ℕ)) → mark_in 123 rest ≡ o → after_name number (bare line) name rest o ≡ Some row → IsSample number line row
-  by_name None m e = no-labels e
-  by_name (Some inside) m e = by_labels inside m (labels_in (length inside + 1) inside) refl e
-
-by_line : (number : ℕ) (line : List ℕ) (row : BodyRow) (o : Option (List ℕ × List ℕ)) → word_in (bare line) ≡ o → named_row number (bare line) o ≡ Some row → IsSample number line row
-by_line number line row None w e = absurd cc
-by_line number line row (Some (name, rest)) w e =
-    let k = chosen (is_metric_name name) (after_name number (bare line) name rest (mark_in 123 rest)) row e in
-    let found = word-sound (bare line) name rest w in
-    let text_is : bare line ≡ name ++ rest = found.0 ∙ ap (λ b. b ++ (name ++ rest)) (no-blanks (bare line) (stops-drop is_blank line)) in
-    by_name number line name rest row text_is k.0 found.2 (mark_in 123 rest) refl k.1
-
--- a sample line
-pub sample-sound : (number : ℕ) (line : List ℕ) (row : BodyRow) → sample_in number (bare line) ≡ Some row → IsSample number line row
-unfolding sample_in
-sample-sound number line row e = by_line number line row (word_in (bare line)) refl e
-
--- a line that is skipped
-pub skipped-sound : (line : List ℕ) → is_skipped line ≡ true → IsSkipped line
-unfolding is_skipped
-skipped-sound line e =
-    ⊎_elim
-    (λ (q : is_end line ≡ true). inl (end-blanks line q))
-    (λ (q : is_end line ≡ false). (let hash : (slice_index (bare line) 0 == 35) ≡ true = rw q at e in
-    inr (blanks line, drop 1 (bare line), blanks-are line, apart line ∙ ap (λ t. blanks line ++ t) (hash-first (bare line) hash))))
-    (cases_Bool (is_end line))
-  where
-    hash-first : (t : List ℕ) → (slice_index t 0 == 35) ≡ true → t ≡ 35 ∷ drop 1 t
-    hash-first [] h = absurd cc
-    hash-first (x ∷ t) h = ap (λ y. y ∷ t) (eqb-true x 35 h)

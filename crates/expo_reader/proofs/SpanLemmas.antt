@@ -1,5 +1,5 @@
 -- Rows that are offsets: where the parts of a line stand, and the rows line by line.
-use Rattle.std.proofs.Common.{◌≡◌, ◌≢◌, ℕ, ◌+◌, ◌-◌, ◌≤◌, ◌<◌, List, [], ◌∷◌, ◌++◌, length, take, drop, Option, Some, None, Result, Ok, Err, MatchResult, IfSome, true, false, refl, sym, ap, ap₂, ◌∙◌, arith, subst, length-append, length-drop, length-take, get_or, append-nil, append_assoc, drop-drop}
+use Rattle.std.proofs.Common.{◌≡◌, ◌≢◌, ℕ, ◌+◌, ◌-◌, ◌≤◌, ◌<◌, List, [], ◌∷◌, ◌++◌, length, take, drop, Option, Some, None, Result, Ok, Err, MatchResult, IfSome, true, false, refl, sym, ap, ap₂, ◌∙◌, arith, subst, ⊎_elim, length-append, length-drop, length-take, get_or, append-nil, append_assoc, drop-drop}
 use Rattle.std.specs.List.{All}
 use Rattle.std.proofs.Math.Seq.{take-append_seam}
 use Rattle.std.proofs.lemmas.List.{map-append, drop-take, get_or-map, length-map}
@@ -10,8 +10,12 @@ use Rattle.expo_lexer.specs.Tokens.{blank_len, is_blank}
 use Rattle.value_text.proofs.GrammarLemmas.{value-found}
 use Rattle.expo_reader.specs.Bodies.{Body, reading, joined, row_list, rows_from, lines_of, line_len, line_reading}
 use Rattle.expo_reader.specs.Faults.{FaultIs}
-use Rattle.expo_reader.specs.Forms.{after_name, labelled_row, labels_in, named_row, names_differ, row_of, sample_in, value_in}
-use Rattle.expo_reader.specs.Spans.{name_at, labels_at, word_of, labels_behind, braced_labels, found_labels, made_row, row_at, IsInside, IsTail, HasParts, row_seen, rows_seen, IsWithin, IsWritten, span_row, span_list}
+use Rattle.label_set.specs.declared.forms.Form.{Form}
+use Rattle.label_set.specs.declared.forms.Form.TheVariants.{Plain, Quoted}
+use Rattle.expo_reader.specs.Forms.{after_label, after_name, braced_row, differing_row, labelled_row, labels_after, labels_in, named_row, row_of, sample_in, value_in}
+use Rattle.expo_reader.specs.Grammar.{IsBraced, IsNamed}
+use Rattle.expo_reader.specs.Names.{or_else, braced_name}
+use Rattle.expo_reader.specs.Spans.{braced_labels, found_labels, word_of, made_row, spanned_row, row_at, IsInside, IsTail, HasParts, row_seen, rows_seen, IsWithin, IsWritten, span_row, span_list}
 use Rattle.expo_reader.specs.Texts.{bare, mark_in, word_in}
 use Rattle.expo_reader.specs.declared.faults.Fault.{Fault}
 use Rattle.expo_reader.specs.declared.faults.Fault.TheVariants.{Faulty, NoMemory}
@@ -22,7 +26,13 @@ use Rattle.expo_reader.proofs.LineLemmas.{rows-line}
 use Rattle.expo_reader.proofs.FrontLemmas.{Stops, stops-drop}
 use Rattle.expo_reader.proofs.LawLemmas.{rows-lines}
 use Rattle.expo_reader.proofs.RawLemmas.{IsSampled, sampled}
-use Rattle.expo_reader.proofs.SoundLemmas.{blanks, word-sound, mark-sound, labels-sound, HasLabels}
+use Rattle.expo_reader.proofs.SoundLemmas.{blanks, word-sound, mark-sound, quote-sound, labels-sound, HasLabels}
+use Rattle.expo_reader.proofs.RowSoundLemmas.{braced-sound}
+use Rattle.expo_reader.proofs.CompleteLemmas.{word-no_brace}
+use Rattle.expo_reader.proofs.SeenLemmas.{spanned-said}
+use Rattle.expo_reader.proofs.NameLemmas.{metric_name-utf8}
+use Rattle.expo_reader.proofs.RowLemmas.{mapped}
+use Rattle.std.proofs.lemmas.Str.{IsUtf8-from_is_utf8}
 
 -- ends of a line
 pub tail-tail : (line middle rest : List ℕ) → IsTail middle line → IsTail rest middle → IsTail rest line
@@ -37,9 +47,26 @@ rest-tail line name rest e = tail-tail line (name ++ rest) rest (word-tail line 
 pub mark-tail : (mark : ℕ) (bs r : List ℕ) → 0 < mark → mark_in mark bs ≡ Some r → IsTail r bs
 mark-tail mark bs r some e = (blanks bs ++ mark ∷ [], mark-sound mark bs r some e ∙ sym (append_assoc (blanks bs) (mark ∷ []) r))
 
-pub labels-tail : (k : ℕ) (bs : List ℕ) (labels : List Pair) (r : List ℕ) → labels_in k bs ≡ Some (labels, r) → IsTail r bs
+pub labels-tail : (form : Form) (k : ℕ) (bs : List ℕ) (labels : List Pair) (r : List ℕ) → labels_in form k bs ≡ Some (labels, r) → IsTail r bs
 unfolding HasLabels
-labels-tail k bs labels r e = let h = labels-sound k bs labels r e in (h.0 ++ 125 ∷ [], h.2 ∙ sym (append_assoc h.0 (125 ∷ []) r))
+labels-tail form k bs labels r e = let h = labels-sound form k bs labels r e in (h.0 ++ 125 ∷ [], h.2 ∙ sym (append_assoc h.0 (125 ∷ []) r))
+
+pub name-tail : (line name rest : List ℕ) → braced_name line ≡ Some (name, rest) → IsTail rest line
+name-tail line name rest e =
+    let found = braced-sound line name rest e in
+    let quote = quote-sound found.0 name rest found.3 in
+    let tail : IsTail rest found.0 = (blanks found.0 ++ quote.0, quote.2 ∙ sym (append_assoc (blanks found.0) quote.0 rest)) in
+    tail-tail line found.0 rest (mark-tail 123 line found.0 (omega arith) found.1) tail
+
+pub after-tail : (bs : List ℕ) (labels : List Pair) (r : List ℕ) → labels_after bs ≡ Some (labels, r) → IsTail r bs
+after-tail bs labels r e = by_comma (mark_in 44 bs) refl e
+  where
+    by_comma : (o : Option (List ℕ)) → mark_in 44 bs ≡ o → after_label (λ next. labels_in Quoted (length next + 1) next) bs o ≡ Some (labels, r) → IsTail r bs
+    by_comma (Some next) m e = tail-tail bs next r (mark-tail 44 bs next (omega arith) m) (labels-tail Quoted (length next + 1) next labels r e)
+    by_comma None m e =
+        let h = mapped {B = List Pair × List ℕ} (λ (q : List ℕ). ([], q)) (mark_in 125 bs) (labels, r) e in
+        let end : h.0 ≡ r = ap (λ (q : List Pair × List ℕ). q.1) h.2 in
+        mark-tail 125 bs r (omega arith) (h.1 ∙ ap (λ (q : List ℕ). Some q) end)
 
 pub tail-length : (line rest : List ℕ) → IsTail rest line → length rest ≤ length line
 tail-length line rest t = omega (arith, ap length t.1, length-append t.0 rest)
@@ -58,52 +85,78 @@ name-front line name rest e none =
     sym (ap (take (length name)) whole ∙ take-append_seam name rest)
 
 -- the row of a line without labels
-pub bare-is : (number : ℕ) (line name rest : List ℕ) → word_in line ≡ Some (name, rest) → is_metric_name name ≡ true → mark_in 123 rest ≡ None →
-    sample_in number line ≡ row_of number name name [] (value_in rest)
+pub bare-is : (form : Form) (number : ℕ) (line name rest : List ℕ) → word_in line ≡ Some (name, rest) → is_metric_name name ≡ true → mark_in 123 rest ≡ None →
+    named_row form number line (word_in line) ≡ row_of number name name [] (value_in rest)
+bare-is form number line name rest word metric none = ap (named_row form number line) word ∙ rw metric (ap (after_name form number line name rest) none)
+
+else-none : {A : Type 0} (o : Option A) → or_else o None ≡ o
+else-none None = refl
+else-none (Some x) = refl
+
+-- a line that begins with a word is read as one that begins with its name
+pub front-only : (form : Form) (number : ℕ) (line name rest : List ℕ) → word_in line ≡ Some (name, rest) → sample_in form number line ≡ named_row form number line (word_in line)
 unfolding sample_in
-bare-is number line name rest word metric none = ap (named_row number line) word ∙ rw metric (ap (after_name number line name rest) none)
+front-only Plain number line name rest word = refl
+front-only Quoted number line name rest word = ap (λ b. or_else (named_row Quoted number line (word_in line)) (braced_row number line b)) (word-no_brace line name rest word) ∙ else-none (named_row Quoted number line (word_in line))
+
+-- and else as one that begins with braces, where the form has such
+pub no-front : (number : ℕ) (line : List ℕ) → ((form : Form) (number : ℕ) → named_row form number line (word_in line) ≡ None) →
+    (sample_in Plain number line ≡ None) × (sample_in Quoted number line ≡ braced_row number line (braced_name line))
+unfolding sample_in
+no-front number line none = (none Plain number, ap (λ o. or_else o (braced_row number line (braced_name line))) (none Quoted number))
 
 -- the row of a line, made of its parts
 module _ (number : ℕ) (line name raw rest : List ℕ) (labels : List Pair) (raw_len : ℕ) (raw_is : raw ≡ take raw_len line)
-    (name_is : name_at line ≡ name) (labels_is : labels_at line ≡ labels) (said : Option BodyRow) (is : said ≡ row_of number raw name labels (value_in rest)) where
+    (said : Option BodyRow) (is : said ≡ row_of number raw name labels (value_in rest)) where
   pub parts-said : (r : Result LineSpan Fault) → MatchResult r (λ s. HasParts line raw_len rest s) (λ f. (f ≡ Faulty) × (value_in rest ≡ None)) →
-      MatchResult r (λ s. said ≡ Some (row_at number line s)) (λ f. FaultIs f said)
+      MatchResult r (λ s. said ≡ Some (spanned_row number line name labels s)) (λ f. FaultIs f said)
   parts-said (Ok s) h =
       let v = take s.value_len (drop s.value_at line) in
       is ∙ ap (row_of number raw name labels) h.1
       ∙ ap (λ (w : List ℕ). Some (made_row number w name labels v s.stamp)) (raw_is ∙ ap (λ k. take k line) (sym h.0))
-      ∙ ap₂ (λ n ls. Some (made_row number (take s.raw_len line) n ls v s.stamp)) (sym name_is) (sym labels_is)
   parts-said (Err f) h = subst (λ g. FaultIs g said) (sym h.0) (is ∙ ap (row_of number raw name labels) h.1)
 
-module _ (line name rest : List ℕ) (word : word_in line ≡ Some (name, rest)) where
-  pub name-is : name_at line ≡ name
-  unfolding name_at
-  name-is = ap word_of word
+-- a line that is read as something else is
+pub said-spanned : (form : Form) (number : ℕ) (line name : List ℕ) (labels : List Pair) (o : Option BodyRow) → sample_in form number line ≡ o →
+    (r : Result LineSpan Fault) → MatchResult r (λ s. o ≡ Some (spanned_row number line name labels s)) (λ f. FaultIs f o) →
+    MatchResult r (λ s. sample_in form number line ≡ Some (row_at number line s)) (λ f. FaultIs f (sample_in form number line))
+said-spanned form number line name labels o e (Ok s) h = spanned-said form number line name labels s (e ∙ h)
+said-spanned form number line name labels o e (Err f) h = subst (λ x. FaultIs f x) (sym e) h
 
-  pub no-labels : mark_in 123 rest ≡ None → labels_at line ≡ []
-  unfolding labels_at
-  no-labels none = ap labels_behind word ∙ ap braced_labels none
+-- labels in braces
+pub fault-again : {A B : Type 0} (f : Fault) (x : Option A) (g : Option A → Option B) → g None ≡ None → FaultIs f x → FaultIs f (g x)
+fault-again Faulty x g none e = ap g e ∙ none
+fault-again NoMemory x g none e = tt
 
-  module _ (inside : List ℕ) (mark : mark_in 123 rest ≡ Some inside) where
-    pub some-labels : (labels : List Pair) (tail : List ℕ) → labels_in (length inside + 1) inside ≡ Some (labels, tail) → labels_at line ≡ labels
-    unfolding labels_at
-    some-labels labels tail found = ap labels_behind word ∙ ap braced_labels mark ∙ ap found_labels found
+module _ (form : Form) (number : ℕ) (line name rest inside : List ℕ) (word : word_in line ≡ Some (name, rest)) (mark : mark_in 123 rest ≡ Some inside) (metric : is_metric_name name ≡ true) where
+  pub inside-row : sample_in form number line ≡ labelled_row number line name (labels_in form (length inside + 1) inside)
+  inside-row =
+      front-only form number line name rest word ∙ ap (named_row form number line) word ∙ rw metric (ap (after_name form number line name rest) mark)
 
-    module _ (number : ℕ) (metric : is_metric_name name ≡ true) where
-      inside-row : sample_in number line ≡ labelled_row number line name (labels_in (length inside + 1) inside)
-      unfolding sample_in
-      inside-row = ap (named_row number line) word ∙ rw metric (ap (after_name number line name rest) mark)
+  pub inside-fault : (f : Fault) → FaultIs f (labels_in form (length inside + 1) inside) → FaultIs f (sample_in form number line)
+  inside-fault f e =
+      subst (λ o. FaultIs f o) (sym inside-row) (fault-again f (labels_in form (length inside + 1) inside) (λ o. labelled_row number line name o) refl e)
 
-      pub labels-fault : (f : Fault) → FaultIs f (labels_in (length inside + 1) inside) → FaultIs f (sample_in number line)
-      labels-fault Faulty e = inside-row ∙ ap (labelled_row number line name) e
-      labels-fault NoMemory e = tt
+  pub inside-said : (labels now : List Pair) (tail : List ℕ) → labels_in form (length inside + 1) inside ≡ Some (labels, tail) → now ≡ labels → (r : Result LineSpan Fault) →
+      MatchResult r (λ s. differing_row number line name now tail ≡ Some (spanned_row number line name now s)) (λ f. FaultIs f (differing_row number line name now tail)) →
+      MatchResult r (λ s. sample_in form number line ≡ Some (row_at number line s)) (λ f. FaultIs f (sample_in form number line))
+  inside-said labels now tail found items r h =
+      said-spanned form number line name now (differing_row number line name now tail)
+      (inside-row ∙ ap (labelled_row number line name) found ∙ ap (λ ls. differing_row number line name ls tail) (sym items)) r h
 
-      pub twice-fault : (labels : List Pair) (tail : List ℕ) → labels_in (length inside + 1) inside ≡ Some (labels, tail) → names_differ labels ≡ false → sample_in number line ≡ None
-      twice-fault labels tail found twice = inside-row ∙ ap (labelled_row number line name) found ∙ rw twice refl
+-- the row of a line that begins with braces
+module _ (number : ℕ) (line name rest tail : List ℕ) (labels now : List Pair) (named : braced_name line ≡ Some (name, rest)) (found : labels_after rest ≡ Some (labels, tail)) (items : now ≡ labels) where
+  braced-is : braced_row number line (braced_name line) ≡ differing_row number line name now tail
+  braced-is = ap (braced_row number line) named ∙ ap (labelled_row number line name) found ∙ ap (λ ls. differing_row number line name ls tail) (sym items)
 
-      pub labelled-row : (labels : List Pair) (tail : List ℕ) → labels_in (length inside + 1) inside ≡ Some (labels, tail) → names_differ labels ≡ true →
-          sample_in number line ≡ row_of number (take (length line - length tail) line) name labels (value_in tail)
-      labelled-row labels tail found differ = inside-row ∙ ap (labelled_row number line name) found ∙ rw differ refl
+  pub braced-said : (r : Result LineSpan Fault) →
+      MatchResult r (λ s. differing_row number line name now tail ≡ Some (spanned_row number line name now s)) (λ f. FaultIs f (differing_row number line name now tail)) →
+      MatchResult r (λ s. braced_row number line (braced_name line) ≡ Some (spanned_row number line (word_of (braced_name line)) (braced_labels (braced_name line)) s))
+      (λ f. FaultIs f (braced_row number line (braced_name line)))
+  braced-said (Ok s) h =
+      let labels_are : now ≡ braced_labels (braced_name line) = items ∙ sym (ap braced_labels named ∙ ap found_labels found) in
+      braced-is ∙ h ∙ ap₂ (λ n ls. Some (spanned_row number line n ls s)) (sym (ap word_of named)) labels_are
+  braced-said (Err f) h = subst (λ o. FaultIs f o) (sym braced-is) h
 
 -- the row of a line in its body
 text-at : (body : List ℕ) (place end start : ℕ) → start ≤ end → take (end - start) (drop (place + start) body) ≡ drop start (take end (drop place body))
@@ -145,24 +198,24 @@ start-end end None h = tt
 start-end end (Some (start, s)) h = h.0
 
 -- a line more
-pub line-seen : (body rest : List ℕ) (rows new : List RowSpan) (number place end : ℕ) (o : Option (ℕ × LineSpan)) → rest ≡ drop place body → place < length body → end ≡ line_len rest →
-    IfSome o (λ p. p.0 ≤ end) → new ≡ rows ++ span_list number place end o → line_reading number (take end rest) ≡ Ok (span_row number (take end rest) o) →
-    (said : Result (List BodyRow) ℕ) → joined (rows_seen body rows) (rows_from number (lines_of (drop place body))) ≡ said →
-    joined (rows_seen body new) (rows_from (number + 1) (lines_of (drop (place + (end + 1)) body))) ≡ said
-line-seen body rest rows new number place end o rest_is lt end_is h new_is reading said told =
+pub line-seen : (form : Form) (body rest : List ℕ) (rows new : List RowSpan) (number place end : ℕ) (o : Option (ℕ × LineSpan)) → rest ≡ drop place body → place < length body → end ≡ line_len rest →
+    IfSome o (λ p. p.0 ≤ end) → new ≡ rows ++ span_list number place end o → line_reading form number (take end rest) ≡ Ok (span_row number (take end rest) o) →
+    (said : Result (List BodyRow) ℕ) → joined (rows_seen body rows) (rows_from form number (lines_of (drop place body))) ≡ said →
+    joined (rows_seen body new) (rows_from form (number + 1) (lines_of (drop (place + (end + 1)) body))) ≡ said
+line-seen form body rest rows new number place end o rest_is lt end_is h new_is reading said told =
     let bs = drop place body in
     let row = span_row number (take end bs) o in
     let e : end ≡ line_len bs = end_is ∙ ap line_len rest_is in
-    let rd : line_reading number (take (line_len bs) bs) ≡ Ok row =
-    ap (λ k. line_reading number (take k bs)) (sym e) ∙ subst (λ (r : List ℕ). line_reading number (take end r) ≡ Ok (span_row number (take end r) o)) rest_is reading in
-    let t = rows-line (rows_seen body rows) number row bs said (some-rest body place lt) rd told in
+    let rd : line_reading form number (take (line_len bs) bs) ≡ Ok row =
+    ap (λ k. line_reading form number (take k bs)) (sym e) ∙ subst (λ (r : List ℕ). line_reading form number (take end r) ≡ Ok (span_row number (take end r) o)) rest_is reading in
+    let t = rows-line form (rows_seen body rows) number row bs said (some-rest body place lt) rd told in
     let next : drop (place + (end + 1)) body ≡ drop (line_len bs + 1) bs = sym (drop-drop (end + 1) place body) ∙ ap (λ k. drop (k + 1) bs) e in
-    ap₂ (λ xs d. joined xs (rows_from (number + 1) (lines_of d))) (ap (rows_seen body) new_is ∙ seen-push body rows number place end o h) next ∙ t
+    ap₂ (λ xs d. joined xs (rows_from form (number + 1) (lines_of d))) (ap (rows_seen body) new_is ∙ seen-push body rows number place end o h) next ∙ t
 
 -- the row at a place
-pub row-count : (bytes : List ℕ) (rows : List RowSpan) (b : Body) → ◌≡◌ {A = Body} (record { bytes = bytes; rows = rows_seen bytes rows }) b → length rows ≡ length b.rows
+pub row-count : (form : Form) (bytes : List ℕ) (rows : List RowSpan) (b : Body) → ◌≡◌ {A = Body} (record { form = form; bytes = bytes; rows = rows_seen bytes rows }) b → length rows ≡ length b.rows
 unfolding rows_seen
-row-count bytes rows b e = sym (length-map rows (row_seen bytes)) ∙ ap (λ (x : Body). length x.rows) e
+row-count form bytes rows b e = sym (length-map rows (row_seen bytes)) ∙ ap (λ (x : Body). length x.rows) e
 
 pub row-seen-at : (bytes : List ℕ) (rows : List RowSpan) (i : ℕ) (r : RowSpan) (d : BodyRow) → i < length rows → r ≡ get_or rows i r → get_or (rows_seen bytes rows) i d ≡ row_seen bytes r
 unfolding rows_seen
@@ -176,12 +229,15 @@ text-inside bytes part text r same is w =
     let len : length text ≡ r.len = omega (arith, w.0, ap length is, ap length same, length-drop r.start part, length-take r.len (drop r.start part)) in
     subst (λ n. IsInside n r.parts) (sym len) w.1
 
--- the row at a place has a value and a metric name
-pub written-at : (bytes : List ℕ) (rows : List BodyRow) (i : ℕ) (r : BodyRow) → reading bytes ≡ Ok rows → i < length rows → r ≡ get_or rows i r → IsWritten r
-written-at bytes rows i r e h at =
-    let k = All-get_or IsSampled rows i r h (sampled (lines_of bytes) 1 rows (rows-lines bytes rows e)) in
-    let s : IsSampled r = subst IsSampled (sym at) k in
-    (value-found r.value s.2.9, s.2.6)
+-- the row at a place has a value, and its name is UTF-8
+pub written-at : (form : Form) (bytes : List ℕ) (rows : List BodyRow) (i : ℕ) (r : BodyRow) → reading form bytes ≡ Ok rows → i < length rows → r ≡ get_or rows i r → IsWritten r
+written-at form bytes rows i r e h at =
+    let k = All-get_or (IsSampled form) rows i r h (sampled form (lines_of bytes) 1 rows (rows-lines form bytes rows e)) in
+    let s : IsSampled form r = subst (IsSampled form) (sym at) k in
+    ⊎_elim
+    (λ (n : IsNamed form s.0 s.1 r). (value-found r.value n.9, metric_name-utf8 r.name n.6))
+    (λ (b : (form ≡ Quoted) × IsBraced s.0 s.1 r). (value-found r.value b.1.10, IsUtf8-from_is_utf8 r.name b.1.7.6.2))
+    s.2
 
 pub seen-length : (bytes : List ℕ) (rows : List RowSpan) → length (rows_seen bytes rows) ≡ length rows
 unfolding rows_seen

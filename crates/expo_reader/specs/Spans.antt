@@ -1,44 +1,58 @@
 -- How rows are seen that are offsets into their body: the name and the labels are what the text of the line says again.
 use Rattle.std.specs.Prelude.{IsTrue, ◌≡◌, ℕ, ℤ, ◌+◌, ◌-◌, ◌≤◌, List, [], ◌∷◌, ◌++◌, take, drop, map, Option, Some, None}
-use Rattle.label_set.specs.Bytes.{is_metric_name}
+use Rattle.std.specs.Str.{IsUtf8}
+use Rattle.label_set.specs.declared.forms.Form.TheVariants.{Quoted}
 use Rattle.label_set.specs.declared.texts.Pair.{Pair}
 use Rattle.value_text.specs.Values.{is_value}
-use Rattle.expo_reader.specs.Forms.{all_labels_in, value_in}
+use Rattle.expo_reader.specs.Forms.{all_labels_in, labels_after, value_in}
+use Rattle.expo_reader.specs.Names.{braced_name}
 use Rattle.expo_reader.specs.Texts.{mark_in, word_in}
 use Rattle.expo_reader.specs.declared.rows.BodyRow.{BodyRow}
 use Rattle.expo_reader.specs.declared.spans.LineSpan.{LineSpan}
 use Rattle.expo_reader.specs.declared.spans.RowSpan.{RowSpan}
 
--- the name that a line begins with
+-- the name of a line: the word with which it begins, or the name in quotes behind its `{`
 abbrev pub word_of : Option (List ℕ × List ℕ) → List ℕ
 word_of None = []
 word_of (Some (word, rest)) = word
 
+abbrev pub name_of : Option (List ℕ × List ℕ) → Option (List ℕ × List ℕ) → List ℕ
+name_of (Some (word, rest)) braced = word
+name_of None braced = word_of braced
+
 unfoldable pub name_at : List ℕ → List ℕ
-name_at line = word_of (word_in line)
+name_at line = name_of (word_in line) (braced_name line)
 
 -- the labels behind it
 abbrev pub found_labels : Option (List Pair × List ℕ) → List Pair
 found_labels None = []
 found_labels (Some (labels, rest)) = labels
 
-abbrev pub braced_labels : Option (List ℕ) → List Pair
-braced_labels None = []
-braced_labels (Some inside) = found_labels (all_labels_in inside)
+abbrev pub inside_labels : Option (List ℕ) → List Pair
+inside_labels None = []
+inside_labels (Some inside) = found_labels (all_labels_in Quoted inside)
 
-abbrev pub labels_behind : Option (List ℕ × List ℕ) → List Pair
-labels_behind None = []
-labels_behind (Some (name, rest)) = braced_labels (mark_in 123 rest)
+abbrev pub braced_labels : Option (List ℕ × List ℕ) → List Pair
+braced_labels None = []
+braced_labels (Some (name, rest)) = found_labels (labels_after rest)
+
+abbrev pub labels_behind : Option (List ℕ × List ℕ) → Option (List ℕ × List ℕ) → List Pair
+labels_behind (Some (name, rest)) braced = inside_labels (mark_in 123 rest)
+labels_behind None braced = braced_labels braced
 
 unfoldable pub labels_at : List ℕ → List Pair
-labels_at line = labels_behind (word_in line)
+labels_at line = labels_behind (word_in line) (braced_name line)
 
 abbrev pub made_row : ℕ → List ℕ → List ℕ → List Pair → List ℕ → Option ℤ → BodyRow
 made_row number raw name labels value stamp = record { line = number; raw = raw; name = name; labels = labels; value = value; stamp = stamp }
 
+-- the row of a line with that name and these labels, whose other parts stand there
+abbrev pub spanned_row : ℕ → List ℕ → List ℕ → List Pair → LineSpan → BodyRow
+spanned_row number line name labels s = made_row number (take s.raw_len line) name labels (take s.value_len (drop s.value_at line)) s.stamp
+
 -- the row of a line whose parts stand there
 abbrev pub row_at : ℕ → List ℕ → LineSpan → BodyRow
-row_at number line s = made_row number (take s.raw_len line) (name_at line) (labels_at line) (take s.value_len (drop s.value_at line)) s.stamp
+row_at number line s = spanned_row number line (name_at line) (labels_at line) s
 
 -- the parts stand within a line of that length
 abbrev pub IsInside : ℕ → LineSpan → Type 0
@@ -76,6 +90,6 @@ abbrev pub span_list : ℕ → ℕ → ℕ → Option (ℕ × LineSpan) → List
 span_list number place end None = []
 span_list number place end (Some (start, s)) = record { line = number; start = place + start; len = end - start; parts = s } ∷ []
 
--- the value is one, and the name that of a metric
+-- the value is one, and the name is UTF-8
 abbrev pub IsWritten : BodyRow → Type 0
-IsWritten r = IsTrue (is_value r.value) × IsTrue (is_metric_name r.name)
+IsWritten r = IsTrue (is_value r.value) × IsUtf8 r.name

@@ -1,24 +1,25 @@
 //! The labels of a line.
-ghost use Rattle.std.specs.Prelude.{◌≡◌, ◌<◌, ◌+◌, ◌++◌, ◌∷◌, [], length, true, IfNone, IfOk, IfSome, IsTrue, List, MatchResult, Some, None, codes};
-ghost use Rattle.std.specs.List.{list_all};
+ghost use Rattle.std.specs.Prelude.{◌≡◌, ◌<◌, ◌++◌, ◌∷◌, [], length, IfNone, IfOk, IfSome, IsTrue, List, MatchResult, Some, None, codes};
 ghost use Rattle.std.specs.Str.{bytes_eq};
 ghost use Rattle.label_set.specs.declared.texts.Pair.{Pair};
-ghost use Rattle.expo_reader.specs.Faults.{FaultIs, Finds};
+ghost use Rattle.expo_reader.specs.Faults.{FaultIs};
 ghost use Rattle.expo_reader.specs.Forms as spec;
-ghost use Rattle.expo_reader.specs.Texts.{is_plain_byte, mark_in, text_in, word_in};
+ghost use Rattle.expo_reader.specs.Names as named;
+ghost use Rattle.expo_reader.specs.Texts.{mark_in, word_in};
 
 use crate::faults::Fault;
 use crate::names::is_exposed_name;
-use crate::parts::{Part, mark_in, quick_name, quick_text, text_in, word_in};
-use crate::texts::{LentText, lent_text, utf8_text, whole_text};
-use label_set::{Name, NoMemory, Pair, PairList};
+use crate::parts::{Part, mark_in, quick_name, word_in};
+use crate::quotes::{quote_in, quoted_name};
+use crate::texts::{LentText, utf8_text, whole_text};
+use label_set::{Form, Name, NoMemory, Pair, PairList};
 use std::alloc::Global;
 use std::marker::Model;
 
 /// A label that borrows from a body. Contracts see the label.
 #[derive(Drop, Debug)]
 pub struct LentLabel<'b> {
-    name: &'b str,
+    name: LentText<'b>,
     value: LentText<'b>,
 }
 
@@ -27,7 +28,7 @@ impl<'b> Model for LentLabel<'b> {
 
     ghost Value = { Pair };
 
-    ghost view = { λ l. record { name = l.name.now; value = l.value } };
+    ghost view = { λ l. record { name = l.name; value = l.value } };
 }
 
 impl<'b> LentLabel<'b> {
@@ -35,7 +36,7 @@ impl<'b> LentLabel<'b> {
     pub fn name(&self) -> &str
         ensures { result.now ≡ self.now.name }
     {
-        self.name
+        self.name.as_str()
     }
 
     /// The value.
@@ -49,7 +50,7 @@ impl<'b> LentLabel<'b> {
     pub(crate) fn name_copy(&self, alloc: Global) -> Result<Name, NoMemory>
         ensures { IfOk result (λ n. n ≡ self.now.name) }
     {
-        Name::from_str(alloc, self.name)
+        Name::from_str(alloc, self.name())
     }
 
     /// A copy of the label.
@@ -80,11 +81,12 @@ fn is_metric_label(name: &[u8]) -> bool
     name == b"__name__".as_slice()
 }
 
-/// The name of a label in front, and what follows it. Most are gone over once.
+/// The bare name of a label in front, and what follows it. Most are gone over once.
+#[inline(always)]
 fn exposed_in(text: &[u8]) -> Option<Part<'_>>
     ensures part { IfSome result (λ p. word_in text.now ≡ Some (p.bytes.now, p.rest.now)) }
-    ensures name { IfSome result (λ p. IsTrue (spec.is_exposed_name p.bytes.now)) }
-    ensures none { IfNone result (spec.label_in text.now ≡ None) }
+    ensures name { IfSome result (λ p. IsTrue (named.is_exposed_name p.bytes.now)) }
+    ensures none { IfNone result (named.bare_name text.now ≡ None) }
     ensures shorter { IfSome result (λ p. length p.rest.now < length text.now) }
 {
     if let Some(name) = quick_name(text) {
@@ -102,91 +104,87 @@ fn exposed_in(text: &[u8]) -> Option<Part<'_>>
     Some(name)
 }
 
-/// A label of a name and a text in quotes.
-fn label_of<'b>(alloc: Global, name: &'b [u8], text: &'b [u8]) -> Result<LentLabel<'b>, Fault>
-    requires { IsTrue (spec.is_exposed_name name.now) }
-    ensures { Finds (λ p. p) result (spec.label_of name.now text.now) }
+/// A bare name as it is.
+fn bare_text(name: &[u8]) -> LentText<'_>
+    requires { IsTrue (named.is_exposed_name name.now) }
+    ensures { result ≡ name.now }
 {
-    match lent_text(alloc, text) {
-        Ok(value) => Ok(LentLabel {
-            name: utf8_text(name),
-            value,
-        }),
-        Err(fault) => Err(fault),
-    }
+    whole_text(utf8_text(name))
 }
 
-/// A label of a name and of the text in quotes behind the blanks, and what follows it. Most are gone over once.
-fn valued<'b>(
+/// Adds the label of a name, with the value that stands behind it, and gives what follows that.
+#[inline(always)]
+fn push_valued<'b>(
     alloc: Global,
-    name: &'b [u8],
-    quoted: &'b [u8],
-) -> Result<(LentLabel<'b>, &'b [u8]), Fault>
-    requires { IsTrue (spec.is_exposed_name name.now) }
-    ensures label { let said = spec.valued_label name.now (text_in quoted.now) in
-        MatchResult result (λ r. said ≡ Some (r.0, r.1.now)) (λ f. FaultIs f said) }
-    ensures shorter { IfOk result (λ r. length r.1.now < length quoted.now) }
-{
-    if let Some(value) = quick_text(quoted) {
-        return Ok((plain_label(name, value.bytes), value.rest));
-    }
-    let Some(value) = text_in(quoted) else {
-        return Err(Fault::Faulty);
-    };
-    match label_of(alloc, name, value.bytes) {
-        Ok(label) => Ok((label, value.rest)),
-        Err(fault) => Err(fault),
-    }
-}
-
-/// A label of a name and a text of ASCII with no escape.
-fn plain_label<'b>(name: &'b [u8], text: &'b [u8]) -> LentLabel<'b>
-    requires name { IsTrue (spec.is_exposed_name name.now) }
-    requires text { list_all is_plain_byte text.now ≡ true }
-    ensures { spec.label_of name.now text.now ≡ Some result }
-{
-    LentLabel {
-        name: utf8_text(name),
-        value: whole_text(utf8_text(text)),
-    }
-}
-
-/// Adds the label behind the blanks, and gives what follows it.
-fn push_label<'b>(
-    alloc: Global,
-    text: &'b [u8],
+    name: LentText<'b>,
+    rest: &'b [u8],
     labels: &mut Vec<LentLabel<'b>>,
 ) -> Result<&'b [u8], Fault>
-    ensures label { MatchResult result
-        (λ rest. (p : Pair) × (spec.label_in text.now ≡ Some (p, rest.now))
-        × (labels.new.items ≡ labels.old.items ++ p ∷ [])) (λ f. FaultIs f (spec.label_in text.now)) }
-    ensures shorter { IfOk result (λ rest. length rest.now < length text.now) }
+    ensures label { let said = spec.label_behind name.entry rest.now in MatchResult result
+        (λ after. (p : Pair) × (said ≡ Some (p, after.now)) × (labels.new.items ≡ labels.old.items ++ p ∷ [])) (λ f. FaultIs f said) }
+    ensures shorter { IfOk result (λ after. length after.now < length rest.now) }
 {
-    let Some(name) = exposed_in(text) else {
+    let Some(quoted) = mark_in(b'=', rest) else {
         return Err(Fault::Faulty);
     };
-    let Some(quoted) = mark_in(b'=', name.rest) else {
-        return Err(Fault::Faulty);
-    };
-    match valued(alloc, name.bytes, quoted) {
-        Ok((label, rest)) => {
+    match quote_in(alloc, quoted) {
+        Ok((value, after)) => {
             labels.reserve(1)?;
-            labels.push_reserved(label);
-            Ok(rest)
+            labels.push_reserved(LentLabel { name, value });
+            Ok(after)
         }
         Err(fault) => Err(fault),
     }
 }
 
-/// Adds the labels behind a `{`, and gives what follows the `}` behind them.
-pub fn labels_in<'b>(
+/// Adds the label behind the blanks whose name stands in quotes, and gives what follows it.
+#[inline(never)]
+fn push_quoted<'b>(
     alloc: Global,
     text: &'b [u8],
     labels: &mut Vec<LentLabel<'b>>,
 ) -> Result<&'b [u8], Fault>
-    ensures labels { MatchResult result
-        (λ rest. (more : List Pair) × (spec.all_labels_in text.now ≡ Some (more, rest.now))
-        × (labels.new.items ≡ labels.old.items ++ more)) (λ f. FaultIs f (spec.all_labels_in text.now)) }
+    ensures label { let said = spec.named_label (named.quoted_name text.now) in MatchResult result
+        (λ rest. (p : Pair) × (said ≡ Some (p, rest.now)) × (labels.new.items ≡ labels.old.items ++ p ∷ [])) (λ f. FaultIs f said) }
+    ensures shorter { IfOk result (λ rest. length rest.now < length text.now) }
+{
+    match quoted_name(alloc, text) {
+        Ok((name, rest)) => push_valued(alloc, name, rest, labels),
+        Err(fault) => Err(fault),
+    }
+}
+
+/// Adds the label behind the blanks, and gives what follows it.
+#[inline(always)]
+fn push_label<'b>(
+    alloc: Global,
+    form: Form,
+    text: &'b [u8],
+    labels: &mut Vec<LentLabel<'b>>,
+) -> Result<&'b [u8], Fault>
+    ensures label { MatchResult result (λ rest. (p : Pair) × (spec.label_in form text.now ≡ Some (p, rest.now))
+        × (labels.new.items ≡ labels.old.items ++ p ∷ [])) (λ f. FaultIs f (spec.label_in form text.now)) }
+    ensures shorter { IfOk result (λ rest. length rest.now < length text.now) }
+{
+    if let Some(name) = exposed_in(text) {
+        return push_valued(alloc, bare_text(name.bytes), name.rest, labels);
+    }
+    match form {
+        Form::Plain => Err(Fault::Faulty),
+        Form::Quoted => push_quoted(alloc, text, labels),
+    }
+}
+
+/// Adds the labels behind a `{`, and gives what follows the `}` behind them.
+#[inline(always)]
+pub fn labels_in<'b>(
+    alloc: Global,
+    form: Form,
+    text: &'b [u8],
+    labels: &mut Vec<LentLabel<'b>>,
+) -> Result<&'b [u8], Fault>
+    ensures labels { MatchResult result (λ rest. (more : List Pair) × (spec.all_labels_in form text.now ≡ Some (more, rest.now))
+        × (labels.new.items ≡ labels.old.items ++ more)) (λ f. FaultIs f (spec.all_labels_in form text.now)) }
     ensures shorter { IfOk result (λ rest. length rest.now < length text.now) }
 {
     let mut left = text;
@@ -194,7 +192,7 @@ pub fn labels_in<'b>(
         if let Some(rest) = mark_in(b'}', left) {
             return Ok(rest);
         }
-        let rest = match push_label(alloc, left, labels) {
+        let rest = match push_label(alloc, form, left, labels) {
             Ok(rest) => rest,
             Err(fault) => return Err(fault),
         };
@@ -202,6 +200,22 @@ pub fn labels_in<'b>(
             Some(next) => next,
             None => return closed(rest),
         };
+    }
+}
+
+/// Adds the labels behind the metric name in braces, and gives what follows the `}` behind them.
+pub fn labels_after<'b>(
+    alloc: Global,
+    text: &'b [u8],
+    labels: &mut Vec<LentLabel<'b>>,
+) -> Result<&'b [u8], Fault>
+    ensures labels { MatchResult result (λ rest. (more : List Pair) × (spec.labels_after text.now ≡ Some (more, rest.now))
+        × (labels.new.items ≡ labels.old.items ++ more)) (λ f. FaultIs f (spec.labels_after text.now)) }
+    ensures shorter { IfOk result (λ rest. length rest.now < length text.now) }
+{
+    match mark_in(b',', text) {
+        Some(next) => labels_in(alloc, Form::Quoted, next, labels),
+        None => closed(text),
     }
 }
 

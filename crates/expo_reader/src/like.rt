@@ -3,7 +3,7 @@ ghost use Rattle.std.specs.Prelude.{◌≡◌, ◌≤◌, ◌<◌, ◌+◌, ◌-
 ghost use Rattle.expo_lexer.specs.Tokens.{blank_len};
 ghost use Rattle.expo_reader.specs.Faults.{FaultIs};
 ghost use Rattle.expo_reader.specs.Forms as spec;
-ghost use Rattle.expo_reader.specs.Like.{IsLike, IsRawText};
+ghost use Rattle.expo_reader.specs.Like.{GoesIn, IsLike, IsRawText};
 ghost use Rattle.expo_reader.specs.Spans as seen;
 
 use crate::faults::Fault;
@@ -11,20 +11,28 @@ use crate::labels::LentLabel;
 use crate::lines::behind;
 use crate::samples::front_of;
 use crate::spans::{LineSpan, line_parts, parts_of};
+use label_set::Form;
 use std::alloc::Global;
 
 /// Raw texts of sample lines, in the order in which a target showed them: those of another body, or those that its last good scrape left.
-/// Contracts see the list of them.
+/// Contracts see the list of them, and the form of the bodies in which they stood.
 pub trait RawTexts {
     ghost use Rattle.std.specs.Prelude.{◌≡◌, ℕ, List, IfSome, Some, slice_get};
+    ghost use Rattle.label_set.specs.declared.forms.Form.{Form};
     ghost use Rattle.expo_reader.specs.Like.{IsRawText};
 
     ghost texts: { Self → List (List ℕ) };
 
+    ghost form_of: { Self → Form };
+
+    /// The form of the bodies in which they stood.
+    fn form(&self) -> Form
+        ensures { result ≡ form_of self.now };
+
     /// The one at a place, counted from 0, if there is one.
     fn text_at(&self, place: usize) -> Option<&[u8]>
         ensures text { IfSome result (λ r. slice_get (texts self.now) place ≡ Some r.now) }
-        ensures raw { IfSome result (λ r. IsRawText r.now) };
+        ensures raw { IfSome result (λ r. IsRawText (form_of self.now) r.now) };
 }
 
 /// No raw texts: of a target that showed none yet.
@@ -33,8 +41,15 @@ pub struct NoTexts;
 
 impl RawTexts for NoTexts {
     ghost use Rattle.std.specs.Prelude.{[]};
+    ghost use Rattle.label_set.specs.declared.forms.Form.TheVariants.{Plain};
 
     ghost texts = { λ _. [] };
+
+    ghost form_of = { λ _. Plain };
+
+    fn form(&self) -> Form {
+        Form::Plain
+    }
 
     fn text_at(&self, _place: usize) -> Option<&[u8]> {
         None
@@ -83,25 +98,36 @@ impl Expected {
     }
 }
 
-/// The text at a place, if there is one.
-fn raw_at<T: RawTexts>(like: &T, place: usize) -> Option<&[u8]>
+/// Whether each line of a body of the one form is read alike in a body of the other.
+fn goes_in(from: Form, into: Form) -> bool
+    ensures { result ≡ true → GoesIn from into }
+{
+    match into {
+        Form::Quoted => true,
+        Form::Plain => matches!(from, Form::Plain),
+    }
+}
+
+/// The text at a place, if there is one, and if it is one of a body of that form.
+fn raw_at<T: RawTexts>(like: &T, form: Form, place: usize) -> Option<&[u8]>
     ensures text { IfSome result (λ r. slice_get (T.texts like.now) place ≡ Some r.now) }
-    ensures raw { IfSome result (λ r. IsRawText r.now) }
+    ensures raw { IfSome result (λ r. IsRawText form r.now) }
     ensures near { IfSome result (λ _. place < 2 ^ 32 - 1) }
 {
-    if place < PLACES {
+    if place < PLACES && goes_in(like.form(), form) {
         like.text_at(place)
     } else {
         None
     }
 }
 
-/// Where the parts of a sample line stand that begins with the raw text of some sample line, and a blank behind it: its labels aren't read.
-fn known_parts(text: &[u8], raw: &[u8]) -> Option<LineSpan>
-    requires raw { IsRawText raw.now }
+/// Where the parts of a sample line stand that begins with the raw text of some sample line of that form, and a blank behind it: its labels
+/// aren't read.
+fn known_parts(text: &[u8], form: Form, raw: &[u8]) -> Option<LineSpan>
+    requires raw { IsRawText form raw.now }
     requires bare { blank_len text.now ≡ 0 }
     requires few { length text.now < 2 ^ 32 }
-    ensures said { IfSome result (λ s. (number : ℕ) → spec.sample_in number text.now ≡ Some (seen.row_at number text.now s)) }
+    ensures said { IfSome result (λ s. (number : ℕ) → spec.sample_in form number text.now ≡ Some (seen.row_at number text.now s)) }
     ensures inside { IfSome result (λ s. seen.IsInside (length text.now) s) }
     ensures front { IfSome result (λ s. take s.raw_len text.now ≡ raw.now) }
 {
@@ -161,18 +187,19 @@ fn found_ahead<T: RawTexts>(like: &T, expected: &mut Expected, raw: &[u8]) -> u3
 
 /// Where the parts of a line stand that begins with the text that is expected, and the place of that and one.
 fn expected_parts<T: RawTexts>(
+    form: Form,
     text: &[u8],
     like: &T,
     expected: &mut Expected,
 ) -> Option<(LineSpan, u32)>
     requires bare { blank_len text.now ≡ 0 }
     requires few { length text.now < 2 ^ 32 }
-    ensures said { IfSome result (λ p. (number : ℕ) → spec.sample_in number text.now ≡ Some (seen.row_at number text.now p.0)) }
+    ensures said { IfSome result (λ p. (number : ℕ) → spec.sample_in form number text.now ≡ Some (seen.row_at number text.now p.0)) }
     ensures inside { IfSome result (λ p. seen.IsInside (length text.now) p.0) }
     ensures like { IfSome result (λ p. IsLike (T.texts like.now) p.1 (take p.0.raw_len text.now)) }
 {
-    let raw = raw_at(like, expected.next)?;
-    let parts = known_parts(text, raw)?;
+    let raw = raw_at(like, form, expected.next)?;
+    let parts = known_parts(text, form, raw)?;
     Some((parts, expected.met(expected.next)))
 }
 
@@ -180,6 +207,7 @@ fn expected_parts<T: RawTexts>(
 /// one of the next.
 pub(crate) fn like_parts<'b, T: RawTexts>(
     alloc: Global,
+    form: Form,
     line: &'b [u8],
     like: &T,
     expected: &mut Expected,
@@ -187,16 +215,15 @@ pub(crate) fn like_parts<'b, T: RawTexts>(
 ) -> Result<(LineSpan, u32), Fault>
     requires bare { blank_len line.now ≡ 0 }
     requires few { length line.now < 2 ^ 32 }
-    ensures said { (number : ℕ) → MatchResult result
-        (λ p. spec.sample_in number line.now ≡ Some (seen.row_at number line.now p.0))
-        (λ f. FaultIs f (spec.sample_in number line.now)) }
+    ensures said { (number : ℕ) → MatchResult result (λ p. spec.sample_in form number line.now ≡ Some (seen.row_at number line.now p.0))
+        (λ f. FaultIs f (spec.sample_in form number line.now)) }
     ensures inside { IfOk result (λ p. seen.IsInside (length line.now) p.0) }
     ensures like { IfOk result (λ p. IsLike (T.texts like.now) p.1 (take p.0.raw_len line.now)) }
 {
-    if let Some(known) = expected_parts(line, like, expected) {
+    if let Some(known) = expected_parts(form, line, like, expected) {
         return Ok(known);
     }
-    match line_parts(alloc, line, labels) {
+    match line_parts(alloc, form, line, labels) {
         Ok(parts) => {
             let raw = front_of(line, parts.raw_len as usize);
             Ok((parts, found_ahead(like, expected, raw)))

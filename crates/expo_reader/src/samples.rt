@@ -1,17 +1,19 @@
 //! The rows of a body, as they stand in it.
 ghost use Rattle.std.specs.Prelude.{◌≡◌, ◌≤◌, ◌<◌, ◌+◌, length, drop, take, slice_index_or, All, IfOk, IsTrue, Ok};
-ghost use Rattle.label_set.specs.Bytes.{is_metric_name};
+ghost use Rattle.std.specs.Str.{IsUtf8};
 ghost use Rattle.value_text.specs.Values.{is_value};
 ghost use Rattle.expo_reader.specs.Bodies.{reading};
+ghost use Rattle.expo_reader.specs.Names.{braced_name};
 ghost use Rattle.expo_reader.specs.Spans as seen;
 
 use crate::faults::Fault;
-use crate::labels::{LentLabel, copies, labels_in};
+use crate::labels::{LentLabel, copies, labels_after, labels_in};
 use crate::parts::{mark_in, word_in};
+use crate::quotes::braced_name;
 use crate::rows::BodyRow;
 use crate::spans::{LineSpan, RowSpan};
-use crate::texts::utf8_text;
-use label_set::{Blob, Name, NoMemory, PairList};
+use crate::texts::{LentText, utf8_text, whole_text};
+use label_set::{Blob, Form, Name, NoMemory, PairList};
 use std::alloc::Global;
 use std::marker::Model;
 use value_text::ValueText;
@@ -44,7 +46,7 @@ impl<'a> SampleRow<'a> {
         self.line as u64
     }
 
-    /// The bytes of the line from the metric name through `}`, or through the name where there are no braces.
+    /// The bytes of the line from the metric name, or the `{` with which it begins, through `}`, or through the name where there are no braces.
     pub fn raw(&self) -> &'a [u8]
         ensures { result.now ≡ self.now.raw }
     {
@@ -78,10 +80,14 @@ impl<'a> SampleRow<'a> {
     }
 
     /// The metric name. It is read again.
-    pub fn name(&self) -> &'a str
-        ensures { result.now ≡ self.now.name }
+    ///
+    /// # Errors
+    ///
+    /// Only want of memory refuses, where the name has an escape.
+    pub fn name(&self, alloc: Global) -> Result<LentText<'a>, NoMemory>
+        ensures { IfOk result (λ n. n ≡ self.now.name) }
     {
-        utf8_text(name_at(self.text))
+        name_at(alloc, self.text)
     }
 
     /// The labels in the order of the text. They are read again.
@@ -106,7 +112,7 @@ impl<'a> SampleRow<'a> {
         Ok(BodyRow {
             line: self.line as u64,
             raw: Blob::from_slice(alloc, self.raw())?,
-            name: Name::from_str(alloc, self.name())?,
+            name: Name::from_str(alloc, self.name(alloc)?.as_str())?,
             labels: self.label_copies(alloc)?,
             value: self.value_copy(alloc)?,
             stamp: self.parts.stamp,
@@ -115,8 +121,13 @@ impl<'a> SampleRow<'a> {
 }
 
 /// The row at a place among those that are the reading of a body.
-pub(crate) fn sample_row<'a>(bytes: &'a Blob, rows: &[RowSpan], place: usize) -> SampleRow<'a>
-    requires read { reading bytes.now ≡ Ok (seen.rows_seen bytes.now rows.now) }
+pub(crate) fn sample_row<'a>(
+    form: Form,
+    bytes: &'a Blob,
+    rows: &[RowSpan],
+    place: usize,
+) -> SampleRow<'a>
+    requires read { reading form bytes.now ≡ Ok (seen.rows_seen bytes.now rows.now) }
     requires within { All (seen.IsWithin (length bytes.now)) rows.now }
     requires place { place < length rows.now }
     ensures { result ≡ slice_index_or (seen.rows_seen bytes.now rows.now) place result }
@@ -153,14 +164,19 @@ fn part_of(text: &[u8], place: usize, len: usize) -> &[u8]
     &text[place..][..len]
 }
 
-/// The name in front of a line.
+/// The name of a line.
 #[tactic(auto, unfolding(crate::specs::Spans::name_at))]
-fn name_at(line: &[u8]) -> &[u8]
-    ensures { result.now ≡ seen.name_at line.now }
+fn name_at<'b>(alloc: Global, line: &'b [u8]) -> Result<LentText<'b>, NoMemory>
+    requires { IsUtf8 (seen.name_at line.now) }
+    ensures { IfOk result (λ n. n ≡ seen.name_at line.now) }
 {
-    match word_in(line) {
-        Some(name) => name.bytes,
-        None => &[],
+    if let Some(name) = word_in(line) {
+        return Ok(whole_text(utf8_text(name.bytes)));
+    }
+    match braced_name(alloc, line) {
+        Ok((name, _)) => Ok(name),
+        Err(Fault::Faulty) => Ok(whole_text("")),
+        Err(Fault::NoMemory) => Err(NoMemory),
     }
 }
 
@@ -169,14 +185,31 @@ fn name_at(line: &[u8]) -> &[u8]
 fn labels_at<'b>(alloc: Global, line: &'b [u8]) -> Result<Vec<LentLabel<'b>>, NoMemory>
     ensures { IfOk result (λ v. v.items ≡ seen.labels_at line.now) }
 {
-    let mut labels = Vec::new(alloc);
     let Some(name) = word_in(line) else {
-        return Ok(labels);
+        return braced_labels(alloc, line);
     };
+    let mut labels = Vec::new(alloc);
     let Some(inside) = mark_in(b'{', name.rest) else {
         return Ok(labels);
     };
-    match labels_in(alloc, inside, &mut labels) {
+    match labels_in(alloc, Form::Quoted, inside, &mut labels) {
+        Ok(_) => Ok(labels),
+        Err(Fault::Faulty) => Ok(Vec::new(alloc)),
+        Err(Fault::NoMemory) => Err(NoMemory),
+    }
+}
+
+/// The labels of a line that begins with braces.
+fn braced_labels<'b>(alloc: Global, line: &'b [u8]) -> Result<Vec<LentLabel<'b>>, NoMemory>
+    ensures { IfOk result (λ v. v.items ≡ seen.braced_labels (braced_name line.now)) }
+{
+    let mut labels = Vec::new(alloc);
+    let rest = match braced_name(alloc, line) {
+        Ok((_, rest)) => rest,
+        Err(Fault::Faulty) => return Ok(labels),
+        Err(Fault::NoMemory) => return Err(NoMemory),
+    };
+    match labels_after(alloc, rest, &mut labels) {
         Ok(_) => Ok(labels),
         Err(Fault::Faulty) => Ok(Vec::new(alloc)),
         Err(Fault::NoMemory) => Err(NoMemory),

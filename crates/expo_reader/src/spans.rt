@@ -1,22 +1,25 @@
 //! Where the rows of a body stand in it: the one parser. Rows are offsets into the bytes, so they borrow nothing.
-ghost use Rattle.std.specs.Prelude.{◌≡◌, ◌≤◌, ◌<◌, ◌+◌, ◌++◌, ◌-◌, ◌^◌, [], length, drop, take, ℕ, All, IfErr, IfNone, IfOk, IfSome, IsTrue, MatchResult, None, OnOk, Ok, Some};
+ghost use Rattle.std.specs.Prelude.{◌≡◌, ◌≤◌, ◌<◌, ◌+◌, ◌++◌, ◌-◌, ◌^◌, [], length, drop, take, ℕ, List, All, IfErr, IfNone, IfOk, IfSome, IsTrue, MatchResult, None, OnOk, Ok, Some};
 ghost use Rattle.expo_lexer.specs.Tokens.{blank_len};
 ghost use Rattle.expo_reader.specs.Bodies.{CauseIs, line_reading, reading};
 ghost use Rattle.expo_reader.specs.Faults.{FaultIs};
 ghost use Rattle.expo_reader.specs.Forms as spec;
 ghost use Rattle.expo_reader.specs.Like.{AreLike, IsLike, place_list};
+ghost use Rattle.expo_reader.specs.Names.{braced_name};
 ghost use Rattle.expo_reader.specs.Spans as seen;
 ghost use Rattle.expo_reader.specs.Texts.{word_in};
 ghost use Rattle.value_text.specs.Values.{is_value};
 
 use crate::bodies::BodyCause;
 use crate::faults::Fault;
-use crate::labels::{LentLabel, labels_in};
+use crate::labels::{LentLabel, labels_after, labels_in};
 use crate::like::{Expected, RawTexts, like_parts};
 use crate::lines::{behind, line_end, metric_in};
 use crate::parts::{Part, mark_in, quick_value, start_of, word_in};
+use crate::quotes::braced_name;
 use crate::repeats::names_differ;
 use crate::values::stamp_in;
+use label_set::Form;
 use std::alloc::{AllocError, Global};
 use value_text::ValueText;
 
@@ -89,30 +92,20 @@ fn place_of(line: &[u8], word: &[u8], rest: &[u8]) -> usize
     line.len() - rest.len() - word.len()
 }
 
-/// Where the parts of a sample line stand. The room for labels is used again.
-pub(crate) fn line_parts<'b>(
+/// Where the parts of a line stand whose labels are these, with what follows them.
+#[inline(always)]
+fn labelled_parts(
     alloc: Global,
-    line: &'b [u8],
-    labels: &mut Vec<LentLabel<'b>>,
+    line: &[u8],
+    labels: &[LentLabel<'_>],
+    rest: &[u8],
 ) -> Result<LineSpan, Fault>
-    requires bare { blank_len line.now ≡ 0 }
+    requires tail { seen.IsTail rest.now line.now }
     requires few { length line.now < 2 ^ 32 }
-    ensures said { (number : ℕ) → MatchResult result
-        (λ s. spec.sample_in number line.now ≡ Some (seen.row_at number line.now s))
-        (λ f. FaultIs f (spec.sample_in number line.now)) }
+    ensures said { (number : ℕ) (name : List ℕ) → let said = spec.differing_row number line.now name labels.now rest.now in MatchResult result
+        (λ s. said ≡ Some (seen.spanned_row number line.now name labels.now s)) (λ f. FaultIs f said) }
     ensures inside { IfOk result (λ s. seen.IsInside (length line.now) s) }
 {
-    let Some(name) = metric_in(line) else {
-        return Err(Fault::Faulty);
-    };
-    let Some(inside) = mark_in(b'{', name.rest) else {
-        return parts_of(line, name.bytes.len(), name.rest);
-    };
-    labels.clear();
-    let rest = match labels_in(alloc, inside, labels) {
-        Ok(rest) => rest,
-        Err(fault) => return Err(fault),
-    };
     let differ = names_differ(alloc, labels)?;
     if !differ {
         return Err(Fault::Faulty);
@@ -120,10 +113,64 @@ pub(crate) fn line_parts<'b>(
     parts_of(line, line.len() - rest.len(), rest)
 }
 
+/// Where the parts of a line stand that begins with braces and has its name in quotes. The room for labels is used again.
+#[inline(never)]
+fn braced_parts<'b>(
+    alloc: Global,
+    line: &'b [u8],
+    labels: &mut Vec<LentLabel<'b>>,
+) -> Result<LineSpan, Fault>
+    requires few { length line.now < 2 ^ 32 }
+    ensures said { (number : ℕ) → let said = spec.braced_row number line.now (braced_name line.now) in MatchResult result
+        (λ s. said ≡ Some (seen.spanned_row number line.now (seen.word_of (braced_name line.now)) (seen.braced_labels (braced_name line.now)) s))
+        (λ f. FaultIs f said) }
+    ensures inside { IfOk result (λ s. seen.IsInside (length line.now) s) }
+{
+    let rest = match braced_name(alloc, line) {
+        Ok((_, rest)) => rest,
+        Err(fault) => return Err(fault),
+    };
+    labels.clear();
+    match labels_after(alloc, rest, labels) {
+        Ok(rest) => labelled_parts(alloc, line, labels, rest),
+        Err(fault) => Err(fault),
+    }
+}
+
+/// Where the parts of a sample line stand. The room for labels is used again.
+pub(crate) fn line_parts<'b>(
+    alloc: Global,
+    form: Form,
+    line: &'b [u8],
+    labels: &mut Vec<LentLabel<'b>>,
+) -> Result<LineSpan, Fault>
+    requires bare { blank_len line.now ≡ 0 }
+    requires few { length line.now < 2 ^ 32 }
+    ensures said { (number : ℕ) → MatchResult result (λ s. spec.sample_in form number line.now ≡ Some (seen.row_at number line.now s))
+        (λ f. FaultIs f (spec.sample_in form number line.now)) }
+    ensures inside { IfOk result (λ s. seen.IsInside (length line.now) s) }
+{
+    let Some(name) = metric_in(line) else {
+        return match form {
+            Form::Plain => Err(Fault::Faulty),
+            Form::Quoted => braced_parts(alloc, line, labels),
+        };
+    };
+    let Some(inside) = mark_in(b'{', name.rest) else {
+        return parts_of(line, name.bytes.len(), name.rest);
+    };
+    labels.clear();
+    match labels_in(alloc, form, inside, labels) {
+        Ok(rest) => labelled_parts(alloc, line, labels, rest),
+        Err(fault) => Err(fault),
+    }
+}
+
 /// What a line says: where its parts stand behind its blanks, nothing where it is skipped, or that it is faulty. Beside it the place of its raw
 /// text among those met before, and one, or 0.
 fn read_parts<'b, T: RawTexts>(
     alloc: Global,
+    form: Form,
     number: u64,
     line: &'b [u8],
     like: &T,
@@ -131,8 +178,8 @@ fn read_parts<'b, T: RawTexts>(
     labels: &mut Vec<LentLabel<'b>>,
 ) -> Result<(Option<(usize, LineSpan)>, u32), BodyCause>
     requires { length line.now < 2 ^ 32 }
-    ensures said { MatchResult result (λ r. line_reading number line.now ≡ Ok (seen.span_row number line.now r.0))
-        (λ c. CauseIs c (line_reading number line.now)) }
+    ensures said { MatchResult result (λ r. line_reading form number line.now ≡ Ok (seen.span_row number line.now r.0))
+        (λ c. CauseIs c (line_reading form number line.now)) }
     ensures inside { IfOk result (λ r. IfSome r.0 (λ p. (p.0 ≤ length line.now) × seen.IsInside (length line.now - p.0) p.1)) }
     ensures like { IfOk result (λ r. IfSome r.0 (λ p. IsLike (T.texts like.now) r.1 (take p.1.raw_len (drop p.0 line.now)))) }
 {
@@ -142,7 +189,7 @@ fn read_parts<'b, T: RawTexts>(
     if line[start] == b'#' {
         return Ok((None, 0));
     }
-    match like_parts(alloc, behind(line, start), like, expected, labels) {
+    match like_parts(alloc, form, behind(line, start), like, expected, labels) {
         Ok((parts, place)) => Ok((Some((start, parts)), place)),
         Err(Fault::Faulty) => Err(BodyCause::Line(number)),
         Err(Fault::NoMemory) => Err(BodyCause::NoMemory),
@@ -208,14 +255,15 @@ impl Spans {
 /// that goes.
 pub(crate) fn spans_of<T: RawTexts>(
     alloc: Global,
+    form: Form,
     body: &[u8],
     like: &T,
 ) -> Result<Spans, BodyCause>
     requires { length body.now < 2 ^ 32 }
-    ensures read { IfOk result (λ s. reading body.now ≡ Ok (seen.rows_seen body.now s.rows.items)) }
+    ensures read { IfOk result (λ s. reading form body.now ≡ Ok (seen.rows_seen body.now s.rows.items)) }
     ensures within { IfOk result (λ s. All (seen.IsWithin (length body.now)) s.rows.items) }
     ensures like { IfOk result (λ s. AreLike (T.texts like.now) s.places.items (seen.rows_seen body.now s.rows.items)) }
-    ensures cause { IfErr result (λ c. CauseIs c (reading body.now)) }
+    ensures cause { IfErr result (λ c. CauseIs c (reading form body.now)) }
 {
     let mut spans = Spans::new(alloc, body.len())?;
     let mut labels = Vec::new(alloc);
@@ -227,6 +275,7 @@ pub(crate) fn spans_of<T: RawTexts>(
         let end = line_end(rest);
         match read_parts(
             alloc,
+            form,
             number,
             &rest[..end],
             like,

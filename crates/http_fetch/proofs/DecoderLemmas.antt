@@ -5,7 +5,7 @@ use Rattle.httparse.specs.Grammar.{ResponseHead, status_code, print_response, Ch
 use Rattle.http_fetch.specs.declared.fields.Framing.{Framing}
 use Rattle.http_fetch.specs.declared.fields.Framing.TheVariants as framings
 use Rattle.outside.specs.declared.replies.Reply.{Reply}
-use Rattle.outside.specs.declared.replies.Reply.TheVariants.{Body, Lost, Garbled, Unsent, Oversize}
+use Rattle.outside.specs.declared.replies.Reply.TheVariants.{Body, Quoted, Lost, Garbled, Unsent, Oversize}
 use Rattle.http_fetch.specs.declared.decoder.Decoder.{Decoder}
 use Rattle.http_fetch.specs.declared.stages.Stage.{Stage}
 use Rattle.http_fetch.specs.declared.stages.Stage.TheVariants.{Heads, Length, Line, Data, Trailer, Open, Whole, Over, Never}
@@ -23,6 +23,7 @@ use Rattle.http_fetch.proofs.PlaceLemmas.{same-refl, same-trans, done-same, Says
 came-same : (limit : ℕ) (b d : List ℕ) → Same limit (Heads 8) [] b (Heads 8) [] d → (r : Reply) → Came b limit r ↔ Came d limit r
 came-same limit b d x (Body s c) = (x.whole s c, x.whole_back s c)
 came-same limit b d x Oversize = (x.over, x.over_back)
+came-same limit b d x (Quoted s c) = (λ h. h, λ h. h)
 came-same limit b d x Lost = (λ h. h, λ h. h)
 came-same limit b d x Unsent = (λ h. h, λ h. h)
 came-same limit b d x Garbled = (λ h. (λ s c w. h.0 s c (x.whole_back s c w), λ w. h.1 (x.over_back w)), λ h. (λ s c w. h.0 s c (x.whole s c w), λ w. h.1 (x.over w)))

@@ -6,7 +6,7 @@ use Rattle.std.specs.Str.Parse.{digits_value, digits_value_after}
 use Rattle.std.proofs.lemmas.Bool.Decides.{nat_tests}
 use Rattle.http_fetch.specs.declared.fields.Framing.TheVariants.{Refused, Length, ToEnd}
 use Rattle.http_fetch.specs.declared.fields.Coding.TheVariants.{Absent, Chunked, Other}
-use Rattle.http_fetch.specs.Fields.{is_first_openmetrics, is_named, is_named_openmetrics, values, same_word, coding, coding_with, coding_after, number, is_numeral, is_same_number, agreed, by_length, length_after, first_length, number_with}
+use Rattle.http_fetch.specs.Fields.{is_named, kind_by, kind_first, values, same_word, coding, coding_with, coding_after, number, is_numeral, is_same_number, agreed, by_length, length_after, first_length, number_with}
 
 -- ---- codings
 
@@ -119,8 +119,8 @@ module _ {A : Type 0} (name : List ℕ) (f : A → List ℕ × List ℕ) (xs : L
   there : map f (drop i xs) ≡ f (get_or xs i d) ∷ map f (drop (i + 1) xs)
   there = rw (add-one, drop-cons xs i d) refl
 
-  pub named-here : is_named name (f (get_or xs i d)) ≡ true → is_first_openmetrics (values name (map f (drop i xs))) ≡ is_named_openmetrics (f (get_or xs i d)).1
-  named-here e = ap (λ fs. is_first_openmetrics (values name fs)) there ∙ rw e refl
+  pub named-here : is_named name (f (get_or xs i d)) ≡ true → kind_first (values name (map f (drop i xs))) ≡ kind_by (f (get_or xs i d)).1
+  named-here e = ap (λ fs. kind_first (values name fs)) there ∙ rw e refl
 
   pub named-other : is_named name (f (get_or xs i d)) ≡ false → values name (map f (drop i xs)) ≡ values name (map f (drop (i + 1) xs))
   named-other e = ap (values name) there ∙ rw e refl

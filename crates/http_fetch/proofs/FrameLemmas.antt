@@ -4,8 +4,9 @@ use Rattle.std.specs.List.{list_all, prefix_len}
 use Rattle.std.proofs.lemmas.Bool.Decides.{nat_tests}
 use Rattle.httparse.specs.Grammar.{ResponseHead, ChunkLine, status_code, print_response, print_chunk_line, ReadsResponse, HasNoResponse, HasNoChunkLine}
 use Rattle.httparse.specs.Spans.{IsChunkLineAt, ResponseOverflows}
+use Rattle.http_fetch.specs.declared.fields.Kind.{Kind}
 use Rattle.http_fetch.specs.declared.fields.Framing.{Framing}
-use Rattle.http_fetch.specs.Replies.{framing_of, om_of}
+use Rattle.http_fetch.specs.Replies.{framing_of, kind_of}
 use Rattle.http_fetch.specs.Chunks.{is_text, is_blank, HasTrailers}
 use Rattle.http_fetch.specs.Reading.{HasHead, NoHead, HasLine, NoLine}
 use Rattle.http_fetch.proofs.FrontLemmas.{fronts}
@@ -52,16 +53,16 @@ line-full text none full more k rest y =
 
 -- ---- heads
 
-pub head-found : (text : List ℕ) (len code : ℕ) (f : Framing) (om : Bool) (h : ResponseHead) → ReadsResponse text h (drop len text) → len ≡ length (print_response h) → code ≡ status_code h → f ≡ framing_of h → om ≡ om_of h →
-    length h.fields ≤ 64 → len ≤ 65536 → HasHead text code len f om
-head-found text len code f om h reads is status framing kind few small =
+pub head-found : (text : List ℕ) (len code : ℕ) (f : Framing) (kind : Kind) (h : ResponseHead) → ReadsResponse text h (drop len text) → len ≡ length (print_response h) → code ≡ status_code h → f ≡ framing_of h → kind ≡ kind_of h →
+    length h.fields ≤ 64 → len ≤ 65536 → HasHead text code len f kind
+head-found text len code f kind h reads is status framing says few small =
     let all : length text ≡ length (print_response h) + length (drop len text) = ap length reads.1 ∙ length-append (print_response h) (drop len text) in
     record {
       head = h;
       reads = record { reads = reads; few = few; short = omega (arith, is, small) };
       status_is = status;
       framing_is = framing;
-      om_is = kind;
+      kind_is = says;
       some = pos_of-some (print_response h) len is (λ e. print-some h [] (ap (λ (t : List ℕ). t ++ []) e));
       within = omega (arith, all, is);
     }

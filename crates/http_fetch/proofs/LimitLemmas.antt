@@ -5,7 +5,7 @@ use Rattle.std.proofs.lemmas.Str.Parse.{IsDigitsTest, numerals_by_value, digits_
 use Rattle.std.specs.Char.{is_ascii_digit}
 use Rattle.httparse.specs.Grammar.{ResponseHead, status_code, AllPass}
 use Rattle.outside.specs.declared.replies.Reply.{Reply}
-use Rattle.outside.specs.declared.replies.Reply.TheVariants.{Body, Lost, Garbled, Unsent, Oversize}
+use Rattle.outside.specs.declared.replies.Reply.TheVariants.{Body, Quoted, Lost, Garbled, Unsent, Oversize}
 use Rattle.outside.specs.Fetches.{IsReplyInLimits}
 use Rattle.outside.specs.Sizes.{most_body_bytes}
 use Rattle.http_fetch.specs.Replies.{HeadAt, IsWhole, Came}
@@ -34,6 +34,7 @@ body-limits b limit s c small w =
 -- what is said of the bytes of a link keeps its limits
 pub came-limits : (b : List ℕ) (limit : ℕ) (r : Reply) → limit ≤ most_body_bytes → Came b limit r → IsReplyInLimits r
 came-limits b limit (Body s c) small h = body-limits b limit s c small h
+came-limits b limit (Quoted s c) small h = absurd h
 came-limits b limit Lost small h = tt
 came-limits b limit Garbled small h = tt
 came-limits b limit Unsent small h = tt

@@ -1,7 +1,7 @@
 -- Places of a decoder: one after another, what waits at one, and the reply that it gives.
 use Rattle.std.proofs.Common.{◌≡◌, ℕ, ◌+◌, ◌-◌, ◌<◌, true, List, [], ◌++◌, length, refl, sym, ap, ◌∙◌, subst, arith, ⊎_elim, length-append, append-nil}
 use Rattle.outside.specs.declared.replies.Reply.{Reply}
-use Rattle.outside.specs.declared.replies.Reply.TheVariants.{Body, Lost, Garbled, Unsent, Oversize}
+use Rattle.outside.specs.declared.replies.Reply.TheVariants.{Body, Quoted, Lost, Garbled, Unsent, Oversize}
 use Rattle.http_fetch.specs.declared.stages.Stage.{Stage}
 use Rattle.http_fetch.specs.declared.stages.Stage.TheVariants.{Heads, Length, Line, Data, Trailer, Open, Whole, Over, Never}
 use Rattle.http_fetch.specs.Replies.{Came, IsWhole, IsOver, HasFront}
@@ -174,5 +174,6 @@ pub only-answer : (limit : ℕ) (stage : Stage) (got pending b : List ℕ) → S
 only-answer limit stage got pending b st (Body s c) h = (let w = whole-said limit stage got pending b st s c h in body-said stage got s c w.0 w.1)
 only-answer limit stage got pending b st Garbled h = none-said limit b stage got (http-answer limit stage got pending b st) h
 only-answer limit stage got pending b st Oversize h = long-said stage got (over-said limit stage got pending b st h)
+only-answer limit stage got pending b st (Quoted s c) h = absurd h
 only-answer limit stage got pending b st Lost h = absurd h
 only-answer limit stage got pending b st Unsent h = absurd h

@@ -2,7 +2,7 @@
 use Rattle.std.proofs.Common.{◌≡◌, ℕ, ◌+◌, ◌<◌, ◌≤◌, List, [], ◌++◌, length, take, Option, Some, None, IfSome, refl, sym, ap, ◌∙◌, subst, arith, append_assoc, append-nil, length-append}
 use Rattle.std.proofs.lemmas.List.{length-take-le}
 use Rattle.outside.specs.declared.replies.Reply.{Reply}
-use Rattle.outside.specs.declared.replies.Reply.TheVariants.{Body, Lost, Garbled, Unsent, Oversize}
+use Rattle.outside.specs.declared.replies.Reply.TheVariants.{Body, Quoted, Lost, Garbled, Unsent, Oversize}
 use Rattle.outside.specs.Objects.{used, Rose}
 use Rattle.outside.specs.Sizes.{most_body_bytes}
 use Rattle.outside.specs.Sources.{Gives, IsAtEnd}
@@ -74,6 +74,7 @@ gave-faults m e bytes gave = ap (λ (t : LinkSeen). t.faults) gave.rest
 -- a reply that the bytes have is no other than theirs
 of-bytes : (limit : ℕ) (b : List ℕ) (r : Reply) (a e : LinkSeen) → Http b limit r → RepliesTo limit r (used a e) → IsReplyOf limit r (used a e)
 of-bytes limit b (Body s c) a e h x = x
+of-bytes limit b (Quoted s c) a e h x = x
 of-bytes limit b Lost a e h x = absurd (no-lost limit b h)
 of-bytes limit b Garbled a e h x = x
 of-bytes limit b Unsent a e h x = absurd (no-unsent limit b h)

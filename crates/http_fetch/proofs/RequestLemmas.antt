@@ -8,7 +8,7 @@ ends = 13 ∷ 10 ∷ []
 
 -- the lines that each request has, and those that end it
 abbrev pub same_lines : List ℕ
-same_lines = ended_line (codes "Accept: application/openmetrics-text;version=1.0.0;q=1,text/plain;version=0.0.4;q=0.8,*/*;q=0.1") ++ ended_line (codes "Accept-Encoding: identity") ++ ended_line (codes "User-Agent: scrape/1")
+same_lines = ended_line (codes "Accept: application/openmetrics-text;version=1.0.0;q=1,text/plain;version=1.0.0;escaping=allow-utf-8;q=0.9,text/plain;version=0.0.4;q=0.8,*/*;q=0.1") ++ ended_line (codes "Accept-Encoding: identity") ++ ended_line (codes "User-Agent: scrape/1")
 
 abbrev pub last_lines : List ℕ
 last_lines = ended_line (codes "Connection: close") ++ ended_line []
@@ -20,7 +20,7 @@ abbrev pub lines : List ℕ → List ℕ → List ℕ → List (List ℕ)
 lines target authority seconds =
     (codes "GET " ++ target ++ codes " HTTP/1.1")
     ∷ (codes "Host: " ++ authority)
-    ∷ codes "Accept: application/openmetrics-text;version=1.0.0;q=1,text/plain;version=0.0.4;q=0.8,*/*;q=0.1"
+    ∷ codes "Accept: application/openmetrics-text;version=1.0.0;q=1,text/plain;version=1.0.0;escaping=allow-utf-8;q=0.9,text/plain;version=0.0.4;q=0.8,*/*;q=0.1"
     ∷ codes "Accept-Encoding: identity"
     ∷ codes "User-Agent: scrape/1"
     ∷ (timeout_name ++ seconds)

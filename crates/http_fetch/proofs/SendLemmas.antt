@@ -6,7 +6,7 @@ use Rattle.outside.specs.Links.{LinkSeen, WasDialled, TookToSend, Broke}
 use Rattle.std.specs.Result.{OnOk, is_err}
 use Rattle.outside.specs.declared.requests.Request.{Request}
 use Rattle.outside.specs.declared.replies.Reply.{Reply}
-use Rattle.outside.specs.declared.replies.Reply.TheVariants.{Body, Lost, Garbled, Unsent, Oversize}
+use Rattle.outside.specs.declared.replies.Reply.TheVariants.{Body, Quoted, Lost, Garbled, Unsent, Oversize}
 use Rattle.http_fetch.specs.Requests.{request_text}
 use Rattle.http_fetch.specs.Links.{HasSent, SentFront, Adds, SendsRequest, SendsNothing}
 
@@ -57,6 +57,7 @@ adds-text text a d s e dialled took same =
 
 sends-all : (request : Request) (r : Reply) (a e : LinkSeen) → Adds (request_text request) (used a e) → SendsRequest request r (used a e)
 sends-all request (Body s c) a e adds = adds
+sends-all request (Quoted s c) a e adds = adds
 sends-all request Lost a e adds = (request_text request, [], sym (append-nil (request_text request)), adds)
 sends-all request Garbled a e adds = adds
 sends-all request Unsent a e adds = adds

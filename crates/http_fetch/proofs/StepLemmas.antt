@@ -1,8 +1,9 @@
 -- The steps that the functions answer.
-use Rattle.std.proofs.Common.{◌≡◌, ℕ, ◌+◌, ◌-◌, ◌<◌, ◌≤◌, Bool, true, false, nat_lt, ◌==◌, List, [], ◌∷◌, ◌++◌, length, take, drop, refl, sym, ap, subst, arith, map}
+use Rattle.std.proofs.Common.{◌≡◌, ℕ, ◌+◌, ◌-◌, ◌<◌, ◌≤◌, true, false, nat_lt, ◌==◌, List, [], ◌∷◌, ◌++◌, length, take, drop, refl, sym, ap, subst, arith, map}
 use Rattle.std.proofs.lemmas.List.{length-take-le, length-map}
 use Rattle.httparse.specs.Grammar.{Field, status_code, chunk_size}
 use Rattle.httparse.specs.Spans.{name_and_value}
+use Rattle.http_fetch.specs.declared.fields.Kind.{Kind}
 use Rattle.http_fetch.specs.declared.fields.Framing.{Framing}
 use Rattle.http_fetch.specs.declared.stages.Stage.{Stage}
 use Rattle.http_fetch.specs.declared.stages.Stage.TheVariants.{Heads, Line, Data, Trailer, Whole, Never}
@@ -41,8 +42,8 @@ never-step stage limit count text some whole over = record {
   };
 }
 
-head-lead : (text : List ℕ) (status len : ℕ) (f : Framing) (om : Bool) (limit left : ℕ) (got : List ℕ) → HasHead text status len f om → got ≡ [] → Leads limit (Heads left) got text (after_head status f left limit) got (drop len text)
-head-lead text status len f om limit left got w none =
+head-lead : (text : List ℕ) (status len : ℕ) (f : Framing) (kind : Kind) (limit left : ℕ) (got : List ℕ) → HasHead text status len f kind → got ≡ [] → Leads limit (Heads left) got text (after_head status f left limit) got (drop len text)
+head-lead text status len f kind limit left got w none =
     let l : Leads limit (Heads left) [] text (after_head (status_code w.head) (framing_of w.head) left limit) [] (drop len text) =
     head-next text w.head (drop len text) w.reads left limit (nat_lt (status_code w.head) 100) (nat_lt (status_code w.head) 200) (left == 0) (status_code w.head == 200) refl refl refl refl in
     let a : Leads limit (Heads left) [] text (after_head status (framing_of w.head) left limit) [] (drop len text) =
@@ -51,8 +52,8 @@ head-lead text status len f om limit left got w none =
     subst (λ (g : Framing). Leads limit (Heads left) [] text (after_head status g left limit) [] (drop len text)) (sym w.framing_is) a in
     subst (λ (g : List ℕ). Leads limit (Heads left) g text (after_head status f left limit) g (drop len text)) (sym none) b
 
-pub head-step : (text : List ℕ) (status len : ℕ) (f : Framing) (om : Bool) (limit left count : ℕ) → HasHead text status len f om → Steps (Heads left) limit count text (after_head status f left limit) len
-head-step text status len f om limit left count w = record { some = w.some; within = w.within; leads = λ got e none. head-lead text status len f om limit left got w none }
+pub head-step : (text : List ℕ) (status len : ℕ) (f : Framing) (kind : Kind) (limit left count : ℕ) → HasHead text status len f kind → Steps (Heads left) limit count text (after_head status f left limit) len
+head-step text status len f kind limit left count w = record { some = w.some; within = w.within; leads = λ got e none. head-lead text status len f kind limit left got w none }
 
 pub head-never : (text : List ℕ) (limit left count : ℕ) → 0 < length text → ((more : List ℕ) → NoHead (text ++ more)) → Steps (Heads left) limit count text Never (length text)
 head-never text limit left count some none = never-step (Heads left) limit count text some (λ got more s c w. no-whole (none more) w) (λ got more w. no-over (none more) w)

@@ -5,7 +5,7 @@ use Rattle.httparse.specs.Grammar.{ResponseHead, status_code, ChunkLine, chunk_s
 use Rattle.http_fetch.specs.declared.fields.Framing.{Framing}
 use Rattle.http_fetch.specs.declared.fields.Framing.TheVariants as framings
 use Rattle.outside.specs.declared.replies.Reply.{Reply}
-use Rattle.outside.specs.declared.replies.Reply.TheVariants.{Body, Lost, Garbled, Unsent, Oversize}
+use Rattle.outside.specs.declared.replies.Reply.TheVariants.{Body, Quoted, Lost, Garbled, Unsent, Oversize}
 use Rattle.http_fetch.specs.Replies.{HeadAt, Interims, Reaches, IsBody, Exceeds, framing_of, WholeAfter, OverAfter, IsWhole, IsOver, Came}
 use Rattle.http_fetch.specs.Chunks.{LineAt, ChunkAt, Parts, joined}
 use Rattle.http_fetch.proofs.FrontLemmas.{fronts, head-unique, line-unique}
@@ -142,11 +142,15 @@ came-one limit b Garbled Oversize x y = absurd (x.1 y)
 came-one limit b Oversize (Body t d) x y = absurd (whole-within y x)
 came-one limit b Oversize Garbled x y = absurd (y.1 x)
 came-one limit b Oversize Oversize x y = refl
+came-one limit b (Body s c) (Quoted t d) x y = absurd y
 came-one limit b (Body s c) Lost x y = absurd y
 came-one limit b (Body s c) Unsent x y = absurd y
+came-one limit b Garbled (Quoted t d) x y = absurd y
 came-one limit b Garbled Lost x y = absurd y
 came-one limit b Garbled Unsent x y = absurd y
+came-one limit b Oversize (Quoted t d) x y = absurd y
 came-one limit b Oversize Lost x y = absurd y
 came-one limit b Oversize Unsent x y = absurd y
+came-one limit b (Quoted t c) s x y = absurd x
 came-one limit b Lost s x y = absurd x
 came-one limit b Unsent s x y = absurd x

@@ -15,7 +15,7 @@ pub record StandsFor (d : Decoder) (limit : ℕ) (b : List ℕ) : Type 0 where
   pub limit_is : d.limit ≡ limit
   pub stands : Stands limit d.stage d.body.items d.pending.items b
   pub short : is_done d.stage ≡ false → IsShort d.pending.items
-  pub kind : Tells d.stage d.om 8 b d.pending.items
+  pub kind : Tells d.stage d.kind 8 b d.pending.items
 
 -- of all that it took the decoder holds a body within the limit, and a text that waits for its end and is short
 abbrev pub HoldsLittle : Decoder → ℕ → Type 0
@@ -25,7 +25,7 @@ HoldsLittle d limit = (length d.body.items ≤ limit) × IsShort d.pending.items
 pub record SameParts (old new : Decoder) : Type 0 where
   pub limit : new.limit ≡ old.limit
   pub stage : new.stage ≡ old.stage
-  pub om : new.om ≡ old.om
+  pub kind : new.kind ≡ old.kind
   pub body : new.body.items ≡ old.body.items
   pub pending : new.pending.items ≡ old.pending.items
 

@@ -1,9 +1,11 @@
 -- What the fields of a head say of the body that follows it. A field is its name and its value.
 use Rattle.std.specs.Prelude.{ℕ, ◌+◌, ◌-◌, ◌*◌, ◌^◌, Bool, false, ◌&&◌, ◌||◌, not, ◌==◌, nat_lt, if◌then◌else◌, List, [], ◌∷◌, length, take, drop, Option, Some, None, codes}
-use Rattle.std.specs.List.{list_all, list_any, prefix_len}
+use Rattle.std.specs.List.{list_all, list_any, prefix_len, slice_split}
 use Rattle.std.specs.Char.{is_ascii_digit}
 use Rattle.std.specs.Str.{str_eq_ignore_ascii_case}
 use Rattle.std.specs.Str.Parse.{digits_value}
+use Rattle.http_fetch.specs.declared.fields.Kind.{Kind}
+use Rattle.http_fetch.specs.declared.fields.Kind.TheVariants.{OpenMetrics, Plain, Quoted}
 use Rattle.http_fetch.specs.declared.fields.Framing.{Framing}
 use Rattle.http_fetch.specs.declared.fields.Framing.TheVariants.{Refused, Length, Chunks, ToEnd}
 use Rattle.http_fetch.specs.declared.fields.Coding.{Coding}
@@ -82,14 +84,27 @@ media v = drop (prefix_len is_space (media_front v)) (media_front v)
 unfoldable pub is_named_openmetrics : List ℕ → Bool
 is_named_openmetrics v = same_word (take 28 (media v)) (codes "application/openmetrics-text") && list_all is_space (drop 28 (media v))
 
--- the first of these values is it
-abbrev pub is_first_openmetrics : List (List ℕ) → Bool
-is_first_openmetrics [] = false
-is_first_openmetrics (v ∷ vs) = is_named_openmetrics v
+-- the part says, in any case of letters and with blanks at its ends, that names stand in quotes ("UTF-8 in Prometheus", content negotiation)
+unfoldable pub is_escaping : List ℕ → Bool
+is_escaping p =
+    let word = drop (prefix_len is_space p) p in
+    same_word (take 20 word) (codes "escaping=allow-utf-8") && list_all is_space (drop 20 word)
 
--- the body is of OpenMetrics, by the first Content-Type (OpenMetrics 1.0, "Protocol Negotiation")
-unfoldable pub is_openmetrics : List (List ℕ × List ℕ) → Bool
-is_openmetrics fields = is_first_openmetrics (values content_type fields)
+-- a part of the value that is cut at each `;` does
+unfoldable pub says_quoted : List ℕ → Bool
+says_quoted v = list_any is_escaping (slice_split (λ b. b == 59) v)
+
+-- what the body is of, by a value
+unfoldable pub kind_by : List ℕ → Kind
+kind_by v = if is_named_openmetrics v then OpenMetrics else if says_quoted v then Quoted else Plain
+
+abbrev pub kind_first : List (List ℕ) → Kind
+kind_first [] = Plain
+kind_first (v ∷ vs) = kind_by v
+
+-- what the body is of, by the first Content-Type (OpenMetrics 1.0, "Protocol Negotiation"; "UTF-8 in Prometheus")
+unfoldable pub kind : List (List ℕ × List ℕ) → Kind
+kind fields = kind_first (values content_type fields)
 
 -- a coding goes before a length
 abbrev pub by_coding : Coding → List (List ℕ) → Framing

@@ -1,10 +1,11 @@
--- Whether a body is of OpenMetrics, as the decoder knows it from its head on (RFC 9110, section 8.3, "Content-Type").
+-- What a body is of, as the decoder knows it from its head on (RFC 9110, section 8.3, "Content-Type").
 use Rattle.std.specs.Prelude.{◌≡◌, ℕ, Bool, true, false, List, ◌++◌, drop, Option, Some, None}
 use Rattle.httparse.specs.Grammar.{ResponseHead}
+use Rattle.http_fetch.specs.declared.fields.Kind.{Kind}
 use Rattle.http_fetch.specs.declared.stages.Stage.{Stage}
 use Rattle.http_fetch.specs.declared.stages.Stage.TheVariants.{Heads, Length, Line, Data, Trailer, Open, Whole, Over, Never}
 use Rattle.http_fetch.specs.declared.stages.Step.{Step}
-use Rattle.http_fetch.specs.Replies.{Reaches, om_of}
+use Rattle.http_fetch.specs.Replies.{Reaches, kind_of}
 
 -- the place is before a head
 abbrev pub is_heads : Stage → Bool
@@ -19,28 +20,28 @@ is_heads Over = false
 is_heads Never = false
 
 -- the last head of b says this of the body
-abbrev pub HasKind : ℕ → List ℕ → Bool → Type 0
-HasKind n b om = (h : ResponseHead) × (rest : List ℕ) × Reaches n b h rest × (om ≡ om_of h)
+abbrev pub HasKind : ℕ → List ℕ → Kind → Type 0
+HasKind n b kind = (h : ResponseHead) × (rest : List ℕ) × Reaches n b h rest × (kind ≡ kind_of h)
 
 -- a head that is found behind the pending text is the last one of b, whatever follows
 abbrev pub GoesOn : ℕ → List ℕ → ℕ → List ℕ → Type 0
 GoesOn n b left pending = (more : List ℕ) (h : ResponseHead) (rest : List ℕ) → Reaches left (pending ++ more) h rest → Reaches n (b ++ more) h rest
 
 -- at a place where b has been taken but for the pending text: what is known of its kind
-abbrev pub Tells : Stage → Bool → ℕ → List ℕ → List ℕ → Type 0
-Tells (Heads left) om n b pending = GoesOn n b left pending
-Tells (Length left) om n b pending = HasKind n b om
-Tells Line om n b pending = HasKind n b om
-Tells (Data left) om n b pending = HasKind n b om
-Tells (Trailer room) om n b pending = HasKind n b om
-Tells Open om n b pending = HasKind n b om
-Tells (Whole code) om n b pending = HasKind n b om
-Tells Over om n b pending = HasKind n b om
-Tells Never om n b pending = Unit {0}
+abbrev pub Tells : Stage → Kind → ℕ → List ℕ → List ℕ → Type 0
+Tells (Heads left) kind n b pending = GoesOn n b left pending
+Tells (Length left) kind n b pending = HasKind n b kind
+Tells Line kind n b pending = HasKind n b kind
+Tells (Data left) kind n b pending = HasKind n b kind
+Tells (Trailer room) kind n b pending = HasKind n b kind
+Tells Open kind n b pending = HasKind n b kind
+Tells (Whole code) kind n b pending = HasKind n b kind
+Tells Over kind n b pending = HasKind n b kind
+Tells Never kind n b pending = Unit {0}
 
 -- a step keeps that: one over a head tells of the text in front of it, and any other doesn't lead back to one
 abbrev pub KeepsKind : Stage → List ℕ → Option Step → Type 0
 KeepsKind (Heads left) text None = Unit {0}
-KeepsKind (Heads left) text (Some s) = Tells s.next s.om left text (drop s.used text)
+KeepsKind (Heads left) text (Some s) = Tells s.next s.kind left text (drop s.used text)
 KeepsKind _ text None = Unit {0}
 KeepsKind _ text (Some s) = is_heads s.next ≡ false

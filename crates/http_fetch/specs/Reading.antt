@@ -1,7 +1,8 @@
 -- What the functions that look at the front of some bytes say of them.
-use Rattle.std.specs.Prelude.{◌≡◌, ◌≢◌, ℕ, ◌+◌, ◌<◌, ◌≤◌, max, Bool, true, false, List, ◌∷◌, ◌++◌, length, drop, take}
+use Rattle.std.specs.Prelude.{◌≡◌, ◌≢◌, ℕ, ◌+◌, ◌<◌, ◌≤◌, max, true, false, List, ◌∷◌, ◌++◌, length, drop, take}
 use Rattle.std.specs.List.{list_all}
 use Rattle.httparse.specs.Grammar.{ResponseHead, status_code, ChunkLine, chunk_size}
+use Rattle.http_fetch.specs.declared.fields.Kind.{Kind}
 use Rattle.http_fetch.specs.declared.heads.Head.{Head}
 use Rattle.http_fetch.specs.declared.heads.Head.TheVariants as heads
 use Rattle.http_fetch.specs.declared.frames.Line.{Line}
@@ -11,7 +12,7 @@ use Rattle.http_fetch.specs.declared.frames.End.TheVariants as ends
 use Rattle.http_fetch.specs.declared.frames.Trailer.{Trailer}
 use Rattle.http_fetch.specs.declared.frames.Trailer.TheVariants as trailers
 use Rattle.http_fetch.specs.declared.fields.Framing.{Framing}
-use Rattle.http_fetch.specs.Replies.{HeadAt, framing_of, om_of}
+use Rattle.http_fetch.specs.Replies.{HeadAt, framing_of, kind_of}
 use Rattle.http_fetch.specs.Chunks.{LineAt, HasTrailers, is_text, is_blank}
 
 -- what waits for its end has no more bytes than a head may have
@@ -22,18 +23,18 @@ IsShort text = length text ≤ 65536
 abbrev pub NoHead : List ℕ → Type 0
 NoHead text = (h : ResponseHead) (rest : List ℕ) → ¬ (HeadAt text h rest)
 
--- a head of this status and length is at the front, and says whether the body is of OpenMetrics
-pub record HasHead (text : List ℕ) (status len : ℕ) (f : Framing) (om : Bool) : Type 0 where
+-- a head of this status and length is at the front, and says what the body is of
+pub record HasHead (text : List ℕ) (status len : ℕ) (f : Framing) (kind : Kind) : Type 0 where
   pub head : ResponseHead
   pub reads : HeadAt text head (drop len text)
   pub status_is : status ≡ status_code head
   pub framing_is : f ≡ framing_of head
-  pub om_is : om ≡ om_of head
+  pub kind_is : kind ≡ kind_of head
   pub some : 0 < len
   pub within : len ≤ length text
 
 abbrev pub IsHead : List ℕ → Head → Type 0
-IsHead text (heads.Found status len f om) = HasHead text status len f om
+IsHead text (heads.Found status len f kind) = HasHead text status len f kind
 IsHead text heads.Waiting = NoHead text × IsShort text
 IsHead text heads.Never = (more : List ℕ) → NoHead (text ++ more)
 

@@ -1,12 +1,14 @@
 -- The reply that the bytes of a link give, which ends after them.
-use Rattle.std.specs.Prelude.{◌≡◌, ◌≢◌, ℕ, ◌<◌, ◌≤◌, ◌⊎◌, Bool, ◌&&◌, ◌==◌, nat_le, if◌then◌else◌, List, [], ◌∷◌, ◌++◌, length, map, Result, Ok, Err}
+use Rattle.std.specs.Prelude.{◌≡◌, ◌≢◌, ℕ, ◌<◌, ◌≤◌, ◌⊎◌, ◌==◌, nat_le, if◌then◌else◌, List, [], ◌∷◌, ◌++◌, length, map, Result, Ok, Err}
 use Rattle.httparse.specs.Grammar.{ResponseHead, print_response, ReadsResponse, status_code}
 use Rattle.httparse.specs.Spans.{name_and_value}
 use Rattle.http_fetch.specs.declared.fields.Framing.{Framing}
 use Rattle.http_fetch.specs.declared.fields.Framing.TheVariants.{Refused, Length, Chunks, ToEnd}
 use Rattle.outside.specs.declared.replies.Reply.{Reply}
-use Rattle.outside.specs.declared.replies.Reply.TheVariants.{Body, Lost, Garbled, Unsent, Oversize}
-use Rattle.http_fetch.specs.Fields.{framing, is_openmetrics}
+use Rattle.outside.specs.declared.replies.Reply.TheVariants.{Body, Quoted, Lost, Garbled, Unsent, Oversize}
+use Rattle.http_fetch.specs.declared.fields.Kind.{Kind}
+use Rattle.http_fetch.specs.declared.fields.Kind.TheVariants as kinds
+use Rattle.http_fetch.specs.Fields.{framing, kind}
 use Rattle.om_reader.specs.Bodies.{converted}
 use Rattle.http_fetch.specs.Chunks.{IsChunked, ExceedsInChunks}
 
@@ -84,6 +86,7 @@ abbrev pub Came : List ℕ → ℕ → Reply → Type 0
 Came b limit (Body status bytes) = IsWhole 8 b limit status bytes
 Came b limit Oversize = IsOver 8 b limit
 Came b limit Garbled = ((status : ℕ) (bytes : List ℕ) → ¬ (IsWhole 8 b limit status bytes)) × ¬ (IsOver 8 b limit)
+Came b limit (Quoted status bytes) = ⊥
 Came b limit Lost = ⊥
 Came b limit Unsent = ⊥
 
@@ -92,19 +95,26 @@ abbrev pub converted_reply : ℕ → Result (List ℕ) ℕ → Reply
 converted_reply limit (Ok text) = if nat_le (length text) limit then Body 200 text else Oversize
 converted_reply limit (Err line) = Garbled
 
--- the reply of a whole reply, whose head says whether it is of OpenMetrics: a body of status 200 is converted then, and any other stays
-abbrev pub rendered : Bool → ℕ → ℕ → List ℕ → Reply
-rendered om limit status bytes = if om && (status == 200) then converted_reply limit (converted bytes) else Body status bytes
+-- the reply of a body of status 200, by what its head says that it is of: one of OpenMetrics is converted
+abbrev pub page_of : Kind → ℕ → List ℕ → Reply
+page_of kinds.OpenMetrics limit bytes = converted_reply limit (converted bytes)
+page_of kinds.Quoted limit bytes = Quoted 200 bytes
+page_of kinds.Plain limit bytes = Body 200 bytes
 
--- whether a head says so
-abbrev pub om_of : ResponseHead → Bool
-om_of h = is_openmetrics (map name_and_value h.fields)
+-- the reply of a whole reply; a body of another status stays
+abbrev pub rendered : Kind → ℕ → ℕ → List ℕ → Reply
+rendered kind limit status bytes = if status == 200 then page_of kind limit bytes else Body status bytes
+
+-- what a head says that the body is of
+abbrev pub kind_of : ResponseHead → Kind
+kind_of h = kind (map name_and_value h.fields)
 
 -- what the reply that came becomes
 abbrev pub Becomes : List ℕ → ℕ → Reply → Reply → Type 0
-Becomes b limit (Body status bytes) r = (h : ResponseHead) × (rest : List ℕ) × Reaches 8 b h rest × (r ≡ rendered (om_of h) limit status bytes)
+Becomes b limit (Body status bytes) r = (h : ResponseHead) × (rest : List ℕ) × Reaches 8 b h rest × (r ≡ rendered (kind_of h) limit status bytes)
 Becomes b limit Oversize r = r ≡ Oversize
 Becomes b limit Garbled r = r ≡ Garbled
+Becomes b limit (Quoted status bytes) r = ⊥
 Becomes b limit Lost r = ⊥
 Becomes b limit Unsent r = ⊥
 

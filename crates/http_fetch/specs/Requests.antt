@@ -13,7 +13,7 @@ abbrev pub request_lines : Request → List (List ℕ)
 request_lines r =
     (codes "GET " ++ r.target ++ codes " HTTP/1.1")
     ∷ (codes "Host: " ++ r.authority)
-    ∷ codes "Accept: application/openmetrics-text;version=1.0.0;q=1,text/plain;version=0.0.4;q=0.8,*/*;q=0.1"
+    ∷ codes "Accept: application/openmetrics-text;version=1.0.0;q=1,text/plain;version=1.0.0;escaping=allow-utf-8;q=0.9,text/plain;version=0.0.4;q=0.8,*/*;q=0.1"
     ∷ codes "Accept-Encoding: identity"
     ∷ codes "User-Agent: scrape/1"
     ∷ (codes "X-Prometheus-Scrape-Timeout-Seconds: " ++ seconds3 (number r.timeout))

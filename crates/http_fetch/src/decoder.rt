@@ -10,6 +10,7 @@ ghost use Rattle.http_fetch.specs.Steps.{is_done};
 ghost use Rattle.http_fetch.specs.Reading.{IsShort};
 ghost use Rattle.http_fetch.specs.Decoders.{StandsFor, HoldsLittle, SameParts, IsSettled, MustEnd, LeavesOff};
 
+use crate::fields::Kind;
 use crate::pieces::{behind, front};
 use crate::stages::{Stage, Step, body_step, frame_step, is_body, is_done, is_heads};
 use label_set::{Blob, NoMemory};
@@ -31,7 +32,7 @@ pub enum Fed {
 pub struct Decoder {
     limit: u64,
     stage: Stage,
-    om: bool,
+    kind: Kind,
     body: Vec<u8>,
     pending: Vec<u8>,
 }
@@ -40,22 +41,22 @@ pub struct Decoder {
 #[derive(Clone, Copy)]
 struct Place {
     stage: Stage,
-    om: bool,
+    kind: Kind,
 }
 
 /// Where a run over some bytes ends, and what it leaves of them.
 #[derive(Clone, Copy)]
 struct Left<'a> {
     stage: Stage,
-    om: bool,
+    kind: Kind,
     rest: &'a [u8],
 }
 
 /// What is known of the body behind a step.
-fn om_behind(stage: Stage, om: bool, step: Step) -> bool
-    ensures { result ≡ (if kinds.is_heads stage then step.om else om) }
+fn kind_behind(stage: Stage, kind: Kind, step: Step) -> Kind
+    ensures { result ≡ (if kinds.is_heads stage then step.kind else kind) }
 {
-    if is_heads(stage) { step.om } else { om }
+    if is_heads(stage) { step.kind } else { kind }
 }
 
 /// Adds bytes that there is room for.
@@ -82,14 +83,14 @@ fn run<'a>(place: Place, limit: u64, body: &mut Vec<u8>, text: &'a [u8]) -> Left
     ensures waits { Fits place.stage limit body.old.items → Waits result.stage result.rest.now }
     ensures short { Fits place.stage limit body.old.items → is_done result.stage ≡ false → IsShort result.rest.now }
     ensures rest { LeavesOff text.now result.rest.now }
-    ensures kind { (b : List ℕ) → Tells place.stage place.om 8 b text.now → Tells result.stage result.om 8 b result.rest.now }
+    ensures kind { (b : List ℕ) → Tells place.stage place.kind 8 b text.now → Tells result.stage result.kind 8 b result.rest.now }
 {
     let mut stage = place.stage;
-    let mut om = place.om;
+    let mut kind = place.kind;
     let mut rest = text;
     while !rest.is_empty() {
         if is_done(stage) {
-            return Left { stage, om, rest };
+            return Left { stage, kind, rest };
         }
         let got = count_of(body);
         if is_body(stage) {
@@ -99,14 +100,14 @@ fn run<'a>(place: Place, limit: u64, body: &mut Vec<u8>, text: &'a [u8]) -> Left
             rest = behind(rest, step.used);
         } else {
             let Some(step) = frame_step(stage, limit, got, rest) else {
-                return Left { stage, om, rest };
+                return Left { stage, kind, rest };
             };
-            om = om_behind(stage, om, step);
+            kind = kind_behind(stage, kind, step);
             stage = step.next;
             rest = behind(rest, step.used);
         }
     }
-    Left { stage, om, rest }
+    Left { stage, kind, rest }
 }
 
 /// Keeps so many bytes at the end.
@@ -143,13 +144,11 @@ fn advance(
     piece: &[u8],
 ) -> Result<Place, NoMemory>
     ensures leads { IfOk result (λ next. Fits place.stage limit body.old.items →
-        Leads limit place.stage body.old.items
-        (pending.old.items ++ piece.now) next.stage body.new.items pending.new.items) }
+        Leads limit place.stage body.old.items (pending.old.items ++ piece.now) next.stage body.new.items pending.new.items) }
     ensures waits { IfOk result (λ next. Fits place.stage limit body.old.items → Waits next.stage pending.new.items) }
     ensures short { IfOk result (λ next. Fits place.stage limit body.old.items → is_done next.stage ≡ false → IsShort pending.new.items) }
-    ensures kind { IfOk result (λ next. (b : List ℕ) →
-        Tells place.stage place.om 8 b (pending.old.items ++ piece.now) →
-        Tells next.stage next.om 8 b pending.new.items) }
+    ensures kind { IfOk result (λ next. (b : List ℕ) → Tells place.stage place.kind 8 b (pending.old.items ++ piece.now) →
+        Tells next.stage next.kind 8 b pending.new.items) }
     ensures body { OnErr result (body.new.items ≡ body.old.items) }
     ensures pending { OnErr result (pending.new.items ≡ pending.old.items) }
 {
@@ -160,7 +159,7 @@ fn advance(
         add(pending, left.rest);
         return Ok(Place {
             stage: left.stage,
-            om: left.om,
+            kind: left.kind,
         });
     }
     add(pending, piece);
@@ -168,7 +167,7 @@ fn advance(
     let count = left.rest.len();
     let next = Place {
         stage: left.stage,
-        om: left.om,
+        kind: left.kind,
     };
     keep_end(pending, count);
     Ok(next)
@@ -190,23 +189,33 @@ fn converted(alloc: Global, limit: u64, body: Vec<u8>) -> Result<Reply, NoMemory
     }
 }
 
-/// The reply of a whole reply, whose head says whether it is of OpenMetrics.
+/// The reply of a whole reply, whose head says what its body is of.
 fn rendered(
     alloc: Global,
-    om: bool,
+    kind: Kind,
     limit: u64,
     status: u16,
     body: Vec<u8>,
 ) -> Result<Reply, NoMemory>
-    ensures { IfOk result (λ r. r ≡ replies.rendered om limit status body.items) }
+    ensures { IfOk result (λ r. r ≡ replies.rendered kind limit status body.items) }
 {
-    if om && status == 200 {
-        return converted(alloc, limit, body);
+    if status != 200 {
+        return Ok(Reply::Body {
+            status,
+            bytes: Blob { bytes: body },
+        });
     }
-    Ok(Reply::Body {
-        status,
-        bytes: Blob { bytes: body },
-    })
+    match kind {
+        Kind::OpenMetrics => converted(alloc, limit, body),
+        Kind::Quoted => Ok(Reply::Quoted {
+            status: 200,
+            bytes: Blob { bytes: body },
+        }),
+        Kind::Plain => Ok(Reply::Body {
+            status: 200,
+            bytes: Blob { bytes: body },
+        }),
+    }
 }
 
 impl Decoder {
@@ -217,7 +226,7 @@ impl Decoder {
         Ok(Decoder {
             limit,
             stage: Stage::Heads { left: 8 },
-            om: false,
+            kind: Kind::Plain,
             body: Vec::new(alloc),
             pending: Vec::new(alloc),
         })
@@ -237,7 +246,7 @@ impl Decoder {
         let next = advance(
             Place {
                 stage: self.stage,
-                om: self.om,
+                kind: self.kind,
             },
             self.limit,
             &mut self.body,
@@ -245,7 +254,7 @@ impl Decoder {
             piece,
         )?;
         self.stage = next.stage;
-        self.om = next.om;
+        self.kind = next.kind;
         if is_done(self.stage) {
             return Ok(Fed::Done);
         }
@@ -258,8 +267,8 @@ impl Decoder {
         ensures only { IfOk result (λ r. (limit : ℕ) (b : List ℕ) → StandsFor self limit b → (s : Reply) → Http b limit s → s ≡ r) }
     {
         match self.stage {
-            Stage::Whole { status } => rendered(alloc, self.om, self.limit, status, self.body),
-            Stage::Open => rendered(alloc, self.om, self.limit, 200, self.body),
+            Stage::Whole { status } => rendered(alloc, self.kind, self.limit, status, self.body),
+            Stage::Open => rendered(alloc, self.kind, self.limit, 200, self.body),
             Stage::Over => Ok(Reply::Oversize),
             _ => Ok(Reply::Garbled),
         }

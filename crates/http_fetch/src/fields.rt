@@ -230,16 +230,58 @@ fn is_named_openmetrics(value: &[u8]) -> bool
     same_word(front_of(media, 28), b"application/openmetrics-text") && are_spaces(behind(media, 28))
 }
 
-/// Whether the body is of OpenMetrics, by the fields of its head.
-#[tactic(auto, unfolding(crate::specs::Fields::is_openmetrics))]
-pub fn is_openmetrics(text: &[u8], fields: &[HeaderSpan]) -> bool
+/// What a body is of, as its head says.
+#[derive(Clone, Copy, PartialEq, Eq, Debug)]
+pub enum Kind {
+    /// The text exposition format, or nothing that is known here.
+    Plain,
+    /// The same, with names in quotes.
+    Quoted,
+    /// OpenMetrics.
+    OpenMetrics,
+}
+
+/// Whether a part of a value of `Content-Type` says that names stand in quotes.
+#[tactic(auto, unfolding(crate::specs::Fields::is_escaping))]
+fn is_escaping(part: &[u8]) -> bool
+    ensures { result ≡ spec.is_escaping part.now }
+{
+    let word = behind(part, space_len(part));
+    same_word(front_of(word, 20), b"escaping=allow-utf-8") && are_spaces(behind(word, 20))
+}
+
+/// Whether some part of a value of `Content-Type` does.
+fn says_quoted(value: &[u8]) -> bool
+    ensures { result ≡ spec.says_quoted value.now }
+{
+    value.split(|b| *b == b';').any(|part| is_escaping(part))
+}
+
+/// What the body is of, by a value of `Content-Type`.
+#[tactic(auto, unfolding(crate::specs::Fields::kind_by))]
+fn kind_by(value: &[u8]) -> Kind
+    ensures { result ≡ spec.kind_by value.now }
+{
+    if is_named_openmetrics(value) {
+        return Kind::OpenMetrics;
+    }
+    if says_quoted(value) {
+        Kind::Quoted
+    } else {
+        Kind::Plain
+    }
+}
+
+/// What the body is of, by the fields of its head.
+#[tactic(auto, unfolding(crate::specs::Fields::kind))]
+pub fn kind_of(text: &[u8], fields: &[HeaderSpan]) -> Kind
     requires { All (IsHeaderWithin (length text.now)) fields.now }
-    ensures { result ≡ spec.is_openmetrics (map (header_bytes text.now) fields.now) }
+    ensures { result ≡ spec.kind (map (header_bytes text.now) fields.now) }
 {
     for field in fields {
         if is_named(text, *field, b"content-type") {
-            return is_named_openmetrics(field.value.of(text));
+            return kind_by(field.value.of(text));
         }
     }
-    false
+    Kind::Plain
 }

@@ -2,7 +2,7 @@
 ghost use Rattle.std.specs.Prelude.{◌≡◌, ℕ, List, ◌<◌, ◌≤◌, length};
 ghost use Rattle.http_fetch.specs.Reading.{IsHead};
 
-use crate::fields::{Framing, framing_of, is_openmetrics};
+use crate::fields::{Framing, Kind, framing_of, kind_of};
 use httparse::Status;
 use httparse::spans::{EMPTY_HEADER_SPAN, parse_response};
 
@@ -12,12 +12,12 @@ const MOST_HEAD: usize = 65536;
 /// What is at the front of some bytes, where a head is wanted.
 #[derive(Clone, Copy, PartialEq, Eq, Debug)]
 pub enum Head {
-    /// A head of this status and length, behind which the body goes so, and whether it is of OpenMetrics.
+    /// A head of this status and length, behind which the body goes so, and what it is of.
     Found {
         status: u16,
         len: usize,
         framing: Framing,
-        om: bool,
+        kind: Kind,
     },
     /// None yet.
     Waiting,
@@ -39,7 +39,7 @@ pub fn head_at(bytes: &[u8]) -> Head
                 status: head.code,
                 len: head.len,
                 framing: framing_of(bytes, &headers[..head.headers]),
-                om: is_openmetrics(bytes, &headers[..head.headers]),
+                kind: kind_of(bytes, &headers[..head.headers]),
             }
         }
         Ok(Status::Partial) => {

@@ -10,7 +10,7 @@ use value_text::write_seconds3;
 
 /// The lines that each request has: what is taken, not compressed, and who asks.
 const SAME_LINES: &[u8] =
-    b"Accept: application/openmetrics-text;version=1.0.0;q=1,text/plain;version=0.0.4;q=0.8,*/*;q=0.1\r\n\
+    b"Accept: application/openmetrics-text;version=1.0.0;q=1,text/plain;version=1.0.0;escaping=allow-utf-8;q=0.9,text/plain;version=0.0.4;q=0.8,*/*;q=0.1\r\n\
 Accept-Encoding: identity\r\nUser-Agent: scrape/1\r\n";
 
 /// The line that asks for no further request, and the empty line behind it.

@@ -5,7 +5,7 @@ ghost use Rattle.http_fetch.specs.Kinds.{KeepsKind, is_heads};
 ghost use Rattle.http_fetch.specs.Steps as spec;
 ghost use Rattle.http_fetch.specs.Steps.{LeadsBehind, LeadsInside};
 
-use crate::fields::Framing;
+use crate::fields::{Framing, Kind};
 use crate::frames::{End, Line, Trailer, end_at, line_at, trailer_at};
 use crate::heads::{Head, head_at};
 
@@ -40,7 +40,7 @@ pub enum Stage {
 pub struct Step {
     pub next: Stage,
     pub used: usize,
-    pub om: bool,
+    pub kind: Kind,
 }
 
 /// Whether what follows changes nothing.
@@ -129,7 +129,7 @@ fn lost(text: &[u8]) -> Step
     Step {
         next: Stage::Never,
         used: text.len(),
-        om: false,
+        kind: Kind::Plain,
     }
 }
 
@@ -144,11 +144,11 @@ fn head_step(left: u8, limit: u64, got: u64, text: &[u8]) -> Option<Step>
             status,
             len,
             framing,
-            om,
+            kind,
         } => Some(Step {
             next: after_head(status, framing, left, limit),
             used: len,
-            om,
+            kind,
         }),
         Head::Waiting => None,
         Head::Never => Some(lost(text)),
@@ -165,7 +165,7 @@ fn line_step(limit: u64, got: u64, text: &[u8]) -> Option<Step>
         Line::Found { len, size } => Some(Step {
             next: after_line(size, limit.saturating_sub(got)),
             used: len,
-            om: false,
+            kind: Kind::Plain,
         }),
         Line::Waiting => None,
         Line::Never => Some(lost(text)),
@@ -182,7 +182,7 @@ fn end_step(limit: u64, got: u64, text: &[u8]) -> Option<Step>
         End::Found => Some(Step {
             next: Stage::Line,
             used: 2,
-            om: false,
+            kind: Kind::Plain,
         }),
         End::Waiting => None,
         End::Never => Some(lost(text)),
@@ -201,12 +201,12 @@ fn trailer_step(limit: u64, got: u64, room: usize, text: &[u8]) -> Option<Step>
                 room: room - len - 1,
             },
             used: len + 1,
-            om: false,
+            kind: Kind::Plain,
         }),
         Trailer::Last { len } => Some(Step {
             next: Stage::Whole { status: 200 },
             used: len + 1,
-            om: false,
+            kind: Kind::Plain,
         }),
         Trailer::Waiting => None,
         Trailer::Never => Some(lost(text)),
@@ -262,7 +262,7 @@ pub fn body_step(stage: Stage, limit: u64, got: u64, count: usize) -> Step
             Step {
                 next,
                 used,
-                om: false,
+                kind: Kind::Plain,
             }
         }
         Stage::Data { left } => {
@@ -272,7 +272,7 @@ pub fn body_step(stage: Stage, limit: u64, got: u64, count: usize) -> Step
                     left: left - used as u64,
                 },
                 used,
-                om: false,
+                kind: Kind::Plain,
             }
         }
         _ => {
@@ -284,7 +284,7 @@ pub fn body_step(stage: Stage, limit: u64, got: u64, count: usize) -> Step
             Step {
                 next,
                 used: count,
-                om: false,
+                kind: Kind::Plain,
             }
         }
     }

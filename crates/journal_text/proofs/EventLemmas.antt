@@ -6,7 +6,7 @@ use Rattle.std.proofs.lemmas.List.{take_at, drop_at, get_or_at, length-take-le, 
 use Rattle.std.proofs.lemmas.Option.{cond_some, none-some, same_Some}
 use Rattle.std.proofs.lemmas.Str.{IsUtf8-from_is_utf8, is_utf8-from_IsUtf8}
 use Rattle.journal_text.specs.declared.lines.Line.{Line}
-use Rattle.journal_text.specs.declared.lines.Line.TheVariants.{Load, Targets, Tick, Sweep, Body, Lost, Garbled, Unsent, Oversize, Halt}
+use Rattle.journal_text.specs.declared.lines.Line.TheVariants.{Load, Targets, Tick, Sweep, Body, Quoted, Lost, Garbled, Unsent, Oversize, Halt}
 use Rattle.journal_text.specs.declared.events.Event.{Event}
 use Rattle.journal_text.specs.declared.events.Event.TheVariants as event
 use Rattle.outside.specs.declared.replies.Reply.TheVariants as reply
@@ -16,6 +16,9 @@ use Rattle.journal_text.specs.Lines.{line_text, InRange}
 use Rattle.journal_text.specs.Events.{line_of, rest_of, spelling, IsInLimits, HasNames, now_after, MayFollow}
 use Rattle.journal_text.specs.LineReadings.{line_in}
 use Rattle.journal_text.specs.EventReadings.{block, content_len, content_after, targets_with, event_with, in_order, event_or, content_or, line_or, event_in}
+use Rattle.journal_text.specs.Versions.{HasEvent, HasLine}
+use Rattle.journal_text.specs.declared.versions.Version.{Version}
+use Rattle.journal_text.specs.declared.versions.Version.TheVariants.{Two}
 use Rattle.journal_text.specs.Faults.{Fails}
 use Rattle.journal_text.proofs.NumberLemmas.{split_at, drop_past}
 use Rattle.journal_text.proofs.LineLemmas.{line_in-some, line_in-text}
@@ -64,6 +67,7 @@ content_of (event.Targets m job file text) = job ++ (file ++ text)
 content_of (event.Tick m life) = []
 content_of (event.Sweep m) = []
 content_of (event.Finish ticket took (reply.Body status bytes)) = bytes
+content_of (event.Finish ticket took (reply.Quoted status bytes)) = bytes
 content_of (event.Finish ticket took reply.Lost) = []
 content_of (event.Finish ticket took reply.Garbled) = []
 content_of (event.Finish ticket took reply.Unsent) = []
@@ -80,6 +84,7 @@ content_after-text (event.Targets m job file text) more =
 content_after-text (event.Tick m life) more = refl
 content_after-text (event.Sweep m) more = refl
 content_after-text (event.Finish ticket took (reply.Body status bytes)) more = simp append_assoc (block-text (length bytes) bytes more refl)
+content_after-text (event.Finish ticket took (reply.Quoted status bytes)) more = simp append_assoc (block-text (length bytes) bytes more refl)
 content_after-text (event.Finish ticket took reply.Lost) more = refl
 content_after-text (event.Finish ticket took reply.Garbled) more = refl
 content_after-text (event.Finish ticket took reply.Unsent) more = refl
@@ -95,21 +100,64 @@ event_with-text (event.Targets m job file text) names =
 event_with-text (event.Tick m life) names = refl
 event_with-text (event.Sweep m) names = refl
 event_with-text (event.Finish ticket took (reply.Body status bytes)) names = refl
+event_with-text (event.Finish ticket took (reply.Quoted status bytes)) names = refl
 event_with-text (event.Finish ticket took reply.Lost) names = refl
 event_with-text (event.Finish ticket took reply.Garbled) names = refl
 event_with-text (event.Finish ticket took reply.Unsent) names = refl
 event_with-text (event.Finish ticket took reply.Oversize) names = refl
 event_with-text (event.Halt m) names = refl
 
+-- a version that has an event has its line, and the other way round
+pub has_line : (version : Version) (e : Event) → HasEvent version e → HasLine version (line_of e)
+has_line version (event.Load m text) has = tt
+has_line version (event.Targets m job file text) has = tt
+has_line version (event.Tick m life) has = tt
+has_line version (event.Sweep m) has = tt
+has_line version (event.Finish ticket took (reply.Body status bytes)) has = tt
+has_line version (event.Finish ticket took (reply.Quoted status bytes)) has = has
+has_line version (event.Finish ticket took reply.Lost) has = tt
+has_line version (event.Finish ticket took reply.Garbled) has = tt
+has_line version (event.Finish ticket took reply.Unsent) has = tt
+has_line version (event.Finish ticket took reply.Oversize) has = tt
+has_line version (event.Halt m) has = tt
+
+pub has_event : (version : Version) (e : Event) → HasLine version (line_of e) → HasEvent version e
+has_event version (event.Load m text) has = tt
+has_event version (event.Targets m job file text) has = tt
+has_event version (event.Tick m life) has = tt
+has_event version (event.Sweep m) has = tt
+has_event version (event.Finish ticket took (reply.Body status bytes)) has = tt
+has_event version (event.Finish ticket took (reply.Quoted status bytes)) has = has
+has_event version (event.Finish ticket took reply.Lost) has = tt
+has_event version (event.Finish ticket took reply.Garbled) has = tt
+has_event version (event.Finish ticket took reply.Unsent) has = tt
+has_event version (event.Finish ticket took reply.Oversize) has = tt
+has_event version (event.Halt m) has = tt
+
+-- the second has each event
+pub has_two : (e : Event) → HasEvent Two e
+has_two (event.Load m text) = tt
+has_two (event.Targets m job file text) = tt
+has_two (event.Tick m life) = tt
+has_two (event.Sweep m) = tt
+has_two (event.Finish ticket took (reply.Body status bytes)) = tt
+has_two (event.Finish ticket took (reply.Quoted status bytes)) = refl
+has_two (event.Finish ticket took reply.Lost) = tt
+has_two (event.Finish ticket took reply.Garbled) = tt
+has_two (event.Finish ticket took reply.Unsent) = tt
+has_two (event.Finish ticket took reply.Oversize) = tt
+has_two (event.Halt m) = tt
+
 -- an event's line is read where the event is spelled
-pub line_in-spelling : (e : Event) (more : List ℕ) → IsInLimits e → line_in (spelling e ++ more) ≡ Some (line_of e, rest_of e ++ more)
-line_in-spelling e more limits = ap line_in (append_assoc (line_text (line_of e)) (rest_of e) more) ∙ line_in-text (line_of e) (rest_of e ++ more) limits
+pub line_in-spelling : (version : Version) (e : Event) (more : List ℕ) → HasEvent version e → IsInLimits e → line_in version (spelling e ++ more) ≡ Some (line_of e, rest_of e ++ more)
+line_in-spelling version e more has limits =
+    ap (line_in version) (append_assoc (line_text (line_of e)) (rest_of e) more) ∙ line_in-text version (line_of e) (rest_of e ++ more) (has_line version e has) limits
 
 -- an event that is spelled is read
-pub event_in-text : (now : ℕ) (e : Event) (more : List ℕ) → IsInLimits e → HasNames e → event_in now (spelling e ++ more) ≡ in_order now more e
+pub event_in-text : (version : Version) (now : ℕ) (e : Event) (more : List ℕ) → HasEvent version e → IsInLimits e → HasNames e → event_in version now (spelling e ++ more) ≡ in_order now more e
 unfolding event_in
-event_in-text now e more limits names =
-    ap (line_or now) (line_in-spelling e more limits)
+event_in-text version now e more has limits names =
+    ap (line_or now) (line_in-spelling version e more has limits)
     ∙ ap (content_or now (line_of e)) (content_after-text e more)
     ∙ ap (event_or now more) (event_with-text e names)
 
@@ -120,6 +168,7 @@ tail_of (Targets m job file len) content = content ++ 10 ∷ []
 tail_of (Tick m life) content = []
 tail_of (Sweep m) content = []
 tail_of (Body took ticket status len) content = content ++ 10 ∷ []
+tail_of (Quoted took ticket status len) content = content ++ 10 ∷ []
 tail_of (Lost took ticket) content = []
 tail_of (Garbled took ticket) content = []
 tail_of (Unsent took ticket) content = []
@@ -137,6 +186,7 @@ content_after-some (Targets m job file len) bytes p e = let told = block-some (j
 content_after-some (Tick m life) bytes p e = subst (Content (Tick m life) bytes) (same_Some ([], bytes) p e) (record { long = refl; text = refl })
 content_after-some (Sweep m) bytes p e = subst (Content (Sweep m) bytes) (same_Some ([], bytes) p e) (record { long = refl; text = refl })
 content_after-some (Body took ticket status len) bytes p e = let told = block-some (len) bytes p e in record { long = told.long; text = told.text ∙ sym (append_assoc p.0 (10 ∷ []) p.1) }
+content_after-some (Quoted took ticket status len) bytes p e = let told = block-some (len) bytes p e in record { long = told.long; text = told.text ∙ sym (append_assoc p.0 (10 ∷ []) p.1) }
 content_after-some (Lost took ticket) bytes p e = subst (Content (Lost took ticket) bytes) (same_Some ([], bytes) p e) (record { long = refl; text = refl })
 content_after-some (Garbled took ticket) bytes p e = subst (Content (Garbled took ticket) bytes) (same_Some ([], bytes) p e) (record { long = refl; text = refl })
 content_after-some (Unsent took ticket) bytes p e = subst (Content (Unsent took ticket) bytes) (same_Some ([], bytes) p e) (record { long = refl; text = refl })
@@ -166,6 +216,8 @@ event_with-some (Targets m job file len) content e long is =
     })
 event_with-some (Body took ticket status len) content e long is =
     subst (Made (Body took ticket status len) content) (same_Some _ e is) (record { line = ap (Body took ticket status) long; names = tt; rest = refl })
+event_with-some (Quoted took ticket status len) content e long is =
+    subst (Made (Quoted took ticket status len) content) (same_Some _ e is) (record { line = ap (Quoted took ticket status) long; names = tt; rest = refl })
 event_with-some (Tick m life) content e long is = subst (Made (Tick m life) content) (same_Some _ e is) (record { line = refl; names = tt; rest = refl })
 event_with-some (Sweep m) content e long is = subst (Made (Sweep m) content) (same_Some _ e is) (record { line = refl; names = tt; rest = refl })
 event_with-some (Lost took ticket) content e long is = subst (Made (Lost took ticket) content) (same_Some _ e is) (record { line = refl; names = tt; rest = refl })
@@ -175,71 +227,72 @@ event_with-some (Oversize took ticket) content e long is = subst (Made (Oversize
 event_with-some (Halt m) content e long is = subst (Made (Halt m) content) (same_Some _ e is) (record { line = refl; names = tt; rest = refl })
 
 -- an event that was read: it is spelled there, and may follow
-pub record Read (now : ℕ) (bytes : List ℕ) (p : Event × List ℕ) : Type 0 where
+pub record Read (version : Version) (now : ℕ) (bytes : List ℕ) (p : Event × List ℕ) : Type 0 where
+  pub has : HasEvent version p.0
   pub limits : IsInLimits p.0
   pub names : HasNames p.0
   pub follows : MayFollow now p.0
   pub text : bytes ≡ spelling p.0 ++ p.1
 
 -- what is known of the bytes by what was read
-abbrev pub Verdict : ℕ → List ℕ → Result (Event × List ℕ) ScriptCause → Type 0
-Verdict now bytes (Ok p) = Read now bytes p
-Verdict now bytes (Err why) = Fails why now bytes
+abbrev pub Verdict : Version → ℕ → List ℕ → Result (Event × List ℕ) ScriptCause → Type 0
+Verdict version now bytes (Ok p) = Read version now bytes p
+Verdict version now bytes (Err why) = Fails why version now bytes
 
 -- an event that is spelled begins with its line
-begins_with_line : (bytes : List ℕ) (e : Event) (rest : List ℕ) (p : Line × List ℕ) → IsInLimits e → bytes ≡ spelling e ++ rest → line_in bytes ≡ Some p → (line_of e, rest_of e ++ rest) ≡ p
-begins_with_line bytes e rest p limits text read = same_Some _ p (sym (line_in-spelling e rest limits) ∙ ap line_in (sym text) ∙ read)
+begins_with_line : (version : Version) (bytes : List ℕ) (e : Event) (rest : List ℕ) (p : Line × List ℕ) → HasEvent version e → IsInLimits e → bytes ≡ spelling e ++ rest → line_in version bytes ≡ Some p → (line_of e, rest_of e ++ rest) ≡ p
+begins_with_line version bytes e rest p has limits text read = same_Some _ p (sym (line_in-spelling version e rest has limits) ∙ ap (line_in version) (sym text) ∙ read)
 
 has_content : (e : Event) (rest : List ℕ) (p : Line × List ℕ) → (line_of e, rest_of e ++ rest) ≡ p → content_after p.0 p.1 ≡ Some (content_of e, rest)
 has_content e rest p same = subst (λ (p : Line × List ℕ). content_after p.0 p.1 ≡ Some (content_of e, rest)) same (content_after-text e rest)
 
-verdict_ordered : (now : ℕ) (bytes more : List ℕ) (e : Event) → IsInLimits e → HasNames e → bytes ≡ spelling e ++ more → Verdict now bytes (in_order now more e)
-verdict_ordered now bytes more e limits names text =
-    elim (leb now (now_after now e)) as (λ b. leb now (now_after now e) ≡ b → Verdict now bytes (cond b (Ok (e, more)) (Err cause.Order))) [
-      | true ↦ λ t. record { limits = limits; names = names; follows = leb-true now (now_after now e) t; text = text }
-      | false ↦ λ f. (e, more, limits, names, text, leb-false now (now_after now e) f)
+verdict_ordered : (version : Version) (now : ℕ) (bytes more : List ℕ) (e : Event) → HasEvent version e → IsInLimits e → HasNames e → bytes ≡ spelling e ++ more → Verdict version now bytes (in_order now more e)
+verdict_ordered version now bytes more e has limits names text =
+    elim (leb now (now_after now e)) as (λ b. leb now (now_after now e) ≡ b → Verdict version now bytes (cond b (Ok (e, more)) (Err cause.Order))) [
+      | true ↦ λ t. record { has = has; limits = limits; names = names; follows = leb-true now (now_after now e) t; text = text }
+      | false ↦ λ f. (e, more, has, limits, names, text, leb-false now (now_after now e) f)
     ] refl
 
-verdict_event : (now : ℕ) (bytes : List ℕ) (p : Line × List ℕ) (q : List ℕ × List ℕ) → line_in bytes ≡ Some p → content_after p.0 p.1 ≡ Some q →
-    (o : Option Event) → event_with p.0 q.0 ≡ o → Verdict now bytes (event_or now q.1 o)
-verdict_event now bytes p q read content None is =
-    let line = line_in-some bytes p read in (
-      (p.0, p.1, line.range, line.text),
-      λ (e, rest, limits, names, text).
-          let same = begins_with_line bytes e rest p limits text read in
+verdict_event : (version : Version) (now : ℕ) (bytes : List ℕ) (p : Line × List ℕ) (q : List ℕ × List ℕ) → line_in version bytes ≡ Some p → content_after p.0 p.1 ≡ Some q →
+    (o : Option Event) → event_with p.0 q.0 ≡ o → Verdict version now bytes (event_or now q.1 o)
+verdict_event version now bytes p q read content None is =
+    let line = line_in-some version bytes p read in (
+      (p.0, p.1, line.has, line.range, line.text),
+      λ (e, rest, has, limits, names, text).
+          let same = begins_with_line version bytes e rest p has limits text read in
           let content_is : (content_of e, rest) ≡ q = same_Some _ q (sym (has_content e rest p same) ∙ content) in
           let made : event_with p.0 q.0 ≡ Some e =
           subst (λ (q : List ℕ × List ℕ). event_with p.0 q.0 ≡ Some e) content_is
           (subst (λ (p : Line × List ℕ). event_with p.0 (content_of e) ≡ Some e) same (event_with-text e names)) in
           none-some e (sym is ∙ made),
     )
-verdict_event now bytes p q read content (Some e) is =
-    let line = line_in-some bytes p read in
+verdict_event version now bytes p q read content (Some e) is =
+    let line = line_in-some version bytes p read in
     let told = content_after-some p.0 p.1 q content in
     let made = event_with-some p.0 q.0 e told.long is in
     let limits : IsInLimits e = subst InRange (sym made.line) line.range in
     let text : bytes ≡ spelling e ++ q.1 =
     line.text ∙ ap₂ (λ (l : Line) (r : List ℕ). line_text l ++ r) (sym made.line) (told.text ∙ ap (λ r. r ++ q.1) (sym made.rest))
     ∙ sym (append_assoc (line_text (line_of e)) (rest_of e) q.1) in
-    verdict_ordered now bytes q.1 e limits made.names text
+    verdict_ordered version now bytes q.1 e (has_event version e (subst (HasLine version) (sym made.line) line.has)) limits made.names text
 
-verdict_content : (now : ℕ) (bytes : List ℕ) (p : Line × List ℕ) → line_in bytes ≡ Some p →
-    (o : Option (List ℕ × List ℕ)) → content_after p.0 p.1 ≡ o → Verdict now bytes (content_or now p.0 o)
-verdict_content now bytes p read None is =
-    let line = line_in-some bytes p read in (
-      (p.0, p.1, line.range, line.text),
-      λ (e, rest, limits, names, text). none-some _ (sym is ∙ has_content e rest p (begins_with_line bytes e rest p limits text read)),
+verdict_content : (version : Version) (now : ℕ) (bytes : List ℕ) (p : Line × List ℕ) → line_in version bytes ≡ Some p →
+    (o : Option (List ℕ × List ℕ)) → content_after p.0 p.1 ≡ o → Verdict version now bytes (content_or now p.0 o)
+verdict_content version now bytes p read None is =
+    let line = line_in-some version bytes p read in (
+      (p.0, p.1, line.has, line.range, line.text),
+      λ (e, rest, has, limits, names, text). none-some _ (sym is ∙ has_content e rest p (begins_with_line version bytes e rest p has limits text read)),
     )
-verdict_content now bytes p read (Some q) is = verdict_event now bytes p q read is (event_with p.0 q.0) refl
+verdict_content version now bytes p read (Some q) is = verdict_event version now bytes p q read is (event_with p.0 q.0) refl
 
-verdict_line : (now : ℕ) (bytes : List ℕ) → (o : Option (Line × List ℕ)) → line_in bytes ≡ o → Verdict now bytes (line_or now o)
-verdict_line now bytes None is = λ (line, rest, range, text). none-some _ (sym is ∙ ap line_in text ∙ line_in-text line rest range)
-verdict_line now bytes (Some p) is = verdict_content now bytes p is (content_after p.0 p.1) refl
+verdict_line : (version : Version) (now : ℕ) (bytes : List ℕ) → (o : Option (Line × List ℕ)) → line_in version bytes ≡ o → Verdict version now bytes (line_or now o)
+verdict_line version now bytes None is = λ (line, rest, has, range, text). none-some _ (sym is ∙ ap (line_in version) text ∙ line_in-text version line rest has range)
+verdict_line version now bytes (Some p) is = verdict_content version now bytes p is (content_after p.0 p.1) refl
 
 -- what reading an event tells
-pub verdict : (now : ℕ) (bytes : List ℕ) → Verdict now bytes (event_in now bytes)
+pub verdict : (version : Version) (now : ℕ) (bytes : List ℕ) → Verdict version now bytes (event_in version now bytes)
 unfolding event_in
-verdict now bytes = verdict_line now bytes (line_in bytes) refl
+verdict version now bytes = verdict_line version now bytes (line_in version bytes) refl
 
 not_text : (bs : List ℕ) → ¬ IsUtf8 bs → is_utf8 bs ≡ false
 not_text bs never = ⊎_elim (λ (t : is_utf8 bs ≡ true). absurd (never (IsUtf8-from_is_utf8 bs t))) (λ (f : is_utf8 bs ≡ false). f) (cases_Bool (is_utf8 bs))

@@ -5,18 +5,21 @@ use Rattle.std.proofs.lemmas.List.{append_cancel_left, take_more, get_or_at, get
 use Rattle.std.proofs.lemmas.List.Elements.{All-append}
 use Rattle.std.proofs.lemmas.Option.{none-some, same_Some}
 use Rattle.journal_text.specs.declared.lines.Line.{Line}
-use Rattle.journal_text.specs.declared.lines.Line.TheVariants.{Load, Targets, Tick, Sweep, Body, Lost, Garbled, Unsent, Oversize, Halt}
+use Rattle.journal_text.specs.declared.lines.Line.TheVariants.{Load, Targets, Tick, Sweep, Body, Quoted, Lost, Garbled, Unsent, Oversize, Halt}
 use Rattle.journal_text.specs.declared.events.Event.{Event}
 use Rattle.journal_text.specs.declared.events.Event.TheVariants as event
 use Rattle.journal_text.specs.declared.faults.ScriptCause.{ScriptCause}
 use Rattle.journal_text.specs.declared.faults.ScriptCause.TheVariants as cause
 use Rattle.journal_text.specs.declared.faults.ScriptFault.{ScriptFault}
 use Rattle.journal_text.specs.Lines.{number, line_text, IsMoment}
-use Rattle.journal_text.specs.Events.{line_of, rest_of, spelling, first_line, events_text, journal_text, IsInLimits, HasNames, now_after, now_from, now_of, MayFollow, IsInOrderFrom, IsJournal, IsKept}
+use Rattle.journal_text.specs.Events.{line_of, rest_of, spelling, events_text, journal_text, IsInLimits, HasNames, now_after, now_from, now_of, MayFollow, IsInOrderFrom, IsJournal, IsKept}
 use Rattle.journal_text.specs.EventReadings.{event_in}
-use Rattle.journal_text.specs.Faults.{BeginsLine, BeginsEvent, EndsBy, Fails, FailsAt, IsFault, IsFaultBy, SpellsNone, IsJournalOf, IsOnlyFault}
+use Rattle.journal_text.specs.Faults.{BeginsLine, BeginsEvent, EndsBy, Fails, FailsAt, IsFault, IsFaultBy, Spells, SpellsNone, IsJournalOf, IsOnlyFault}
+use Rattle.journal_text.specs.Versions.{first_line, HasEvent}
+use Rattle.journal_text.specs.declared.versions.Version.{Version}
+use Rattle.journal_text.specs.declared.versions.Version.TheVariants.{One, Two}
 use Rattle.journal_text.specs.Fronts.{Begins}
-use Rattle.journal_text.proofs.EventLemmas.{event_in-text, Verdict, verdict}
+use Rattle.journal_text.proofs.EventLemmas.{event_in-text, has_line, has_two, Verdict, verdict}
 
 -- a line isn't empty
 line_some : (l : Line) (rest : List ℕ) → line_text l ++ rest ≢ []
@@ -25,6 +28,7 @@ line_some (Targets m job file len) rest e = cc
 line_some (Tick m life) rest e = cc
 line_some (Sweep m) rest e = cc
 line_some (Body took ticket status len) rest e = cc
+line_some (Quoted took ticket status len) rest e = cc
 line_some (Lost took ticket) rest e = cc
 line_some (Garbled took ticket) rest e = cc
 line_some (Unsent took ticket) rest e = cc
@@ -35,12 +39,12 @@ pub spelling_some : (e : Event) (more : List ℕ) → spelling e ++ more ≢ []
 spelling_some e more empty = line_some (line_of e) (rest_of e ++ more) (sym (append_assoc (line_text (line_of e)) (rest_of e) more) ∙ empty)
 
 -- an event that may follow is read
-pub event_in-follows : (now : ℕ) (e : Event) (more : List ℕ) → IsInLimits e → HasNames e → MayFollow now e → event_in now (spelling e ++ more) ≡ Ok (e, more)
-event_in-follows now e more limits names follows = event_in-text now e more limits names ∙ rw (le-leb now (now_after now e) follows) refl
+pub event_in-follows : (version : Version) (now : ℕ) (e : Event) (more : List ℕ) → HasEvent version e → IsInLimits e → HasNames e → MayFollow now e → event_in version now (spelling e ++ more) ≡ Ok (e, more)
+event_in-follows version now e more has limits names follows = event_in-text version now e more has limits names ∙ rw (le-leb now (now_after now e) follows) refl
 
 -- one that may not isn't
-event_in-earlier : (now : ℕ) (e : Event) (more : List ℕ) → IsInLimits e → HasNames e → now_after now e < now → event_in now (spelling e ++ more) ≡ Err cause.Order
-event_in-earlier now e more limits names earlier = event_in-text now e more limits names ∙ rw (lt-leb now (now_after now e) earlier) refl
+event_in-earlier : (version : Version) (now : ℕ) (e : Event) (more : List ℕ) → HasEvent version e → IsInLimits e → HasNames e → now_after now e < now → event_in version now (spelling e ++ more) ≡ Err cause.Order
+event_in-earlier version now e more has limits names earlier = event_in-text version now e more has limits names ∙ rw (lt-leb now (now_after now e) earlier) refl
 
 same_ok : {A E : Type 0} (x y : A) → ◌≡◌ {A = Result A E} (Ok x) (Ok y) → x ≡ y
 same_ok x y same = cc
@@ -48,44 +52,45 @@ same_ok x y same = cc
 ok_err : {A E : Type 0} (x : A) (e : E) → Ok x ≡ Err e → ⊥
 ok_err x e same = cc
 
-event_line : (bytes : List ℕ) → BeginsEvent bytes → BeginsLine bytes
-event_line bytes (e, rest, limits, names, text) = (line_of e, rest_of e ++ rest, limits, text ∙ append_assoc (line_text (line_of e)) (rest_of e) rest)
+event_line : (version : Version) (bytes : List ℕ) → BeginsEvent version bytes → BeginsLine version bytes
+event_line version bytes (e, rest, has, limits, names, text) = (line_of e, rest_of e ++ rest, has_line version e has, limits, text ∙ append_assoc (line_text (line_of e)) (rest_of e) rest)
 
 -- an event that fails for a cause isn't read for this cause
-fails_as : (c : ScriptCause) (now : ℕ) (bytes : List ℕ) → Fails c now bytes → (r : Result (Event × List ℕ) ScriptCause) → event_in now bytes ≡ r → Verdict now bytes r → r ≡ Err c
-fails_as cause.Header now bytes fails r is told = absurd fails
-fails_as cause.Line now bytes fails (Ok p) is told = absurd (fails (event_line bytes (p.0, p.1, told.limits, told.names, told.text)))
-fails_as cause.Line now bytes fails (Err cause.Header) is told = absurd told
-fails_as cause.Line now bytes fails (Err cause.Line) is told = refl
-fails_as cause.Line now bytes fails (Err cause.Rest) is told = absurd (fails told.0)
-fails_as cause.Line now bytes fails (Err cause.Order) is (e, rest, limits, names, text, earlier) = absurd (fails (event_line bytes (e, rest, limits, names, text)))
-fails_as cause.Rest now bytes fails (Ok p) is told = absurd (fails.1 (p.0, p.1, told.limits, told.names, told.text))
-fails_as cause.Rest now bytes fails (Err cause.Header) is told = absurd told
-fails_as cause.Rest now bytes fails (Err cause.Line) is told = absurd (told fails.0)
-fails_as cause.Rest now bytes fails (Err cause.Rest) is told = refl
-fails_as cause.Rest now bytes fails (Err cause.Order) is (e, rest, limits, names, text, earlier) = absurd (fails.1 (e, rest, limits, names, text))
-fails_as cause.Order now bytes (e, rest, limits, names, text, earlier) r is told = sym is ∙ ap (event_in now) text ∙ event_in-earlier now e rest limits names earlier
+fails_as : (c : ScriptCause) (version : Version) (now : ℕ) (bytes : List ℕ) → Fails c version now bytes → (r : Result (Event × List ℕ) ScriptCause) → event_in version now bytes ≡ r → Verdict version now bytes r → r ≡ Err c
+fails_as cause.Header version now bytes fails r is told = absurd fails
+fails_as cause.Line version now bytes fails (Ok p) is told = absurd (fails (event_line version bytes (p.0, p.1, told.has, told.limits, told.names, told.text)))
+fails_as cause.Line version now bytes fails (Err cause.Header) is told = absurd told
+fails_as cause.Line version now bytes fails (Err cause.Line) is told = refl
+fails_as cause.Line version now bytes fails (Err cause.Rest) is told = absurd (fails told.0)
+fails_as cause.Line version now bytes fails (Err cause.Order) is (e, rest, has, limits, names, text, earlier) = absurd (fails (event_line version bytes (e, rest, has, limits, names, text)))
+fails_as cause.Rest version now bytes fails (Ok p) is told = absurd (fails.1 (p.0, p.1, told.has, told.limits, told.names, told.text))
+fails_as cause.Rest version now bytes fails (Err cause.Header) is told = absurd told
+fails_as cause.Rest version now bytes fails (Err cause.Line) is told = absurd (told fails.0)
+fails_as cause.Rest version now bytes fails (Err cause.Rest) is told = refl
+fails_as cause.Rest version now bytes fails (Err cause.Order) is (e, rest, has, limits, names, text, earlier) = absurd (fails.1 (e, rest, has, limits, names, text))
+fails_as cause.Order version now bytes (e, rest, has, limits, names, text, earlier) r is told = sym is ∙ ap (event_in version now) text ∙ event_in-earlier version now e rest has limits names earlier
 
-pub event_in-fails : (c : ScriptCause) (now : ℕ) (bytes : List ℕ) → Fails c now bytes → event_in now bytes ≡ Err c
-event_in-fails c now bytes fails = fails_as c now bytes fails (event_in now bytes) refl (verdict now bytes)
+pub event_in-fails : (c : ScriptCause) (version : Version) (now : ℕ) (bytes : List ℕ) → Fails c version now bytes → event_in version now bytes ≡ Err c
+event_in-fails c version now bytes fails = fails_as c version now bytes fails (event_in version now bytes) refl (verdict version now bytes)
 
-no_event : (now : ℕ) (rest more : List ℕ) (o : Option ScriptCause) (e : Event) → EndsBy now rest o → IsInLimits e → HasNames e → MayFollow now e → rest ≡ spelling e ++ more → ⊥
+no_event : (version : Version) (now : ℕ) (rest more : List ℕ) (o : Option ScriptCause) (e : Event) → EndsBy version now rest o → HasEvent version e → IsInLimits e → HasNames e → MayFollow now e → rest ≡ spelling e ++ more → ⊥
 unfolding EndsBy
-no_event now rest more None e ends limits names follows text = spelling_some e more (sym text ∙ ends)
-no_event now rest more (Some c) e ends limits names follows text =
-    ok_err (e, more) c (sym (event_in-follows now e more limits names follows) ∙ ap (event_in now) (sym text) ∙ event_in-fails c now rest ends.1)
+no_event version now rest more None e ends has limits names follows text = spelling_some e more (sym text ∙ ends)
+no_event version now rest more (Some c) e ends has limits names follows text =
+    ok_err (e, more) c (sym (event_in-follows version now e more has limits names follows) ∙ ap (event_in version now) (sym text) ∙ event_in-fails c version now rest ends.1)
 
-ends_alike : (now : ℕ) (rest more : List ℕ) (o u : Option ScriptCause) → EndsBy now rest o → EndsBy now more u → rest ≡ more → o ≡ u
+ends_alike : (version : Version) (now : ℕ) (rest more : List ℕ) (o u : Option ScriptCause) → EndsBy version now rest o → EndsBy version now more u → rest ≡ more → o ≡ u
 unfolding EndsBy
-ends_alike now rest more None None a b same = refl
-ends_alike now rest more None (Some c) a b same = absurd (b.0 (sym same ∙ a))
-ends_alike now rest more (Some c) None a b same = absurd (a.0 (same ∙ b))
-ends_alike now rest more (Some c) (Some d) a b same =
-    let errors : ◌≡◌ {A = Result (Event × List ℕ) ScriptCause} (Err c) (Err d) = sym (event_in-fails c now rest a.1) ∙ ap (event_in now) same ∙ event_in-fails d now more b.1 in
+ends_alike version now rest more None None a b same = refl
+ends_alike version now rest more None (Some c) a b same = absurd (b.0 (sym same ∙ a))
+ends_alike version now rest more (Some c) None a b same = absurd (a.0 (same ∙ b))
+ends_alike version now rest more (Some c) (Some d) a b same =
+    let errors : ◌≡◌ {A = Result (Event × List ℕ) ScriptCause} (Err c) (Err d) = sym (event_in-fails c version now rest a.1) ∙ ap (event_in version now) same ∙ event_in-fails d version now more b.1 in
     cc
 
 -- events that keep their limits, in order from `now` on
-record Keeps (now : ℕ) (es : List Event) : Type 0 where
+record Keeps (version : Version) (now : ℕ) (es : List Event) : Type 0 where
+  has : All (HasEvent version) es
   limits : All IsInLimits es
   names : All HasNames es
   order : IsInOrderFrom now es
@@ -97,18 +102,25 @@ pub all_tail : {X : Type 0} (P : X → Type 0) (x : X) (xs : List X) → All P (
 all_tail P x xs all = λ k d within. all (suc k) d (omega arith)
 
 -- the first event keeps its limits and may follow, and the others do
-record First (now : ℕ) (e : Event) (es : List Event) : Type 0 where
+record First (version : Version) (now : ℕ) (e : Event) (es : List Event) : Type 0 where
+  has : HasEvent version e
   limits : IsInLimits e
   names : HasNames e
   follows : MayFollow now e
-  others : Keeps (now_after now e) es
+  others : Keeps version (now_after now e) es
 
-first_of : (now : ℕ) (e : Event) (es : List Event) → Keeps now (e ∷ es) → First now e es
-first_of now e es a = record {
+first_of : (version : Version) (now : ℕ) (e : Event) (es : List Event) → Keeps version now (e ∷ es) → First version now e es
+first_of version now e es a = record {
+  has = all_head (HasEvent version) e es a.has;
   limits = all_head IsInLimits e es a.limits;
   names = all_head HasNames e es a.names;
   follows = a.order.0;
-  others = record { limits = all_tail IsInLimits e es a.limits; names = all_tail HasNames e es a.names; order = a.order.1 };
+  others = record {
+    has = all_tail (HasEvent version) e es a.has;
+    limits = all_tail IsInLimits e es a.limits;
+    names = all_tail HasNames e es a.names;
+    order = a.order.1;
+  };
 }
 
 -- what a text's events and its end have in common with those of the same text
@@ -117,82 +129,128 @@ pub record Same (es fs : List Event) (rest more : List ℕ) (o u : Option Script
   pub rest_is : rest ≡ more
   pub end : o ≡ u
 
-same_ends : (now : ℕ) (es fs : List Event) (rest more : List ℕ) (o u : Option ScriptCause) → Keeps now es → Keeps now fs →
-    EndsBy (now_from now es) rest o → EndsBy (now_from now fs) more u → events_text es ++ rest ≡ events_text fs ++ more → Same es fs rest more o u
-same_ends now [] [] rest more o u a b c d text = record { events = refl; rest_is = text; end = ends_alike now rest more o u c d text }
-same_ends now [] (f ∷ fs) rest more o u a b c d text =
-    let g = first_of now f fs b in
-    absurd (no_event now rest (events_text fs ++ more) o f c g.limits g.names g.follows (text ∙ append_assoc (spelling f) (events_text fs) more))
-same_ends now (e ∷ es) [] rest more o u a b c d text =
-    let g = first_of now e es a in
-    absurd (no_event now more (events_text es ++ rest) u e d g.limits g.names g.follows (sym text ∙ append_assoc (spelling e) (events_text es) rest))
-same_ends now (e ∷ es) (f ∷ fs) rest more o u a b c d text =
-    let g = first_of now e es a in
-    let h = first_of now f fs b in
+same_ends : (version : Version) (now : ℕ) (es fs : List Event) (rest more : List ℕ) (o u : Option ScriptCause) → Keeps version now es → Keeps version now fs →
+    EndsBy version (now_from now es) rest o → EndsBy version (now_from now fs) more u → events_text es ++ rest ≡ events_text fs ++ more → Same es fs rest more o u
+same_ends version now [] [] rest more o u a b c d text = record { events = refl; rest_is = text; end = ends_alike version now rest more o u c d text }
+same_ends version now [] (f ∷ fs) rest more o u a b c d text =
+    let g = first_of version now f fs b in
+    absurd (no_event version now rest (events_text fs ++ more) o f c g.has g.limits g.names g.follows (text ∙ append_assoc (spelling f) (events_text fs) more))
+same_ends version now (e ∷ es) [] rest more o u a b c d text =
+    let g = first_of version now e es a in
+    absurd (no_event version now more (events_text es ++ rest) u e d g.has g.limits g.names g.follows (sym text ∙ append_assoc (spelling e) (events_text es) rest))
+same_ends version now (e ∷ es) (f ∷ fs) rest more o u a b c d text =
+    let g = first_of version now e es a in
+    let h = first_of version now f fs b in
     let whole : spelling e ++ (events_text es ++ rest) ≡ spelling f ++ (events_text fs ++ more) =
     sym (append_assoc (spelling e) (events_text es) rest) ∙ text ∙ append_assoc (spelling f) (events_text fs) more in
     let oks : ◌≡◌ {A = Result (Event × List ℕ) ScriptCause} (Ok (e, events_text es ++ rest)) (Ok (f, events_text fs ++ more)) =
-    sym (event_in-follows now e (events_text es ++ rest) g.limits g.names g.follows) ∙ ap (event_in now) whole ∙ event_in-follows now f (events_text fs ++ more) h.limits h.names h.follows in
+    sym (event_in-follows version now e (events_text es ++ rest) g.has g.limits g.names g.follows) ∙ ap (event_in version now) whole
+    ∙ event_in-follows version now f (events_text fs ++ more) h.has h.limits h.names h.follows in
     let pairs : (e, events_text es ++ rest) ≡ (f, events_text fs ++ more) = same_ok {E = ScriptCause} (e, events_text es ++ rest) (f, events_text fs ++ more) oks in
     let first : e ≡ f = ap (λ p. p.0) pairs in
     let after : events_text es ++ rest ≡ events_text fs ++ more = ap (λ p. p.1) pairs in
-    let others = same_ends (now_after now e) es fs rest more o u g.others
-    (subst (λ x. Keeps (now_after now x) fs) (sym first) h.others)
-    c (subst (λ x. EndsBy (now_from (now_after now x) fs) more u) (sym first) d) after in
+    let others = same_ends version (now_after now e) es fs rest more o u g.others
+    (subst (λ x. Keeps version (now_after now x) fs) (sym first) h.others)
+    c (subst (λ x. EndsBy version (now_from (now_after now x) fs) more u) (sym first) d) after in
     record { events = ap₂ (λ (x : Event) (xs : List Event). x ∷ xs) first others.events; rest_is = others.rest_is; end = others.end }
 
-kept : (es : List Event) → IsJournal es → Keeps 0 es
-kept es j = record { limits = j.limits; names = j.names; order = j.order }
+kept : (version : Version) (es : List Event) → IsJournal es → All (HasEvent version) es → Keeps version 0 es
+kept version es j has = record { has = has; limits = j.limits; names = j.names; order = j.order }
 
--- behind the first line
-pub same_texts : (es fs : List Event) (rest more : List ℕ) (o u : Option ScriptCause) → IsJournal es → IsJournal fs →
-    EndsBy (now_of es) rest o → EndsBy (now_of fs) more u → journal_text es ++ rest ≡ journal_text fs ++ more → Same es fs rest more o u
-same_texts es fs rest more o u a b c d text =
-    same_ends 0 es fs rest more o u (kept es a) (kept fs b) c d
-    (append_cancel_left first_line (events_text es ++ rest) (events_text fs ++ more)
-    (sym (append_assoc first_line (events_text es) rest) ∙ text ∙ append_assoc first_line (events_text fs) more))
+-- version 2 has all events
+all_two : (es : List Event) → All (HasEvent Two) es
+all_two es = λ k d within. has_two (get_or es k d)
 
--- a text spells one journal at most
-pub one_journal : (es fs : List Event) → IsJournal es → IsJournal fs → journal_text es ≡ journal_text fs → es ≡ fs
+-- texts of two versions begin with lines that differ
+one_two : ◌≡◌ {A = ℕ} 49 50 → ⊥
+one_two e = omega arith
+
+versions_differ : (x y : List ℕ) → first_line One ++ x ≡ first_line Two ++ y → ⊥
+versions_differ x y same = one_two (ap (λ (ts : List ℕ). get_or ts 15 0) same)
+
+-- what two versions of the same text have in common
+pub record Alike (v w : Version) (es fs : List Event) (rest more : List ℕ) (o u : Option ScriptCause) : Type 0 where
+  pub version : v ≡ w
+  pub same : Same es fs rest more o u
+
+same_in : (version : Version) (es fs : List Event) (rest more : List ℕ) (o u : Option ScriptCause) → IsJournal es → IsJournal fs → All (HasEvent version) es → All (HasEvent version) fs →
+    EndsBy version (now_of es) rest o → EndsBy version (now_of fs) more u → journal_text version es ++ rest ≡ journal_text version fs ++ more → Same es fs rest more o u
+same_in version es fs rest more o u a b es_has fs_has c d text =
+    same_ends version 0 es fs rest more o u (kept version es a es_has) (kept version fs b fs_has) c d
+    (append_cancel_left (first_line version) (events_text es ++ rest) (events_text fs ++ more)
+    (sym (append_assoc (first_line version) (events_text es) rest) ∙ text ∙ append_assoc (first_line version) (events_text fs) more))
+
+apart : (es fs : List Event) (rest more : List ℕ) → journal_text One es ++ rest ≡ journal_text Two fs ++ more → ⊥
+apart es fs rest more text =
+    versions_differ (events_text es ++ rest) (events_text fs ++ more) (sym (append_assoc (first_line One) (events_text es) rest) ∙ text ∙ append_assoc (first_line Two) (events_text fs) more)
+
+pub same_texts : (v w : Version) (es fs : List Event) (rest more : List ℕ) (o u : Option ScriptCause) → IsJournal es → IsJournal fs → All (HasEvent v) es → All (HasEvent w) fs →
+    EndsBy v (now_of es) rest o → EndsBy w (now_of fs) more u → journal_text v es ++ rest ≡ journal_text w fs ++ more → Alike v w es fs rest more o u
+same_texts One One es fs rest more o u a b g h c d text = record { version = refl; same = same_in One es fs rest more o u a b g h c d text }
+same_texts Two Two es fs rest more o u a b g h c d text = record { version = refl; same = same_in Two es fs rest more o u a b g h c d text }
+same_texts One Two es fs rest more o u a b g h c d text = absurd (apart es fs rest more text)
+same_texts Two One es fs rest more o u a b g h c d text = absurd (apart fs es more rest (sym text))
+
+-- a text spells one journal at most, and in one version
+same_version : (v w : Version) (es fs : List Event) → journal_text v es ≡ journal_text w fs → v ≡ w
+same_version One One es fs text = refl
+same_version Two Two es fs text = refl
+same_version One Two es fs text = absurd (apart es fs [] [] (append-nil (journal_text One es) ∙ text ∙ sym (append-nil (journal_text Two fs))))
+same_version Two One es fs text = absurd (apart fs es [] [] (append-nil (journal_text One fs) ∙ sym text ∙ sym (append-nil (journal_text Two es))))
+
+one_in : (version : Version) (es fs : List Event) → IsJournal es → IsJournal fs → journal_text version es ≡ journal_text version fs → es ≡ fs
 unfolding EndsBy
-one_journal es fs a b text =
-    let same = same_texts es fs [] [] None None a b refl refl (append-nil (journal_text es) ∙ text ∙ sym (append-nil (journal_text fs))) in same.events
+one_in version es fs a b text =
+    let events = append_cancel_left (first_line version) (events_text es) (events_text fs) text in
+    (same_ends Two 0 es fs [] [] None None (kept Two es a (all_two es)) (kept Two fs b (all_two fs)) refl refl (append-nil (events_text es) ∙ events ∙ sym (append-nil (events_text fs)))).events
+
+pub one_journal : (v w : Version) (es fs : List Event) → IsJournal es → IsJournal fs → journal_text v es ≡ journal_text w fs → (v ≡ w) × (es ≡ fs)
+one_journal v w es fs a b text =
+    let version = same_version v w es fs text in
+    (version, one_in w es fs a b (ap (λ z. journal_text z es) (sym version) ∙ text))
 
 -- one whose text begins another's begins that journal
-begin_from : (now : ℕ) (es fs : List Event) (rest : List ℕ) → Keeps now es → Keeps now fs → events_text es ++ rest ≡ events_text fs → Begins es fs
+begin_from : (now : ℕ) (es fs : List Event) (rest : List ℕ) → Keeps Two now es → Keeps Two now fs → events_text es ++ rest ≡ events_text fs → Begins es fs
 begin_from now [] fs rest a b text = (fs, refl)
 begin_from now (e ∷ es) [] rest a b text = absurd (spelling_some e (events_text es ++ rest) (sym (append_assoc (spelling e) (events_text es) rest) ∙ text))
 begin_from now (e ∷ es) (f ∷ fs) rest a b text =
-    let g = first_of now e es a in
-    let h = first_of now f fs b in
+    let g = first_of Two now e es a in
+    let h = first_of Two now f fs b in
     let whole : spelling e ++ (events_text es ++ rest) ≡ spelling f ++ events_text fs = sym (append_assoc (spelling e) (events_text es) rest) ∙ text in
     let oks : ◌≡◌ {A = Result (Event × List ℕ) ScriptCause} (Ok (e, events_text es ++ rest)) (Ok (f, events_text fs)) =
-    sym (event_in-follows now e (events_text es ++ rest) g.limits g.names g.follows) ∙ ap (event_in now) whole ∙ event_in-follows now f (events_text fs) h.limits h.names h.follows in
+    sym (event_in-follows Two now e (events_text es ++ rest) g.has g.limits g.names g.follows) ∙ ap (event_in Two now) whole ∙ event_in-follows Two now f (events_text fs) h.has h.limits h.names h.follows in
     let pairs : (e, events_text es ++ rest) ≡ (f, events_text fs) = same_ok {E = ScriptCause} (e, events_text es ++ rest) (f, events_text fs) oks in
     let first : e ≡ f = ap (λ p. p.0) pairs in
-    let after = begin_from (now_after now e) es fs rest g.others (subst (λ x. Keeps (now_after now x) fs) (sym first) h.others) (ap (λ p. p.1) pairs) in
+    let after = begin_from (now_after now e) es fs rest g.others (subst (λ x. Keeps Two (now_after now x) fs) (sym first) h.others) (ap (λ p. p.1) pairs) in
     (after.0, ap₂ (λ (x : Event) (xs : List Event). x ∷ xs) (sym first) after.1)
 
-pub begin_alike : (es fs : List Event) (rest : List ℕ) → IsJournal es → IsJournal fs → journal_text es ++ rest ≡ journal_text fs → Begins es fs
-begin_alike es fs rest a b text =
-    begin_from 0 es fs rest (kept es a) (kept fs b)
-    (append_cancel_left first_line (events_text es ++ rest) (events_text fs) (sym (append_assoc first_line (events_text es) rest) ∙ text))
+begin_in : (version : Version) (es fs : List Event) (rest : List ℕ) → IsJournal es → IsJournal fs → journal_text version es ++ rest ≡ journal_text version fs → Begins es fs
+begin_in version es fs rest a b text =
+    begin_from 0 es fs rest (kept Two es a (all_two es)) (kept Two fs b (all_two fs))
+    (append_cancel_left (first_line version) (events_text es ++ rest) (events_text fs) (sym (append_assoc (first_line version) (events_text es) rest) ∙ text))
+
+pub begin_alike : (v w : Version) (es fs : List Event) (rest : List ℕ) → IsJournal es → IsJournal fs → journal_text v es ++ rest ≡ journal_text w fs → Begins es fs
+begin_alike One One es fs rest a b text = begin_in One es fs rest a b text
+begin_alike Two Two es fs rest a b text = begin_in Two es fs rest a b text
+begin_alike One Two es fs rest a b text = absurd (apart es fs rest [] (text ∙ sym (append-nil (journal_text Two fs))))
+begin_alike Two One es fs rest a b text = absurd (apart fs es [] rest (append-nil (journal_text One fs) ∙ sym text))
 
 -- and an event's spelling begins with that of no other
 pub stand_apart : (e f : Event) (rest : List ℕ) → IsInLimits e → HasNames e → IsInLimits f → HasNames f → spelling e ++ rest ≡ spelling f → (e ≡ f) × (rest ≡ [])
 stand_apart e f rest e_limits e_names f_limits f_names text =
     let oks : ◌≡◌ {A = Result (Event × List ℕ) ScriptCause} (Ok (e, rest)) (Ok (f, [])) =
-    sym (event_in-follows 0 e rest e_limits e_names (omega arith)) ∙ ap (event_in 0) (text ∙ sym (append-nil (spelling f)))
-    ∙ event_in-follows 0 f [] f_limits f_names (omega arith) in
+    sym (event_in-follows Two 0 e rest (has_two e) e_limits e_names (omega arith)) ∙ ap (event_in Two 0) (text ∙ sym (append-nil (spelling f)))
+    ∙ event_in-follows Two 0 f [] (has_two f) f_limits f_names (omega arith) in
     let pairs : (e, rest) ≡ (f, []) = same_ok {E = ScriptCause} (e, rest) (f, []) oks in
     (ap (λ p. p.0) pairs, ap (λ p. p.1) pairs)
 
 -- where an event fails, the text is no journal's
 fails_none : (c : ScriptCause) (bytes : List ℕ) (offset : ℕ) → FailsAt bytes offset (Fails c) → SpellsNone bytes
 unfolding EndsBy
-fails_none c bytes offset at es journal text =
-    let same = same_texts at.events es at.rest [] (Some c) None at.journal journal (at.more, at.fails) refl (sym at.text ∙ sym text ∙ sym (append-nil (journal_text es))) in
-    none-some c (sym same.end)
+fails_none c bytes offset at = λ version es spells.
+    (let alike = same_texts at.version version at.events es at.rest [] (Some c) None at.journal spells.journal at.has spells.has (at.more, at.fails) refl
+    (sym at.text ∙ sym spells.text ∙ sym (append-nil (journal_text version es))) in
+    none-some c (sym alike.same.end))
 
 -- where an event fails, it fails nowhere else and for no other cause
 record SamePlace (c d : ScriptCause) (m n : ℕ) : Type 0 where
@@ -202,18 +260,21 @@ record SamePlace (c d : ScriptCause) (m n : ℕ) : Type 0 where
 fails_once : (c d : ScriptCause) (bytes : List ℕ) (m n : ℕ) → FailsAt bytes m (Fails c) → FailsAt bytes n (Fails d) → SamePlace c d m n
 unfolding EndsBy
 fails_once c d bytes m n a b =
-    let same = same_texts a.events b.events a.rest b.rest (Some c) (Some d) a.journal b.journal (a.more, a.fails) (b.more, b.fails) (sym a.text ∙ b.text) in
-    record { cause_is = same_Some c d same.end; offset_is = a.offset_is ∙ ap (λ es. length (journal_text es)) same.events ∙ sym b.offset_is }
+    let alike = same_texts a.version b.version a.events b.events a.rest b.rest (Some c) (Some d) a.journal b.journal a.has b.has (a.more, a.fails) (b.more, b.fails) (sym a.text ∙ b.text) in
+    record {
+      cause_is = same_Some c d alike.same.end;
+      offset_is = a.offset_is ∙ ap₂ (λ (v : Version) (es : List Event). length (journal_text v es)) alike.version alike.same.events ∙ sym b.offset_is;
+    }
 
 -- a fault behind the first line
-begins_first : (c : ScriptCause) (bytes : List ℕ) (offset : ℕ) → FailsAt bytes offset (Fails c) → (rest : List ℕ) × (bytes ≡ first_line ++ rest)
-begins_first c bytes offset at = (events_text at.events ++ at.rest, at.text ∙ append_assoc first_line (events_text at.events) at.rest)
+begins_first : (c : ScriptCause) (bytes : List ℕ) (offset : ℕ) → FailsAt bytes offset (Fails c) → (version : Version) × (rest : List ℕ) × (bytes ≡ first_line version ++ rest)
+begins_first c bytes offset at = (at.version, events_text at.events ++ at.rest, at.text ∙ append_assoc (first_line at.version) (events_text at.events) at.rest)
 
 same_fault : (a b : ScriptFault) → a.cause ≡ b.cause → a.offset ≡ b.offset → a ≡ b
 same_fault a b causes offsets = let fault : ScriptCause → ℕ → ScriptFault = λ c n. record { offset = n; cause = c } in ap₂ fault causes offsets
 
 header_alone : (c : ScriptCause) (bytes : List ℕ) (m n : ℕ) → IsFaultBy cause.Header bytes m → FailsAt bytes n (Fails c) → ⊥
-header_alone c bytes m n header at = let begins = begins_first c bytes n at in header.1 begins.0 begins.1
+header_alone c bytes m n header at = let begins = begins_first c bytes n at in header.1 begins.0 begins.1 begins.2
 
 -- a text has one fault at most
 faults_alike : (c d : ScriptCause) (bytes : List ℕ) (m n : ℕ) → IsFaultBy c bytes m → IsFaultBy d bytes n → SamePlace c d m n
@@ -236,7 +297,7 @@ faults_alike cause.Order cause.Order bytes m n a b = fails_once cause.Order caus
 
 -- a text with a fault is no journal's
 pub fault_none : (c : ScriptCause) (bytes : List ℕ) (offset : ℕ) → IsFaultBy c bytes offset → SpellsNone bytes
-fault_none cause.Header bytes offset fault = λ es journal text. fault.1 (events_text es) (sym text)
+fault_none cause.Header bytes offset fault = λ version es spells. fault.1 version (events_text es) (sym spells.text)
 fault_none cause.Line bytes offset fault = fails_none cause.Line bytes offset fault
 fault_none cause.Rest bytes offset fault = fails_none cause.Rest bytes offset fault
 fault_none cause.Order bytes offset fault = fails_none cause.Order bytes offset fault
@@ -250,12 +311,12 @@ only_fault bytes fault is = record {
 }
 
 -- the journal that was read is the only one
-pub only_journal : (bytes : List ℕ) (es : List Event) → IsJournal es → journal_text es ≡ bytes → IsJournalOf bytes es
-only_journal bytes es journal text = record {
-  journal = journal;
-  text = text;
-  only = λ others is spelled. one_journal others es is journal (spelled ∙ sym text);
-  sound = λ fault is. fault_none fault.cause bytes fault.offset is es journal text;
+pub only_journal : (bytes : List ℕ) (version : Version) (es : List Event) → Spells version es bytes → IsJournalOf bytes es
+only_journal bytes version es spells = record {
+  version = version;
+  spells = spells;
+  only = λ other others is. one_journal other version others es is.journal spells.journal (is.text ∙ sym spells.text);
+  sound = λ fault is. fault_none fault.cause bytes fault.offset is version es spells;
 }
 
 -- an event more
@@ -267,7 +328,7 @@ order-append : (now : ℕ) (es : List Event) (e : Event) → IsInOrderFrom now e
 order-append now [] e order follows = (follows, tt)
 order-append now (f ∷ fs) e order follows = (order.0, order-append (now_after now f) fs e order.1 follows)
 
-all_one : {X : Type 0} (P : X → Type 0) (x : X) → P x → All P (x ∷ [])
+pub all_one : {X : Type 0} (P : X → Type 0) (x : X) → P x → All P (x ∷ [])
 all_one P x p zero d within = p
 all_one P x p (suc k) d within = absurd (omega arith)
 
@@ -289,11 +350,11 @@ events_text-more [] e = append-nil (spelling e)
 events_text-more (f ∷ fs) e = ap (λ t. spelling f ++ t) (events_text-more fs e) ∙ sym (append_assoc (spelling f) (events_text fs) (spelling e))
 
 -- the text of a journal, with an event more
-pub journal_text-more : (es : List Event) (e : Event) (more : List ℕ) → journal_text (es ++ e ∷ []) ++ more ≡ journal_text es ++ (spelling e ++ more)
-journal_text-more es e more =
-    ap (λ t. (first_line ++ t) ++ more) (events_text-more es e)
-    ∙ ap (λ t. t ++ more) (sym (append_assoc first_line (events_text es) (spelling e)))
-    ∙ append_assoc (journal_text es) (spelling e) more
+pub journal_text-more : (version : Version) (es : List Event) (e : Event) (more : List ℕ) → journal_text version (es ++ e ∷ []) ++ more ≡ journal_text version es ++ (spelling e ++ more)
+journal_text-more version es e more =
+    ap (λ t. (first_line version ++ t) ++ more) (events_text-more es e)
+    ∙ ap (λ t. t ++ more) (sym (append_assoc (first_line version) (events_text es) (spelling e)))
+    ∙ append_assoc (journal_text version es) (spelling e) more
 
 moment_small : (m : ℤ) → IsMoment m → number m < 2 ^ 52
 moment_small (pos n) small = small
@@ -316,12 +377,13 @@ kept_more es last e kept limits names follows = record {
 }
 
 -- the text of the events up to a place, with the one at that place
-pub journal_text-next : (es : List Event) (i : ℕ) (e : Event) → i < length es → e ≡ get_or es i e → journal_text (take (i + 1) es) ≡ journal_text (take i es) ++ spelling e
-journal_text-next es i e within is =
-    ap journal_text (take_more es i e within ∙ ap (λ x. take i es ++ x ∷ []) (sym is))
-    ∙ sym (append-nil (journal_text (take i es ++ e ∷ [])))
-    ∙ journal_text-more (take i es) e []
-    ∙ ap (λ t. journal_text (take i es) ++ t) (append-nil (spelling e))
+pub journal_text-next : (version : Version) (es : List Event) (i : ℕ) (e : Event) → i < length es → e ≡ get_or es i e →
+    journal_text version (take (i + 1) es) ≡ journal_text version (take i es) ++ spelling e
+journal_text-next version es i e within is =
+    ap (journal_text version) (take_more es i e within ∙ ap (λ x. take i es ++ x ∷ []) (sym is))
+    ∙ sym (append-nil (journal_text version (take i es ++ e ∷ [])))
+    ∙ journal_text-more version (take i es) e []
+    ∙ ap (λ t. journal_text version (take i es) ++ t) (append-nil (spelling e))
 
 -- an event that comes behind others in a journal: it keeps its limits and may follow, and the others are a journal
 pub record Next (es : List Event) (e : Event) : Type 0 where

@@ -2,7 +2,8 @@
 use Rattle.std.specs.Prelude.{ℕ, ◌+◌, List, [], take, drop, slice_index, ◌&&◌, ◌==◌, nat_le, if◌then◌else◌, ℤ, Option, Some, None, Result, Ok, Err}
 use Rattle.std.specs.Str.{is_utf8}
 use Rattle.journal_text.specs.declared.lines.Line.{Line}
-use Rattle.journal_text.specs.declared.lines.Line.TheVariants.{Load, Targets, Tick, Sweep, Body, Lost, Garbled, Unsent, Oversize, Halt}
+use Rattle.journal_text.specs.declared.lines.Line.TheVariants.{Load, Targets, Tick, Sweep, Body, Quoted, Lost, Garbled, Unsent, Oversize, Halt}
+use Rattle.journal_text.specs.declared.versions.Version.{Version}
 use Rattle.journal_text.specs.declared.events.Event.{Event}
 use Rattle.journal_text.specs.declared.events.Event.TheVariants as event
 use Rattle.outside.specs.declared.replies.Reply.TheVariants as reply
@@ -22,6 +23,7 @@ content_len (Targets moment job file len) = job + file + len
 content_len (Tick moment life) = 0
 content_len (Sweep moment) = 0
 content_len (Body took ticket status len) = len
+content_len (Quoted took ticket status len) = len
 content_len (Lost took ticket) = 0
 content_len (Garbled took ticket) = 0
 content_len (Unsent took ticket) = 0
@@ -35,6 +37,7 @@ content_after (Targets moment job file len) bytes = block (job + file + len) byt
 content_after (Tick moment life) bytes = Some ([], bytes)
 content_after (Sweep moment) bytes = Some ([], bytes)
 content_after (Body took ticket status len) bytes = block len bytes
+content_after (Quoted took ticket status len) bytes = block len bytes
 content_after (Lost took ticket) bytes = Some ([], bytes)
 content_after (Garbled took ticket) bytes = Some ([], bytes)
 content_after (Unsent took ticket) bytes = Some ([], bytes)
@@ -52,6 +55,7 @@ event_with (Targets moment job file len) content = targets_with moment (take job
 event_with (Tick moment life) content = Some (event.Tick moment life)
 event_with (Sweep moment) content = Some (event.Sweep moment)
 event_with (Body took ticket status len) content = Some (event.Finish ticket took (reply.Body status content))
+event_with (Quoted took ticket status len) content = Some (event.Finish ticket took (reply.Quoted status content))
 event_with (Lost took ticket) content = Some (event.Finish ticket took reply.Lost)
 event_with (Garbled took ticket) content = Some (event.Finish ticket took reply.Garbled)
 event_with (Unsent took ticket) content = Some (event.Finish ticket took reply.Unsent)
@@ -74,6 +78,6 @@ abbrev pub line_or : ℕ → Option (Line × List ℕ) → Result (Event × List
 line_or now None = Err cause.Line
 line_or now (Some p) = content_or now p.0 (content_after p.0 p.1)
 
--- the first event of a text, and what follows it, or why none is read: the line, then the rest, then the order
-unfoldable pub event_in : ℕ → List ℕ → Result (Event × List ℕ) ScriptCause
-event_in now bytes = line_or now (line_in bytes)
+-- the first event of a text of a version, and what follows it, or why none is read: the line, then the rest, then the order
+unfoldable pub event_in : Version → ℕ → List ℕ → Result (Event × List ℕ) ScriptCause
+event_in version now bytes = line_or now (line_in version bytes)

@@ -4,10 +4,12 @@ use Rattle.std.specs.Str.{IsUtf8}
 use Rattle.journal_text.specs.declared.events.Event.{Event}
 use Rattle.journal_text.specs.declared.events.Event.TheVariants.{Load, Targets, Tick, Sweep, Finish, Halt}
 use Rattle.outside.specs.declared.replies.Reply.{Reply}
-use Rattle.outside.specs.declared.replies.Reply.TheVariants.{Body, Lost, Garbled, Unsent, Oversize}
+use Rattle.outside.specs.declared.replies.Reply.TheVariants.{Body, Quoted, Lost, Garbled, Unsent, Oversize}
 use Rattle.journal_text.specs.declared.lines.Line.{Line}
 use Rattle.journal_text.specs.declared.lines.Line.TheVariants as line
 use Rattle.journal_text.specs.Lines.{number, line_text, InRange}
+use Rattle.journal_text.specs.Versions.{first_line}
+use Rattle.journal_text.specs.declared.versions.Version.{Version}
 
 -- when an event comes; a finish has no moment
 abbrev pub moment_of : Event → Option ℕ
@@ -21,6 +23,7 @@ moment_of (Halt moment) = Some (number moment)
 -- the line of a finish
 abbrev pub finish_line : ℕ → ℤ → Reply → Line
 finish_line ticket took (Body status bytes) = line.Body took ticket status (length bytes)
+finish_line ticket took (Quoted status bytes) = line.Quoted took ticket status (length bytes)
 finish_line ticket took Lost = line.Lost took ticket
 finish_line ticket took Garbled = line.Garbled took ticket
 finish_line ticket took Unsent = line.Unsent took ticket
@@ -38,6 +41,7 @@ line_of (Halt moment) = line.Halt moment
 -- the body of a reply and a line feed
 abbrev pub body_after : Reply → List ℕ
 body_after (Body status bytes) = bytes ++ 10 ∷ []
+body_after (Quoted status bytes) = bytes ++ 10 ∷ []
 body_after Lost = []
 body_after Garbled = []
 body_after Unsent = []
@@ -56,18 +60,14 @@ rest_of (Halt moment) = []
 abbrev pub spelling : Event → List ℕ
 spelling event = line_text (line_of event) ++ rest_of event
 
--- the first line of a journal's text
-abbrev pub first_line : List ℕ
-first_line = codes "scrape-journal 1" ++ 10 ∷ []
-
 -- the events as text, one after another
 abbrev pub events_text : List Event → List ℕ
 events_text [] = []
 events_text (e ∷ es) = spelling e ++ events_text es
 
--- a journal as text
-abbrev pub journal_text : List Event → List ℕ
-journal_text es = first_line ++ events_text es
+-- a journal as text of a version
+abbrev pub journal_text : Version → List Event → List ℕ
+journal_text version es = first_line version ++ events_text es
 
 -- the numbers and lengths of an event keep their limits
 abbrev pub IsInLimits : Event → Type 0

@@ -1,5 +1,5 @@
 -- Where a text that is no journal's has its fault, by whole events, and what reading a text tells.
-use Rattle.std.specs.Prelude.{ℕ, ◌≡◌, ◌≢◌, ◌<◌, List, [], ◌++◌, length, Option, Some, None, Result, Err}
+use Rattle.std.specs.Prelude.{ℕ, ◌≡◌, ◌≢◌, ◌<◌, All, List, [], ◌++◌, length, Option, Some, None, Result, Err}
 use Rattle.journal_text.specs.declared.lines.Line.{Line}
 use Rattle.journal_text.specs.declared.events.Event.{Event}
 use Rattle.journal_text.specs.declared.faults.ScriptCause.{ScriptCause}
@@ -8,46 +8,50 @@ use Rattle.journal_text.specs.declared.faults.ScriptFault.{ScriptFault}
 use Rattle.journal_text.specs.declared.faults.ScriptError.{ScriptError}
 use Rattle.journal_text.specs.declared.faults.ScriptError.TheVariants.{Bad, NoMemory}
 use Rattle.journal_text.specs.Lines.{line_text, InRange}
-use Rattle.journal_text.specs.Events.{spelling, first_line, journal_text, IsInLimits, HasNames, now_after, now_of, IsJournal}
+use Rattle.journal_text.specs.Versions.{first_line, HasEvent, HasLine}
+use Rattle.journal_text.specs.declared.versions.Version.{Version}
+use Rattle.journal_text.specs.Events.{spelling, journal_text, IsInLimits, HasNames, now_after, now_of, IsJournal}
 
--- a line of the table begins here, ended and with its numbers in range
-abbrev pub BeginsLine : List ℕ → Type 0
-BeginsLine bytes = (line : Line) × (rest : List ℕ) × InRange line × (bytes ≡ line_text line ++ rest)
+-- a line that the version has begins here, ended and with its numbers in range
+abbrev pub BeginsLine : Version → List ℕ → Type 0
+BeginsLine version bytes = (line : Line) × (rest : List ℕ) × HasLine version line × InRange line × (bytes ≡ line_text line ++ rest)
 
 -- an event begins here: its line, its content and the line feed behind that, with names that are text
-abbrev pub BeginsEvent : List ℕ → Type 0
-BeginsEvent bytes = (e : Event) × (rest : List ℕ) × IsInLimits e × HasNames e × (bytes ≡ spelling e ++ rest)
+abbrev pub BeginsEvent : Version → List ℕ → Type 0
+BeginsEvent version bytes = (e : Event) × (rest : List ℕ) × HasEvent version e × IsInLimits e × HasNames e × (bytes ≡ spelling e ++ rest)
 
 -- an event begins here whose moment is before `now`
-abbrev pub BeginsEarlier : ℕ → List ℕ → Type 0
-BeginsEarlier now bytes = (e : Event) × (rest : List ℕ) × IsInLimits e × HasNames e × (bytes ≡ spelling e ++ rest) × (now_after now e < now)
+abbrev pub BeginsEarlier : Version → ℕ → List ℕ → Type 0
+BeginsEarlier version now bytes = (e : Event) × (rest : List ℕ) × HasEvent version e × IsInLimits e × HasNames e × (bytes ≡ spelling e ++ rest) × (now_after now e < now)
 
 -- the text of a journal ends at the offset, more follows, and no event of that journal can begin there, for this reason
-pub record FailsAt (bytes : List ℕ) (offset : ℕ) (Why : ℕ → List ℕ → Type 0) : Type 0 where
+pub record FailsAt (bytes : List ℕ) (offset : ℕ) (Why : Version → ℕ → List ℕ → Type 0) : Type 0 where
+  pub version : Version
   pub events : List Event
   pub rest : List ℕ
   pub journal : IsJournal events
-  pub text : bytes ≡ journal_text events ++ rest
-  pub offset_is : offset ≡ length (journal_text events)
+  pub has : All (HasEvent version) events
+  pub text : bytes ≡ journal_text version events ++ rest
+  pub offset_is : offset ≡ length (journal_text version events)
   pub more : rest ≢ []
-  pub fails : Why (now_of events) rest
+  pub fails : Why version (now_of events) rest
 
 -- why no event can begin here, where the last moment is `now`: no line does; or a line does, but not as many bytes as it
 -- announces with a line feed behind them, or names that aren't text; or a whole event does, whose moment goes back
-abbrev pub Fails : ScriptCause → ℕ → List ℕ → Type 0
-Fails Header now rest = ⊥
-Fails LineCause now rest = ¬ BeginsLine rest
-Fails Rest now rest = BeginsLine rest × (¬ BeginsEvent rest)
-Fails Order now rest = BeginsEarlier now rest
+abbrev pub Fails : ScriptCause → Version → ℕ → List ℕ → Type 0
+Fails Header version now rest = ⊥
+Fails LineCause version now rest = ¬ BeginsLine version rest
+Fails Rest version now rest = BeginsLine version rest × (¬ BeginsEvent version rest)
+Fails Order version now rest = BeginsEarlier version now rest
 
 -- how bytes go on behind whole events, where the last moment is `now`: not at all, or with what can't be an event, for this reason
-unfoldable pub EndsBy : ℕ → List ℕ → Option ScriptCause → Type 0
-EndsBy now rest None = rest ≡ []
-EndsBy now rest (Some c) = (rest ≢ []) × Fails c now rest
+unfoldable pub EndsBy : Version → ℕ → List ℕ → Option ScriptCause → Type 0
+EndsBy version now rest None = rest ≡ []
+EndsBy version now rest (Some c) = (rest ≢ []) × Fails c version now rest
 
--- the text doesn't begin with the first line, which is a fault at 0, or no event can begin behind a journal's text
+-- the text begins with the first line of no version, which is a fault at 0, or no event can begin behind a journal's text
 abbrev pub IsFaultBy : ScriptCause → List ℕ → ℕ → Type 0
-IsFaultBy Header bytes offset = (offset ≡ 0) × ((rest : List ℕ) → bytes ≢ first_line ++ rest)
+IsFaultBy Header bytes offset = (offset ≡ 0) × ((version : Version) (rest : List ℕ) → bytes ≢ first_line version ++ rest)
 IsFaultBy LineCause bytes offset = FailsAt bytes offset (Fails LineCause)
 IsFaultBy Rest bytes offset = FailsAt bytes offset (Fails Rest)
 IsFaultBy Order bytes offset = FailsAt bytes offset (Fails Order)
@@ -56,15 +60,21 @@ IsFaultBy Order bytes offset = FailsAt bytes offset (Fails Order)
 abbrev pub IsFault : List ℕ → ScriptFault → Type 0
 IsFault bytes fault = IsFaultBy fault.cause bytes fault.offset
 
+-- a journal has this text in a version
+pub record Spells (version : Version) (es : List Event) (bytes : List ℕ) : Type 0 where
+  pub journal : IsJournal es
+  pub has : All (HasEvent version) es
+  pub text : journal_text version es ≡ bytes
+
 -- no journal has this text
 abbrev pub SpellsNone : List ℕ → Type 0
-SpellsNone bytes = (es : List Event) → IsJournal es → journal_text es ≢ bytes
+SpellsNone bytes = (version : Version) (es : List Event) → ¬ (Spells version es bytes)
 
--- the journal of a text: it has this text, and is the only one, and the text has no fault
+-- the journal of a text: it has this text in one version, and is the only one, and the text has no fault
 pub record IsJournalOf (bytes : List ℕ) (es : List Event) : Type 0 where
-  pub journal : IsJournal es
-  pub text : journal_text es ≡ bytes
-  pub only : (others : List Event) → IsJournal others → journal_text others ≡ bytes → others ≡ es
+  pub version : Version
+  pub spells : Spells version es bytes
+  pub only : (other : Version) (others : List Event) → Spells other others bytes → (other ≡ version) × (others ≡ es)
   pub sound : (fault : ScriptFault) → ¬ IsFault bytes fault
 
 -- the one fault of a text, which is no journal's

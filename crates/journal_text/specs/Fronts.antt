@@ -1,20 +1,24 @@
 -- What a text that was cut, or went wrong, still gives: the events before the first that isn't read.
-use Rattle.std.specs.Prelude.{ℕ, ◌≡◌, ◌≢◌, List, ◌++◌, length, Option, Some, None}
+use Rattle.std.specs.Prelude.{ℕ, ◌≡◌, ◌≢◌, All, List, ◌++◌, length, Option, Some, None}
 use Rattle.journal_text.specs.declared.events.Event.{Event}
 use Rattle.journal_text.specs.declared.faults.ScriptCause.{ScriptCause}
 use Rattle.journal_text.specs.declared.faults.ScriptCause.TheVariants.{Header}
 use Rattle.journal_text.specs.declared.faults.ScriptFault.{ScriptFault}
 use Rattle.journal_text.specs.declared.faults.ScriptError.{ScriptError}
 use Rattle.journal_text.specs.declared.faults.ScriptError.TheVariants.{Bad, NoMemory}
-use Rattle.journal_text.specs.Events.{first_line, journal_text, now_of, IsJournal}
-use Rattle.journal_text.specs.Faults.{EndsBy, IsJournalOf, IsOnlyFault}
+use Rattle.journal_text.specs.Events.{journal_text, now_of, IsJournal}
+use Rattle.journal_text.specs.Versions.{first_line, HasEvent}
+use Rattle.journal_text.specs.declared.versions.Version.{Version}
+use Rattle.journal_text.specs.Faults.{EndsBy, IsJournalOf, IsOnlyFault, Spells}
 
 -- the text is a journal's and then bytes that it doesn't go on with: none, or such as can't be its next event
 pub record StopsBehind (bytes : List ℕ) (es : List Event) (rest : List ℕ) : Type 0 where
+  pub version : Version
   pub end : Option ScriptCause
   pub journal : IsJournal es
-  pub text : bytes ≡ journal_text es ++ rest
-  pub ends : EndsBy (now_of es) rest end
+  pub has : All (HasEvent version) es
+  pub text : bytes ≡ journal_text version es ++ rest
+  pub ends : EndsBy version (now_of es) rest end
 
 -- one journal begins another
 abbrev pub Begins : List Event → List Event → Type 0
@@ -26,12 +30,12 @@ pub record IsFrontOf (bytes : List ℕ) (es : List Event) (left : ℕ) : Type 0 
   pub stops : StopsBehind bytes es rest
   pub left_is : left ≡ length rest
   pub only : (others : List Event) (more : List ℕ) → StopsBehind bytes others more → others ≡ es
-  pub cut : (fs : List Event) (gone : List ℕ) → IsJournal fs → journal_text fs ≡ bytes ++ gone → Begins es fs
+  pub cut : (version : Version) (fs : List Event) (gone : List ℕ) → Spells version fs (bytes ++ gone) → Begins es fs
 
--- the fault of a text that doesn't begin with the first line, which has no front
+-- the fault of a text that begins with the first line of no version, which has no front
 pub record IsHeadless (bytes : List ℕ) (fault : ScriptFault) : Type 0 where
   pub fault_is : fault ≡ record { offset = 0; cause = Header }
-  pub lacks : (rest : List ℕ) → bytes ≢ first_line ++ rest
+  pub lacks : (version : Version) (rest : List ℕ) → bytes ≢ first_line version ++ rest
 
 -- a text has no front for this fault, or memory ran out
 abbrev pub LacksHeader : List ℕ → ScriptError → Type 0

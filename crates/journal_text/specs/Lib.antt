@@ -1,6 +1,7 @@
 pub mod Lines
 pub mod Events
 pub mod NumberReadings
+pub mod Versions
 pub mod LineReadings
 pub mod EventReadings
 pub mod Faults

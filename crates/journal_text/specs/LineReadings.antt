@@ -3,7 +3,9 @@ use Rattle.std.specs.Prelude.{ℕ, List, length, drop, nat_eq, if◌then◌else�
 use Rattle.std.specs.List.{starts_with}
 use Rattle.std.specs.Option.{option_map_or}
 use Rattle.journal_text.specs.declared.lines.Line.{Line}
-use Rattle.journal_text.specs.declared.lines.Line.TheVariants.{Load, Targets, Tick, Sweep, Body, Lost, Garbled, Unsent, Oversize, Halt}
+use Rattle.journal_text.specs.declared.lines.Line.TheVariants.{Load, Targets, Tick, Sweep, Body, Quoted, Lost, Garbled, Unsent, Oversize, Halt}
+use Rattle.journal_text.specs.declared.versions.Version.{Version}
+use Rattle.journal_text.specs.declared.versions.Version.TheVariants.{One, Two}
 use Rattle.outside.specs.Sizes.{most_name_bytes, most_text_bytes, most_body_bytes}
 use Rattle.journal_text.specs.NumberReadings.{field, moment_field, word_field}
 
@@ -37,6 +39,12 @@ body_line bytes =
     (word_field 32 m.1))
     (moment_field 32 bytes)
 
+unfoldable pub quoted_line : List ℕ → Option (Line × List ℕ)
+quoted_line bytes =
+    option_and_then
+    (λ m. option_and_then (λ t. option_and_then (λ s. option_map (λ n. (Quoted m.0 t.0 s.0 n.0, n.1)) (field 0 most_body_bytes 10 s.1)) (field 100 999 32 t.1)) (word_field 32 m.1))
+    (moment_field 32 bytes)
+
 unfoldable pub lost_line : List ℕ → Option (Line × List ℕ)
 lost_line bytes = option_map (λ p. (Lost p.0 p.1, p.2)) (pair_fields bytes)
 
@@ -60,13 +68,18 @@ after word bytes = if starts_with nat_eq bytes word then Some (drop (length word
 abbrev pub behind : List ℕ → (List ℕ → Option (Line × List ℕ)) → List ℕ → Option (Line × List ℕ) → Option (Line × List ℕ)
 behind word read bytes other = option_map_or read (after word bytes) other
 
--- the line that bytes begin with, and what follows it: first of the lines with a moment, then of those of a finish
+-- the line that bytes of version 1 begin with, and what follows it: first of the lines with a moment, then of those of a finish
 unfoldable pub finish_line_in : List ℕ → Option (Line × List ℕ)
 finish_line_in bytes =
     behind (codes "body ") body_line bytes (behind (codes "lost ") lost_line bytes (behind (codes "garbled ") garbled_line bytes
     (behind (codes "unsent ") unsent_line bytes (behind (codes "oversize ") oversize_line bytes None))))
 
-unfoldable pub line_in : List ℕ → Option (Line × List ℕ)
-line_in bytes =
+unfoldable pub first_line_in : List ℕ → Option (Line × List ℕ)
+first_line_in bytes =
     behind (codes "load ") load_line bytes (behind (codes "targets ") targets_line bytes (behind (codes "tick ") tick_line bytes
     (behind (codes "sweep ") sweep_line bytes (behind (codes "halt ") halt_line bytes (finish_line_in bytes)))))
+
+-- so of a version, the second of which has one line more
+unfoldable pub line_in : Version → List ℕ → Option (Line × List ℕ)
+line_in One bytes = first_line_in bytes
+line_in Two bytes = behind (codes "quoted ") quoted_line bytes (first_line_in bytes)

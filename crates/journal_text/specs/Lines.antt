@@ -1,11 +1,11 @@
--- The lines of a journal's text, which is a format of this project's own, version 1:
+-- The lines of a journal's text, which is a format of this project's own:
 -- a word, then numbers in decimal with no sign and no leading zero, each behind one blank, then a line feed.
 use Rattle.std.specs.Prelude.{ℕ, ◌<◌, ◌≤◌, ◌^◌, List, [], ◌∷◌, ◌++◌, codes, ℤ, pos, negsuc}
 use Rattle.std.specs.Fmt.{decimal}
 pub use Rattle.value_text.specs.Numbers.{number}
 use Rattle.outside.specs.Sizes.{most_name_bytes, most_text_bytes, most_body_bytes}
 use Rattle.journal_text.specs.declared.lines.Line.{Line}
-use Rattle.journal_text.specs.declared.lines.Line.TheVariants.{Load, Targets, Tick, Sweep, Body, Lost, Garbled, Unsent, Oversize, Halt}
+use Rattle.journal_text.specs.declared.lines.Line.TheVariants.{Load, Targets, Tick, Sweep, Body, Quoted, Lost, Garbled, Unsent, Oversize, Halt}
 
 -- the numbers in decimal, each behind a blank, and the line feed that ends the line
 abbrev pub numbers_text : List ℕ → List ℕ
@@ -23,6 +23,7 @@ line_text (Targets moment job file len) = worded (codes "targets") (number momen
 line_text (Tick moment life) = worded (codes "tick") (number moment ∷ life ∷ [])
 line_text (Sweep moment) = worded (codes "sweep") (number moment ∷ [])
 line_text (Body took ticket status len) = worded (codes "body") (number took ∷ ticket ∷ status ∷ len ∷ [])
+line_text (Quoted took ticket status len) = worded (codes "quoted") (number took ∷ ticket ∷ status ∷ len ∷ [])
 line_text (Lost took ticket) = worded (codes "lost") (number took ∷ ticket ∷ [])
 line_text (Garbled took ticket) = worded (codes "garbled") (number took ∷ ticket ∷ [])
 line_text (Unsent took ticket) = worded (codes "unsent") (number took ∷ ticket ∷ [])
@@ -61,6 +62,7 @@ InRange (Targets moment job file len) = IsMoment moment × IsNameLength job × I
 InRange (Tick moment life) = IsMoment moment × IsWord life
 InRange (Sweep moment) = IsMoment moment
 InRange (Body took ticket status len) = IsMoment took × IsWord ticket × IsStatus status × IsBodyLength len
+InRange (Quoted took ticket status len) = IsMoment took × IsWord ticket × IsStatus status × IsBodyLength len
 InRange (Lost took ticket) = IsMoment took × IsWord ticket
 InRange (Garbled took ticket) = IsMoment took × IsWord ticket
 InRange (Unsent took ticket) = IsMoment took × IsWord ticket

@@ -5,7 +5,7 @@ use label_set::NoMemory;
 /// What is wrong where a text stops to be a journal's.
 #[derive(Clone, Copy, PartialEq, Eq, Debug)]
 pub enum ScriptCause {
-    /// The text doesn't begin with the first line of a journal.
+    /// The text begins with the first line of no version of a journal's text.
     Header,
     /// No line of an event begins here.
     Line,

@@ -9,9 +9,6 @@ use std::alloc::Global;
 use std::marker::Model;
 use value_text::to_number;
 
-/// The first line of a journal's text.
-pub(crate) const FIRST_LINE: &[u8] = b"scrape-journal 1\n";
-
 /// The events of a run so far. Each keeps its limits, and moments never go back.
 /// Contracts see the list of its events, and for how many more it has room.
 #[derive(Drop, Debug)]

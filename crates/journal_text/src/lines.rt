@@ -5,6 +5,7 @@ ghost use Rattle.journal_text.specs.LineReadings as spec;
 ghost use Rattle.journal_text.specs.declared.lines.Line.{Line};
 
 use crate::numbers::{field, moment};
+use crate::versions::Version;
 use outside::{MOST_BODY_BYTES, MOST_NAME_BYTES, MOST_TEXT_BYTES};
 
 /// The line that an event begins with. Lengths are in bytes.
@@ -28,6 +29,12 @@ pub enum Line {
         moment: i64,
     },
     Body {
+        took: i64,
+        ticket: u64,
+        status: u16,
+        len: usize,
+    },
+    Quoted {
         took: i64,
         ticket: u64,
         status: u16,
@@ -103,6 +110,24 @@ fn body_line(bytes: &[u8]) -> Option<(Line, &[u8])>
     let (status, rest) = field(rest, 100, 999, b' ')?;
     let (len, rest) = field(rest, 0, MOST_BODY_BYTES, b'\n')?;
     let line = Line::Body {
+        took,
+        ticket,
+        status: status as u16,
+        len: len as usize,
+    };
+    Some((line, rest))
+}
+
+/// The numbers of a finish with a body that may have names in quotes.
+#[tactic(auto, unfolding(crate::specs::LineReadings::quoted_line))]
+fn quoted_line(bytes: &[u8]) -> Option<(Line, &[u8])>
+    ensures { option_map {U = Line × List ℕ} (λ p. (p.0, p.1.now)) result ≡ spec.quoted_line bytes.now }
+{
+    let (took, rest) = moment(bytes, b' ')?;
+    let (ticket, rest) = field(rest, 0, u64::MAX, b' ')?;
+    let (status, rest) = field(rest, 100, 999, b' ')?;
+    let (len, rest) = field(rest, 0, MOST_BODY_BYTES, b'\n')?;
+    let line = Line::Quoted {
         took,
         ticket,
         status: status as u16,
@@ -202,10 +227,10 @@ fn read_finish_line(bytes: &[u8]) -> Option<(Line, &[u8])>
     oversize_line(after(b"oversize ", bytes)?)
 }
 
-/// The line of any kind that bytes begin with, and what follows it.
-#[tactic(auto, unfolding(crate::specs::LineReadings::line_in))]
-fn read_any_line(bytes: &[u8]) -> Option<(Line, &[u8])>
-    ensures { option_map {U = Line × List ℕ} (λ p. (p.0, p.1.now)) result ≡ spec.line_in bytes.now }
+/// The line of any kind that bytes of version 1 begin with, and what follows it.
+#[tactic(auto, unfolding(crate::specs::LineReadings::first_line_in))]
+fn read_first_line(bytes: &[u8]) -> Option<(Line, &[u8])>
+    ensures { option_map {U = Line × List ℕ} (λ p. (p.0, p.1.now)) result ≡ spec.first_line_in bytes.now }
 {
     if let Some(rest) = after(b"load ", bytes) {
         return load_line(rest);
@@ -225,10 +250,24 @@ fn read_any_line(bytes: &[u8]) -> Option<(Line, &[u8])>
     read_finish_line(bytes)
 }
 
-/// The line that bytes begin with, and what follows it.
-pub(crate) fn read_line(bytes: &[u8]) -> Option<(Line, &[u8])>
-    ensures value { option_map {U = Line × List ℕ} (λ p. (p.0, p.1.now)) result ≡ spec.line_in bytes.now }
+/// The line of any kind that bytes of a version begin with, and what follows it.
+#[tactic(auto, unfolding(crate::specs::LineReadings::line_in))]
+fn read_any_line(version: Version, bytes: &[u8]) -> Option<(Line, &[u8])>
+    ensures { option_map {U = Line × List ℕ} (λ p. (p.0, p.1.now)) result ≡ spec.line_in version bytes.now }
+{
+    match version {
+        Version::One => read_first_line(bytes),
+        Version::Two => match after(b"quoted ", bytes) {
+            Some(rest) => quoted_line(rest),
+            None => read_first_line(bytes),
+        },
+    }
+}
+
+/// The line that bytes of a version begin with, and what follows it.
+pub(crate) fn read_line(version: Version, bytes: &[u8]) -> Option<(Line, &[u8])>
+    ensures value { option_map {U = Line × List ℕ} (λ p. (p.0, p.1.now)) result ≡ spec.line_in version bytes.now }
     ensures range { IfSome result (λ p. InRange p.0) }
 {
-    read_any_line(bytes)
+    read_any_line(version, bytes)
 }

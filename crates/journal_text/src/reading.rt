@@ -10,8 +10,9 @@ ghost use Rattle.journal_text.specs.Fronts.{IsFrontOf, IsWrong, LacksHeader};
 
 use crate::events::Event;
 use crate::faults::{ScriptCause, ScriptError, ScriptFault};
-use crate::journal::{FIRST_LINE, Journal, now_after};
+use crate::journal::{Journal, now_after};
 use crate::lines::{Line, read_line};
+use crate::versions::{Version, version_of};
 use label_set::{Blob, Name, NoMemory};
 use outside::Reply;
 use std::alloc::Global;
@@ -39,6 +40,7 @@ fn content(line: Line, bytes: &[u8]) -> Option<(&[u8], &[u8])>
         Line::Load { len, .. } => block(bytes, len),
         Line::Targets { job, file, len, .. } => block(bytes, job + file + len),
         Line::Body { len, .. } => block(bytes, len),
+        Line::Quoted { len, .. } => block(bytes, len),
         Line::Tick { .. } => Some((&bytes[..0], bytes)),
         Line::Sweep { .. } => Some((&bytes[..0], bytes)),
         Line::Lost { .. } => Some((&bytes[..0], bytes)),
@@ -106,6 +108,15 @@ fn event_with(alloc: Global, line: Line, content: &[u8]) -> Result<Option<Event>
             let bytes = Blob::from_slice(alloc, content)?;
             finish(took, ticket, Reply::Body { status, bytes })
         }
+        Line::Quoted {
+            took,
+            ticket,
+            status,
+            ..
+        } => {
+            let bytes = Blob::from_slice(alloc, content)?;
+            finish(took, ticket, Reply::Quoted { status, bytes })
+        }
         Line::Lost { took, ticket } => finish(took, ticket, Reply::Lost),
         Line::Garbled { took, ticket } => finish(took, ticket, Reply::Garbled),
         Line::Unsent { took, ticket } => finish(took, ticket, Reply::Unsent),
@@ -136,13 +147,14 @@ fn fault(offset: u64, cause: ScriptCause) -> ScriptError
 #[tactic(auto, unfolding(crate::specs::EventReadings::event_in))]
 fn next_event(
     alloc: Global,
+    version: Version,
     now: u64,
     offset: u64,
     bytes: &[u8],
 ) -> Result<(Event, &[u8]), ScriptError>
-    ensures { MatchResult result (λ p. event_in now bytes.now ≡ Ok (p.0, p.1.now)) (λ e. StopsFor offset (event_in now bytes.now) e) }
+    ensures { MatchResult result (λ p. event_in version now bytes.now ≡ Ok (p.0, p.1.now)) (λ e. StopsFor offset (event_in version now bytes.now) e) }
 {
-    let Some((line, rest)) = read_line(bytes) else {
+    let Some((line, rest)) = read_line(version, bytes) else {
         return Err(fault(offset, ScriptCause::Line));
     };
     let Some((content, more)) = content(line, rest) else {
@@ -171,13 +183,13 @@ fn read_events(alloc: Global, bytes: &[u8]) -> Result<Beginning<'_>, ScriptError
     ensures fault { IfOk result (λ b. IsWrong bytes.now b.journal.events b.fault) }
     ensures refused { IfErr result (λ e. LacksHeader bytes.now e) }
 {
-    let Some(mut rest) = bytes.strip_prefix(FIRST_LINE) else {
+    let Some((version, mut rest)) = version_of(bytes) else {
         return Err(fault(0, ScriptCause::Header));
     };
     let mut journal = Journal::new(alloc);
     while !rest.is_empty() {
         let offset = (bytes.len() - rest.len()) as u64;
-        match next_event(alloc, journal.last_moment(), offset, rest) {
+        match next_event(alloc, version, journal.last_moment(), offset, rest) {
             Err(ScriptError::NoMemory) => return Err(ScriptError::NoMemory),
             Err(ScriptError::Bad(fault)) => {
                 let fault = Some(fault);
@@ -224,7 +236,7 @@ pub struct Front {
     pub rest: u64,
 }
 
-/// The front of a text that was cut, or that goes wrong somewhere. Only a text that doesn't begin with the first line of a journal has none:
+/// The front of a text that was cut, or that goes wrong somewhere. Only a text that begins with the first line of no version has none:
 /// its fault is `Header` at 0.
 pub fn read_front(alloc: Global, bytes: &[u8]) -> Result<Front, ScriptError>
     ensures front { IfOk result (λ f. IsFrontOf bytes.now f.journal.events f.rest) }

@@ -6,8 +6,9 @@ ghost use Rattle.journal_text.specs.Events.{journal_text, rest_of};
 ghost use Rattle.journal_text.specs.Laws.{BeginAlike, SpellsOne, StandApart};
 
 use crate::events::Event;
-use crate::journal::{FIRST_LINE, Journal};
+use crate::journal::Journal;
 use crate::lines::Line;
+use crate::versions::{Version, first_line};
 use label_set::{Blob, NoMemory};
 use outside::Reply;
 use std::alloc::Global;
@@ -19,6 +20,12 @@ fn finish_line(ticket: u64, took: i64, reply: &Reply) -> Line
 {
     match reply {
         Reply::Body { status, bytes } => Line::Body {
+            took,
+            ticket,
+            status: *status,
+            len: bytes.as_slice().len(),
+        },
+        Reply::Quoted { status, bytes } => Line::Quoted {
             took,
             ticket,
             status: *status,
@@ -105,6 +112,16 @@ fn line_text(alloc: Global, line: Line) -> Result<String, NoMemory>
             "body",
             &[to_number(took), ticket, u64::from(status), len as u64],
         ),
+        Line::Quoted {
+            took,
+            ticket,
+            status,
+            len,
+        } => worded(
+            alloc,
+            "quoted",
+            &[to_number(took), ticket, u64::from(status), len as u64],
+        ),
         Line::Lost { took, ticket } => worded(alloc, "lost", &[to_number(took), ticket]),
         Line::Garbled { took, ticket } => worded(alloc, "garbled", &[to_number(took), ticket]),
         Line::Unsent { took, ticket } => worded(alloc, "unsent", &[to_number(took), ticket]),
@@ -139,6 +156,7 @@ fn push_rest(text: &mut Vec<u8>, event: &Event) -> Result<(), NoMemory>
         }
         Event::Finish { reply, .. } => match reply {
             Reply::Body { bytes, .. } => push_block(text, bytes.as_slice()),
+            Reply::Quoted { bytes, .. } => push_block(text, bytes.as_slice()),
             Reply::Lost | Reply::Garbled | Reply::Unsent | Reply::Oversize => Ok(()),
         },
         Event::Tick { .. } | Event::Sweep { .. } | Event::Halt { .. } => Ok(()),
@@ -154,19 +172,26 @@ fn push_event(alloc: Global, text: &mut Vec<u8>, event: &Event) -> Result<(), No
     push_rest(text, event)
 }
 
-/// The text of a journal.
+/// The text of a journal, of version 2.
 pub fn write_journal(alloc: Global, journal: &Journal) -> Result<Blob, NoMemory>
-    ensures { IfOk result (λ text. text ≡ journal_text journal.now.events) }
+    ensures { IfOk result (λ text. text ≡ journal_text Version.Two journal.now.events) }
+{
+    write_version(alloc, Version::Two, journal)
+}
+
+/// The text of a journal, of that version. It is read as that journal again where the version has each of its events.
+pub fn write_version(alloc: Global, version: Version, journal: &Journal) -> Result<Blob, NoMemory>
+    ensures { IfOk result (λ text. text ≡ journal_text version journal.now.events) }
 {
     let mut text = Vec::new(alloc);
-    text.extend_from_slice(FIRST_LINE)?;
+    text.extend_from_slice(first_line(version))?;
     for event in journal.events() {
         push_event(alloc, &mut text, event)?;
     }
     Ok(Blob { bytes: text })
 }
 
-/// The laws that tell texts apart: none is that of two journals, a journal whose text begins another's begins that journal, and an event's
+/// The laws that tell texts apart: none is that of two journals, whatever their versions, a journal whose text begins another's begins that journal, and an event's
 /// spelling begins with that of no other event. It does nothing.
 pub fn texts_tell_apart()
     ensures journals { SpellsOne }

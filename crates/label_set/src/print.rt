@@ -2,12 +2,12 @@
 ghost use Rattle.std.specs.Prelude.{◌≡◌, ◌++◌, codes};
 ghost use Rattle.std.specs.List.{list_any};
 ghost use Rattle.label_set.specs.Appends.{Appends};
-ghost use Rattle.label_set.specs.SetText.{is_special, escaped_byte, escaped, label_text, labels_after, other_labels, in_braces, braces_if_any, text_with_name, set_text};
+ghost use Rattle.label_set.specs.SetText.{is_special, escaped_byte, escaped, name_text, label_text, labels_after, other_labels, in_braces, braces_if_any, text_with_name, set_text};
 ghost use Rattle.label_set.specs.Sets.{value_of};
 ghost use Rattle.label_set.specs.Lent.{pair_of};
 
 use crate::labels::{Label, Labels};
-use crate::names::is_metric_name;
+use crate::names::{is_label_name, is_metric_name};
 use crate::texts::NoMemory;
 
 #[tactic(auto, unfolding(crate::specs::SetText::escaped_byte))]
@@ -67,12 +67,33 @@ fn push_value(text: &mut Vec<u8>, value: &[u8]) -> Result<(), NoMemory>
     Ok(())
 }
 
+/// Appends a text between double quotes.
+fn push_quoted(text: &mut Vec<u8>, bytes: &[u8]) -> Result<(), NoMemory>
+    ensures { Appends (codes "\"" ++ (escaped bytes.now ++ codes "\"")) text.old text.new result }
+{
+    text.extend_from_slice(b"\"")?;
+    push_all_escaped(text, bytes)?;
+    text.extend_from_slice(b"\"")?;
+    Ok(())
+}
+
+/// Appends the name of a label, in double quotes where it is no label name.
+fn push_name(text: &mut Vec<u8>, name: &str) -> Result<(), NoMemory>
+    ensures { Appends (name_text name.now) text.old text.new result }
+{
+    if is_label_name(name) {
+        text.extend_from_slice(name.as_bytes())?;
+        return Ok(());
+    }
+    push_quoted(text, name.as_bytes())
+}
+
 /// Appends a comma and `name="value"`.
 fn push_label(text: &mut Vec<u8>, label: Label<'_>) -> Result<(), NoMemory>
     ensures { Appends (codes "," ++ label_text (pair_of label.entry)) text.old text.new result }
 {
     text.extend_from_slice(b",")?;
-    text.extend_from_slice(label.name.as_bytes())?;
+    push_name(text, label.name)?;
     push_value(text, label.value.as_bytes())?;
     Ok(())
 }

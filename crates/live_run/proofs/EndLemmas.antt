@@ -3,6 +3,7 @@ use Rattle.std.proofs.Common.{◌≡◌, ◌≢◌, ◌<◌, ◌≤◌, ◌+◌,
 use Rattle.std.proofs.lemmas.Int.{to_z-of_z}
 use Rattle.std.specs.Prelude.{Option, Some, None, All, IfSome}
 use Rattle.book_text.specs.Texts.{printed}
+use Rattle.journal_text.specs.declared.versions.Version.TheVariants.{Two}
 use Rattle.journal_text.specs.declared.events.Event.{Event}
 use Rattle.journal_text.specs.declared.events.Event.TheVariants.{Load}
 use Rattle.journal_text.specs.Events.{journal_text}
@@ -66,7 +67,7 @@ module _ (w : Wanted) (t : Touched) (es : List Event) (seats : List ℕ) where
 
   -- the writing of a run ended so
   module _ (end : LiveEnd)
-      (done : Took (journal_text es) t.trail → Took (printed w.kept (book_of es)) t.out → Ended end w t)
+      (done : Took (journal_text Two es) t.trail → Took (printed w.kept (book_of es)) t.out → Ended end w t)
       (cut : WroteFront w.kept es t.trail t.out → Ended WriteFault w t)
       (none : IsUntouched t.trail → IsUntouched t.out → Ended NoMemory w t) where
     written : (e : LiveEnd) → WrittenSo end e w.kept es t.trail t.out → Ended e w t

@@ -7,6 +7,7 @@ use Rattle.jobs_in_force.specs.declared.jobs.Filed.{Filed}
 use Rattle.journal_text.specs.declared.events.Event.{Event}
 use Rattle.journal_text.specs.declared.events.Event.TheVariants.{Load}
 use Rattle.journal_text.specs.Events.{journal_text}
+use Rattle.journal_text.specs.declared.versions.Version.TheVariants.{Two}
 use Rattle.outside.specs.Clocks.{ClockSeen, Reads}
 use Rattle.outside.specs.Fetches.{FetchSeen}
 use Rattle.outside.specs.Objects.{ShelfSeen, SinkSeen, Use, Cut, FailedToRead, HasFile, HasLongerFile, IsUntouched, LacksFile, MetLonger, Missed, Rose, Took}
@@ -60,7 +61,7 @@ IsFirst moment file shelf es =
 -- a put failed: of the journal, and nothing was put of the book; or of the book
 abbrev pub WroteFront : Bool → List Event → Use SinkSeen → Use SinkSeen → Type 0
 WroteFront kept es trail out =
-    (Cut (journal_text es) trail × IsUntouched out) ⊎ (Took (journal_text es) trail × Cut (printed kept (book_of es)) out)
+    (Cut (journal_text Two es) trail × IsUntouched out) ⊎ (Took (journal_text Two es) trail × Cut (printed kept (book_of es)) out)
 
 -- what was asked of a run
 pub record Wanted : Type 0 where
@@ -109,7 +110,7 @@ pub record IsRunOf (end : RunEnd) (w : Wanted) (t : Touched) (es : List Event) :
 pub record Wrote (end : RunEnd) (w : Wanted) (t : Touched) : Type 0 where
   pub journal : List Event
   pub run : IsRunOf end w t journal
-  pub trail : Took (journal_text journal) t.trail
+  pub trail : Took (journal_text Two journal) t.trail
   pub book : Took (printed w.kept (book_of journal)) t.out
 
 -- or fronts of them, for a put that failed
@@ -151,7 +152,7 @@ written_end run.NoMemory = NoMemory
 abbrev pub WrittenSo : LiveEnd → LiveEnd → Bool → List Event → Use SinkSeen → Use SinkSeen → Type 0
 WrittenSo end WriteFault kept es trail out = WroteFront kept es trail out
 WrittenSo end NoMemory kept es trail out = IsUntouched trail × IsUntouched out
-WrittenSo end e kept es trail out = (e ≡ end) × Took (journal_text es) trail × Took (printed kept (book_of es)) out
+WrittenSo end e kept es trail out = (e ≡ end) × Took (journal_text Two es) trail × Took (printed kept (book_of es)) out
 
 abbrev pub Finishes : RunEnd → Bool → List Event → LiveEnd → Use SinkSeen → Use SinkSeen → Type 0
 Finishes run.NoMemory kept es e trail out = (e ≡ NoMemory) × IsUntouched trail × IsUntouched out

@@ -1,6 +1,7 @@
 //! What is written of a run at its end.
 ghost use Rattle.std.specs.Prelude.{◌≡◌, IfOk, OnOk, IsErrOf};
 ghost use Rattle.journal_text.specs.Events.{journal_text};
+ghost use Rattle.journal_text.specs.declared.versions.Version.TheVariants.{Two};
 ghost use Rattle.outside.specs.Objects.{Took, IsUntouched, used};
 ghost use Rattle.book_text.specs.Texts.{printed};
 ghost use Rattle.scrape_machine.specs.Machine.{book_of};
@@ -20,7 +21,7 @@ pub fn write_run<R: Sink, O: Sink>(
     trail: &mut R,
     out: &mut O,
 ) -> Result<(), PrintError>
-    ensures trail { OnOk result (Took (journal_text core.now) (used (R.seen trail.old) (R.seen trail.new))) }
+    ensures trail { OnOk result (Took (journal_text Two core.now) (used (R.seen trail.old) (R.seen trail.new))) }
     ensures book { OnOk result (Took (printed kept (book_of core.now)) (used (O.seen out.old) (O.seen out.new))) }
     ensures cut { IsErrOf result PrintError.WriteFault →
         WroteFront kept core.now (used (R.seen trail.old) (R.seen trail.new)) (used (O.seen out.old) (O.seen out.new)) }

@@ -11,6 +11,7 @@ use Rattle.std.proofs.lemmas.Fmt.{decimal_is_IsNumeral}
 use Rattle.std.proofs.lemmas.Grind.{common_steps}
 use Rattle.std.proofs.lemmas.List.Folds.{list_all-append}
 use Rattle.label_set.specs.Bytes.{is_label_name}
+use Rattle.label_set.specs.declared.forms.Form.TheVariants.{Plain}
 use Rattle.label_set.specs.SetText.{metric_label}
 use Rattle.label_set.specs.declared.texts.Pair.{Pair}
 use Rattle.value_text.specs.Grammar.{IsValue}
@@ -19,7 +20,7 @@ use Rattle.value_text.specs.Values.{is_digits, is_sign, unsigned}
 use Rattle.value_text.proofs.DigitLemmas.{both, decimal-digits, digit-no_sign}
 use Rattle.expo_lexer.specs.Tokens.{is_blank}
 use Rattle.expo_reader.specs.Bodies.{has_metric_label, lines_of, onto_first}
-use Rattle.expo_reader.specs.Forms.{is_exposed_name}
+use Rattle.expo_reader.specs.Names.{is_exposed_name}
 use Rattle.expo_reader.specs.Grammar.{AreLines as ArePlainLines, IsLabel as IsPlainLabel, IsLabels as ArePlainLabels, IsLineEnd, IsMiddle, IsSample as IsPlainSample}
 use Rattle.expo_reader.specs.declared.rows.BodyRow.{BodyRow}
 use Rattle.expo_reader.proofs.LawLemmas.{reads_the_format as plain-reads}
@@ -33,15 +34,17 @@ exposed : (name : List ℕ) → is_label_name name ≡ true → bytes_eq name me
 unfolding is_exposed_name
 exposed name l m = and_from _ _ l (ap not m)
 
-plain-label : (bs : List ℕ) (label : Pair) → IsLabel bs label → bytes_eq label.name metric_label ≡ false → IsPlainLabel bs label
-plain-label bs label l m = ([], [], [], l.0, [], refl, refl, refl, refl, exposed label.name l.1 m, l.2, l.3, l.4)
+plain-label : (bs : List ℕ) (label : Pair) → IsLabel bs label → bytes_eq label.name metric_label ≡ false → IsPlainLabel Plain bs label
+plain-label bs label l m =
+    let quote = 34 ∷ (l.0 ++ 34 ∷ []) in
+    ([], label.name, [], [], quote, [], refl, refl, refl, refl, inl (exposed label.name l.1 m, refl), (l.0, l.2, l.3, refl), l.4 ∙ ap (λ q. label.name ++ 61 ∷ q) (sym (append-nil quote)))
 
 or-parts : (x y : Bool) → (x || y) ≡ false → (x ≡ false) × (y ≡ false)
 or-parts true y e = absurd cc
 or-parts false y e = (refl, e)
 
-plain-labels : (labels : List Pair) (bs : List ℕ) → IsLabels bs labels → has_metric_label labels ≡ false → ArePlainLabels bs labels
-plain-labels [] bs l m = subst (λ (s : List ℕ). ArePlainLabels s []) (sym l) refl
+plain-labels : (labels : List Pair) (bs : List ℕ) → IsLabels bs labels → has_metric_label labels ≡ false → ArePlainLabels Plain bs labels
+plain-labels [] bs l m = subst (λ (s : List ℕ). ArePlainLabels Plain s []) (sym l) refl
 plain-labels (label ∷ labels) bs l m =
     let k = or-parts (bytes_eq label.name metric_label) (has_metric_label labels) m in (
       l.0,
@@ -95,7 +98,7 @@ plain-end value measure None m = refl
 plain-end value measure (Some ms) m =
     (32 ∷ [], signed_decimal ms, [], refl, some 32 [], refl, millis-text ms (stamp-range m.1 ms m.2), ap (λ s. 32 ∷ s) (sym (append-nil (signed_decimal ms))))
 
-plain-middle : (braces : List ℕ) (labels : List Pair) → IsLabelled braces labels → IsMiddle (braces ++ 32 ∷ []) braces labels
+plain-middle : (braces : List ℕ) (labels : List Pair) → IsLabelled braces labels → IsMiddle Plain (braces ++ 32 ∷ []) braces labels
 unfolding is_blank
 plain-middle braces labels (inl e) =
     let same : 32 ∷ [] ≡ braces ++ 32 ∷ [] = sym (ap (λ b. b ++ 32 ∷ []) e.0) in
@@ -108,13 +111,13 @@ value-of measure value None m = m.0
 value-of measure value (Some ms) m = m.0
 
 pub plain-sample : (number n : ℕ) (line : List ℕ) (row : BodyRow) → IsSample number line row →
-    IsPlainSample n (row.raw ++ 32 ∷ (row.value ++ stamp_text row.stamp)) (on_line n row)
+    IsPlainSample Plain n (row.raw ++ 32 ∷ (row.value ++ stamp_text row.stamp)) (on_line n row)
 plain-sample number n line row s =
     let braces = s.0 in
     let after = stamp_text row.stamp in
     let whole : row.raw ++ 32 ∷ (row.value ++ after) ≡ row.name ++ ((braces ++ 32 ∷ []) ++ (row.value ++ after)) =
     ap (λ r. r ++ 32 ∷ (row.value ++ after)) s.6 ∙ simp append_assoc in
-    ([], braces ++ 32 ∷ [], braces, after, refl, refl, s.4, plain-middle braces row.labels s.5, s.6, value-of s.1 row.value row.stamp s.7, plain-end row.value s.1 row.stamp s.7, whole)
+    inl ([], braces ++ 32 ∷ [], braces, after, refl, refl, s.4, plain-middle braces row.labels s.5, s.6, value-of s.1 row.value row.stamp s.7, plain-end row.value s.1 row.stamp s.7, whole)
 
 -- no line feed stands in a line
 abbrev NoFeed : List ℕ → Type 0
@@ -181,10 +184,10 @@ text-none number line row s h =
     let m = parts-none s.1 s.2 k.1 in
     join-none row.raw (32 ∷ (row.value ++ stamp_text row.stamp)) k.0 (end-none row.value s.1 row.stamp s.7 m.0)
 
-plain-lines : (lines : List (List ℕ)) (number n : ℕ) (rows : List BodyRow) → AreLines number lines rows → NoFeeds lines → ArePlainLines n (lines_of (plain_text rows)) (on_lines n rows)
+plain-lines : (lines : List (List ℕ)) (number n : ℕ) (rows : List BodyRow) → AreLines number lines rows → NoFeeds lines → ArePlainLines Plain n (lines_of (plain_text rows)) (on_lines n rows)
 unfolding lines_of
 plain-lines [] number n rows e h = absurd e
-plain-lines (line ∷ lines) number n rows (inl e) h = subst (λ (rs : List BodyRow). ArePlainLines n (lines_of (plain_text rs)) (on_lines n rs)) (sym e.2) refl
+plain-lines (line ∷ lines) number n rows (inl e) h = subst (λ (rs : List BodyRow). ArePlainLines Plain n (lines_of (plain_text rs)) (on_lines n rs)) (sym e.2) refl
 plain-lines (line ∷ lines) number n rows (inr (inl a)) h = plain-lines lines (number + 1) n rows a.1 h.1
 plain-lines (line ∷ lines) number n rows (inr (inr s)) h =
     let row = s.0 in
@@ -193,14 +196,14 @@ plain-lines (line ∷ lines) number n rows (inr (inr s)) h =
     let lines_are : lines_of (plain_text (row ∷ more)) ≡ line_of row ∷ lines_of (plain_text more) =
     ap lines_of whole ∙ cut-line (line_of row) (plain_text more) (text-none number line row s.2 h.0) in
     let rest = plain-lines lines (number + 1) (n + 1) more s.4 h.1 in
-    subst (λ (rs : List BodyRow). ArePlainLines n (lines_of (plain_text rs)) (on_lines n rs)) (sym s.3)
-    (subst (λ (ls : List (List ℕ)). ArePlainLines n ls (on_lines n (row ∷ more))) (sym lines_are)
+    subst (λ (rs : List BodyRow). ArePlainLines Plain n (lines_of (plain_text rs)) (on_lines n rs)) (sym s.3)
+    (subst (λ (ls : List (List ℕ)). ArePlainLines Plain n ls (on_lines n (row ∷ more))) (sym lines_are)
     (inr (on_line n row, on_lines (n + 1) more, plain-sample number n line row s.2, refl, rest)))
 
 pub plain-body : (bytes : List ℕ) (rows : List BodyRow) → OmLines bytes rows → IsPlain (plain_text rows) rows
 plain-body bytes rows om =
     let lines = plain-lines (lines_of bytes) 1 1 rows om (lines-none bytes) in
-    (refl, lines, (plain-reads (plain_text rows) (Ok (on_lines 1 rows))).1 lines)
+    (refl, lines, (plain-reads Plain (plain_text rows) (Ok (on_lines 1 rows))).1 lines)
 
 pub keeps_rows : KeepsRows
 keeps_rows = λ bytes rows om. plain-body bytes rows om

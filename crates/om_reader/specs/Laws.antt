@@ -1,5 +1,6 @@
 -- Laws of converting, in the words of the grammars.
 use Rattle.std.specs.Prelude.{◌≡◌, ◌↔◌, ℕ, List, Result, Ok, Err}
+use Rattle.label_set.specs.declared.forms.Form.TheVariants.{Plain}
 use Rattle.expo_reader.specs.Bodies.{lines_of, reading as plain_reading}
 use Rattle.expo_reader.specs.Grammar.{AreLines as ArePlainLines}
 use Rattle.expo_reader.specs.declared.rows.BodyRow.{BodyRow}
@@ -25,7 +26,7 @@ HasOneReading =
 
 -- bytes are the text of these rows, and as a body of the text exposition format they have just these rows, in lines of their own
 abbrev pub IsPlain : List ℕ → List BodyRow → Type 0
-IsPlain text rows = (text ≡ plain_text rows) × ArePlainLines 1 (lines_of text) (on_lines 1 rows) × (plain_reading text ≡ Ok (on_lines 1 rows))
+IsPlain text rows = (text ≡ plain_text rows) × ArePlainLines Plain 1 (lines_of text) (on_lines 1 rows) × (plain_reading Plain text ≡ Ok (on_lines 1 rows))
 
 -- what a body becomes: the text of its rows
 abbrev pub IsConverted : List ℕ → List ℕ → Type 0

@@ -4,7 +4,7 @@ use Rattle.outside.specs.declared.requests.Request.{Request}
 use Rattle.outside.specs.declared.requests.Fetched.{Fetched}
 use Rattle.outside.specs.declared.requests.Scheme.TheVariants.{Https}
 use Rattle.outside.specs.declared.replies.Reply.{Reply}
-use Rattle.outside.specs.declared.replies.Reply.TheVariants.{Body, Lost, Unsent}
+use Rattle.outside.specs.declared.replies.Reply.TheVariants.{Body, Quoted, Lost, Unsent}
 use Rattle.outside.specs.declared.calls.Call.{Call}
 use Rattle.outside.specs.Clocks.{IsReading}
 use Rattle.outside.specs.Sizes.{most_body_bytes}
@@ -27,6 +27,7 @@ IsTimeout (negsuc n) = ⊥
 -- a status code of three digits, and at most 64 MiB
 abbrev pub IsReplyInLimits : Reply → Type 0
 IsReplyInLimits (Body status bytes) = (100 ≤ status) × (status ≤ 999) × (length bytes ≤ most_body_bytes)
+IsReplyInLimits (Quoted status bytes) = (100 ≤ status) × (status ≤ 999) × (length bytes ≤ most_body_bytes)
 IsReplyInLimits _ = Unit {0}
 
 -- what is fetched keeps its limits

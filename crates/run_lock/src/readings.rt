@@ -4,9 +4,10 @@ ghost use Rattle.journal_text.specs.Events as journal;
 ghost use Rattle.journal_text.specs.Events.{now_of};
 ghost use Rattle.journal_text.specs.declared.events.Event.TheVariants.{Finish};
 ghost use Rattle.run_lock.specs.Tasks.{IsFinishWith};
+ghost use Rattle.scrape_loop.specs.Replies.{page_in};
 
 use journal_text::Event;
-use label_set::{NoMemory, Steps};
+use label_set::{Blob, Form, NoMemory, Steps};
 use outside::Reply;
 use scrape_core::{Answer, Core};
 use scrape_loop::ReadReply;
@@ -21,16 +22,24 @@ const OK_STATUS: u16 = 200;
 pub fn read_copy(alloc: Global, reply: &Reply) -> Option<ReadReply>
     ensures { IfSome result (λ r. reply.now ≡ r) }
 {
-    let Reply::Body { status, bytes } = reply else {
-        return None;
-    };
-    if *status != OK_STATUS {
+    match reply {
+        Reply::Body { status, bytes } => read_page(alloc, Form::Plain, *status, bytes),
+        Reply::Quoted { status, bytes } => read_page(alloc, Form::Quoted, *status, bytes),
+        Reply::Lost | Reply::Garbled | Reply::Unsent | Reply::Oversize => None,
+    }
+}
+
+/// The same of a body of that form.
+fn read_page(alloc: Global, form: Form, status: u16, bytes: &Blob) -> Option<ReadReply>
+    ensures { IfSome result (λ r. page_in form status bytes.now ≡ r) }
+{
+    if status != OK_STATUS {
         return None;
     }
     let bytes = bytes.copy(alloc).ok()?;
-    let copy = Reply::Body {
-        status: OK_STATUS,
-        bytes,
+    let copy = match form {
+        Form::Plain => Reply::Body { status, bytes },
+        Form::Quoted => Reply::Quoted { status, bytes },
     };
     ReadReply::of(alloc, copy).ok()
 }

@@ -2,12 +2,14 @@
 -- "Exposition formats").
 use Rattle.std.specs.Prelude.{ℕ, ℤ, Bool, not, List, [], length, ◌==◌, nat_lt, int_lt, Option, Some, None, Ok, Err, Result, if◌then◌else◌}
 use Rattle.label_set.specs.declared.texts.Pair.{Pair}
+use Rattle.label_set.specs.declared.forms.Form.{Form}
+use Rattle.label_set.specs.declared.forms.Form.TheVariants as form
 use Rattle.rule_conf.specs.declared.conf.RuleConf.{RuleConf}
 use Rattle.scrape_limits.specs.Limits.{body_limit}
 use Rattle.expo_reader.specs.Bodies.{reading}
 use Rattle.expo_reader.specs.declared.rows.BodyRow.{BodyRow}
 use Rattle.outside.specs.declared.replies.Reply.{Reply}
-use Rattle.outside.specs.declared.replies.Reply.TheVariants.{Body, Lost, Garbled, Unsent, Oversize}
+use Rattle.outside.specs.declared.replies.Reply.TheVariants.{Body, Quoted, Lost, Garbled, Unsent, Oversize}
 use Rattle.sample_rows.specs.Rows.{Left, left_from, samples_of, rows_fault}
 use Rattle.sample_rows.specs.declared.fault.ScrapeFault.{ScrapeFault}
 use Rattle.sample_rows.specs.declared.fault.ScrapeFault.TheVariants as fault
@@ -55,11 +57,18 @@ early_fault rules Garbled took = Some fault.Garbled
 early_fault rules Unsent took = Some fault.Unsent
 early_fault rules Oversize took = if is_slow rules took then Some fault.Slow else Some fault.Size
 early_fault rules (Body status bytes) took = early_read_fault rules status (length bytes) took
+early_fault rules (Quoted status bytes) took = early_read_fault rules status (length bytes) took
 
 -- the bytes of the body of a reply
 abbrev pub body_of : Reply → List ℕ
 body_of (Body status bytes) = bytes
+body_of (Quoted status bytes) = bytes
 body_of _ = []
+
+-- the form in which that is read
+abbrev pub form_of : Reply → Form
+form_of (Quoted status bytes) = form.Quoted
+form_of _ = form.Plain
 
 -- the rows that are read, or the fault that names the first faulty line
 abbrev pub or_line : Result (List BodyRow) ℕ → Result (List BodyRow) ScrapeFault
@@ -73,7 +82,7 @@ unless_fault (Some f) rows = Err f
 
 -- the rows of a reply, or the first fault for which none of them is looked at
 abbrev pub rows_or_fault : RowRules → Reply → ℤ → Result (List BodyRow) ScrapeFault
-rows_or_fault rules reply took = unless_fault (early_fault rules reply took) (or_line (reading (body_of reply)))
+rows_or_fault rules reply took = unless_fault (early_fault rules reply took) (or_line (reading (form_of reply) (body_of reply)))
 
 -- the outcome of rows, or of a fault for which none is looked at
 abbrev pub of_early : RowRules → List RuleConf → List Pair → Result (List BodyRow) ScrapeFault → Scrape

@@ -12,5 +12,5 @@ pub mod scrape;
 
 pub use fault::ScrapeFault;
 pub use left::{Sifted, is_tracked, own_stamp, row_fault, row_set};
-pub use outcome::{body_of, early_fault, early_read_fault, failed, judged, rows};
+pub use outcome::{body_of, early_fault, early_read_fault, failed, form_of, judged, rows};
 pub use scrape::{RowRules, Sample, SampleList, Scrape};

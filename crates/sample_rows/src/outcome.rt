@@ -9,8 +9,8 @@ ghost use Rattle.sample_rows.specs.Rows.{count_fault, first_of};
 use crate::fault::ScrapeFault;
 use crate::left::{Sifted, sift};
 use crate::scrape::{RowRules, Sample, SampleList, Scrape};
-use expo_reader::{BodyCause, ReadBody, read_body};
-use label_set::{Blob, LabelSet, NoMemory, Steps};
+use expo_reader::{BodyCause, ReadBody, read_form};
+use label_set::{Blob, Form, LabelSet, NoMemory, Steps};
 use outside::Reply;
 use relabel::Rules;
 use scrape_limits::{Limits, body_limit, too_many};
@@ -80,22 +80,23 @@ fn of_rows<L: Ledger>(
     Ok(judged(rules, sifted, body.len() as u64))
 }
 
-/// The outcome of bytes that are read. Each row takes one step.
-fn of_bytes<L: Ledger>(
+/// The outcome of a reply whose body is read. Each row takes one step.
+fn of_page<L: Ledger>(
     alloc: Global,
     rules: &RowRules,
     metric: &Rules,
     target: &LabelSet,
-    bytes: &[u8],
+    reply: &Reply,
     steps: &mut Steps<L>,
 ) -> Result<Scrape, NoMemory>
     requires nameless { bears target.now metric_label ≡ false }
-    ensures outcome { IfOk result (λ s. s ≡ spec.of_early rules.now metric.now target.now (spec.or_line (reading bytes.now))) }
-    ensures steps { OnOk result (steps.new ≡ steps.old + spec.row_count (spec.or_line (reading bytes.now))) }
+    ensures outcome { IfOk result (λ s. s ≡ spec.of_early rules.now metric.now target.now
+        (spec.or_line (reading (spec.form_of reply.now) (spec.body_of reply.now)))) }
+    ensures steps { OnOk result (steps.new ≡ steps.old + spec.row_count (spec.or_line (reading (spec.form_of reply.now) (spec.body_of reply.now)))) }
     ensures at_least { steps.old ≤ steps.new }
 {
-    let bytes = Blob::from_slice(alloc, bytes)?;
-    match read_body(alloc, bytes) {
+    let bytes = Blob::from_slice(alloc, body_of(reply))?;
+    match read_form(alloc, bytes, form_of(reply)) {
         Ok(body) => of_rows(alloc, rules, metric, target, &body, steps),
         Err(unread) => match unread.cause {
             BodyCause::Line(line) => Ok(failed(ScrapeFault::Line(line))),
@@ -148,6 +149,9 @@ pub fn early_fault(rules: &RowRules, reply: &Reply, took: i64) -> Option<ScrapeF
         Reply::Body { status, bytes } => {
             early_read_fault(rules, *status, bytes.as_slice().len(), took)
         }
+        Reply::Quoted { status, bytes } => {
+            early_read_fault(rules, *status, bytes.as_slice().len(), took)
+        }
     }
 }
 
@@ -157,7 +161,25 @@ pub fn body_of(reply: &Reply) -> &[u8]
 {
     match reply {
         Reply::Body { status: _, bytes } => bytes.as_slice(),
+        Reply::Quoted { status: _, bytes } => bytes.as_slice(),
         Reply::Lost | Reply::Garbled | Reply::Unsent | Reply::Oversize => &[],
+    }
+}
+
+/// The form in which that is read.
+pub fn form_of(reply: &Reply) -> Form
+    ensures { result ≡ spec.form_of reply.now }
+{
+    match reply {
+        Reply::Quoted {
+            status: _,
+            bytes: _,
+        } => Form::Quoted,
+        Reply::Body {
+            status: _,
+            bytes: _,
+        } => Form::Plain,
+        Reply::Lost | Reply::Garbled | Reply::Unsent | Reply::Oversize => Form::Plain,
     }
 }
 
@@ -190,5 +212,5 @@ pub fn rows<L: Ledger>(
     if let Some(fault) = early_fault(rules, reply, took) {
         return Ok(failed(fault));
     }
-    of_bytes(alloc, rules, metric, target, body_of(reply), steps)
+    of_page(alloc, rules, metric, target, reply, steps)
 }

@@ -14,6 +14,7 @@ pub mod fields;
 pub mod flags;
 pub mod instants;
 pub mod limits;
+pub mod quoted;
 pub mod relabelling;
 pub mod reloads;
 pub mod scripts;

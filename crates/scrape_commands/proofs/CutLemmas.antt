@@ -29,7 +29,7 @@ printed_goes true xs ys = kept_goes [] xs ys
 
 pub cut_law : (journal front : List Event) (kept : Bool) → IsCutOf journal front → CutLaw journal front kept
 cut_law journal front kept c =
-    let begins = c.is_front.cut journal c.gone c.whole c.text in
+    let begins = c.is_front.cut c.version journal c.gone c.whole in
     let more = book_from (world_of front) begins.0 in
     let book : book_of journal ≡ book_of front ++ more = ap book_of begins.1 ∙ book_append front beginning begins.0 in
     let goes = printed_goes kept (book_of front) more in

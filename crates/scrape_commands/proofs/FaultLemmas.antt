@@ -3,7 +3,8 @@ use Rattle.std.proofs.Common.{◌≡◌, ℕ, Bool, true, false, List, ◌++◌,
 use Rattle.std.specs.Prelude.{Result, Err}
 use Rattle.std.specs.List.{Any}
 use Rattle.journal_text.specs.declared.events.Event.{Event}
-use Rattle.journal_text.specs.Events.{events_text, first_line}
+use Rattle.journal_text.specs.Events.{events_text}
+use Rattle.journal_text.specs.Versions.{first_line}
 use Rattle.journal_text.specs.declared.faults.ScriptFault.{ScriptFault}
 use Rattle.jobs_in_force.specs.declared.jobs.Filed.{Filed}
 use Rattle.config_fields.specs.declared.fault.ConfFault.{ConfFault}
@@ -80,13 +81,13 @@ script_alone m cut bytes f e h = subst (λ (z : Bool). IsFaultOf z bytes f) (sam
 
 pub fault_stands : (cut : Bool) (bytes : List ℕ) (fault : ScriptFault) → IsFaultOf cut bytes fault → StandsFor cut bytes → ⊥
 fault_stands false bytes fault f s = f.none s.0 s.1 s.2
-fault_stands true bytes fault f s = f.lacks s.0 s.1
+fault_stands true bytes fault f s = f.lacks s.0 s.1 s.2
 
 script_not : (cut : Bool) (bytes : List ℕ) (journal : List Event) → IsScriptOf cut bytes journal → StandsForNone cut bytes → ⊥
-script_not false bytes journal s none = none journal s.journal s.text
+script_not false bytes journal s none = none s.version journal s.spells
 script_not true bytes journal s none =
     let stops = s.1.stops in
-    none (events_text journal ++ s.1.rest) (stops.text ∙ append_assoc first_line (events_text journal) s.1.rest)
+    none stops.version (events_text journal ++ s.1.rest) (stops.text ∙ append_assoc (first_line stops.version) (events_text journal) s.1.rest)
 
 -- the output of a command that reads a script is that of a journal
 pub stands_not : (m : Command) (cut : Bool) (bytes : List ℕ) (kept : Bool) (text : List ℕ) → cut_of m ≡ Some cut → IsOutput m kept bytes text →

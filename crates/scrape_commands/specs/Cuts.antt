@@ -1,7 +1,8 @@
 -- What a journal that was cut gives: a front of what the whole one gives.
 use Rattle.std.specs.Prelude.{ℕ, ◌≡◌, Bool, List, ◌++◌}
 use Rattle.journal_text.specs.declared.events.Event.{Event}
-use Rattle.journal_text.specs.Events.{IsJournal, journal_text}
+use Rattle.journal_text.specs.Faults.{Spells}
+use Rattle.journal_text.specs.declared.versions.Version.{Version}
 use Rattle.journal_text.specs.Fronts.{Begins, IsFrontOf}
 use Rattle.scrape_machine.specs.Machine.{book_of}
 use Rattle.book_text.specs.Texts.{printed}
@@ -11,8 +12,8 @@ pub record IsCutOf (journal front : List Event) : Type 0 where
   pub bytes : List ℕ
   pub gone : List ℕ
   pub left : ℕ
-  pub whole : IsJournal journal
-  pub text : journal_text journal ≡ bytes ++ gone
+  pub version : Version
+  pub whole : Spells version journal (bytes ++ gone)
   pub is_front : IsFrontOf bytes front left
 
 -- the front is a beginning of the journal, and what is printed of it is the beginning of what is printed of the journal, with verdicts or without

@@ -7,8 +7,9 @@ use Rattle.journal_text.specs.declared.faults.ScriptFault.{ScriptFault}
 use Rattle.journal_text.specs.declared.faults.ScriptError.{ScriptError}
 use Rattle.journal_text.specs.declared.faults.ScriptError.TheVariants.{Bad, NoMemory}
 use Rattle.journal_text.specs.declared.events.Event.{Event}
-use Rattle.journal_text.specs.Events.{IsJournal, first_line, journal_text}
-use Rattle.journal_text.specs.Faults.{IsFault, IsJournalOf, IsOnlyFault, SpellsNone}
+use Rattle.journal_text.specs.Versions.{first_line}
+use Rattle.journal_text.specs.declared.versions.Version.{Version}
+use Rattle.journal_text.specs.Faults.{IsFault, IsJournalOf, IsOnlyFault, Spells, SpellsNone}
 use Rattle.journal_text.specs.Fronts.{IsFrontOf, IsHeadless}
 use Rattle.command_words.specs.declared.words.Command.{Command}
 use Rattle.command_words.specs.declared.words.Command.TheVariants.{Replay, Check, Convert, At}
@@ -25,7 +26,7 @@ abbrev pub IsScriptOf : Bool → List ℕ → List Event → Type 0
 IsScriptOf false bytes journal = IsJournalOf bytes journal
 IsScriptOf true bytes journal = (left : ℕ) × IsFrontOf bytes journal left
 
--- the fault of one that stands for none: its only one, or with `--cut` that it doesn't begin with the first line
+-- the fault of one that stands for none: its only one, or with `--cut` that it begins with the first line of no version
 abbrev pub IsFaultOf : Bool → List ℕ → ScriptFault → Type 0
 IsFaultOf false bytes fault = IsOnlyFault bytes fault
 IsFaultOf true bytes fault = IsHeadless bytes fault
@@ -41,13 +42,13 @@ RefusesScript cut bytes NoMemory = Unit {0}
 
 -- a script stands for a journal
 abbrev pub StandsFor : Bool → List ℕ → Type 0
-StandsFor false bytes = (journal : List Event) × IsJournal journal × (journal_text journal ≡ bytes)
-StandsFor true bytes = (rest : List ℕ) × (bytes ≡ first_line ++ rest)
+StandsFor false bytes = (version : Version) × (journal : List Event) × Spells version journal bytes
+StandsFor true bytes = (version : Version) × (rest : List ℕ) × (bytes ≡ first_line version ++ rest)
 
 -- it stands for none
 abbrev pub StandsForNone : Bool → List ℕ → Type 0
 StandsForNone false bytes = SpellsNone bytes
-StandsForNone true bytes = (rest : List ℕ) → bytes ≢ first_line ++ rest
+StandsForNone true bytes = (version : Version) (rest : List ℕ) → bytes ≢ first_line version ++ rest
 
 -- it has this fault
 abbrev pub HasFault : Bool → List ℕ → ScriptFault → Type 0

@@ -2,7 +2,8 @@
 use Rattle.std.specs.Prelude.{◌≡◌, ℕ, ℤ, List, false}
 use Rattle.journal_text.specs.declared.events.Event.{Event}
 use Rattle.journal_text.specs.declared.events.Event.TheVariants as event
-use Rattle.outside.specs.declared.replies.Reply.TheVariants.{Body}
+use Rattle.label_set.specs.declared.forms.Form.{Form}
+use Rattle.scrape_loop.specs.Replies.{page_in}
 use Rattle.scrape_core.specs.Records.{is_finish}
 use Rattle.scrape_core.specs.declared.read_events.Told.{Told}
 use Rattle.scrape_core.specs.declared.read_events.Told.TheVariants.{Finish, Other}
@@ -17,6 +18,6 @@ abbrev pub IsUnread : Told → Type 0
 IsUnread (Finish ticket took reply) = Unit {0}
 IsUnread (Other e) = is_finish e ≡ false
 
--- the finish of a ticket after so many milliseconds, by a body with a status
-abbrev pub finish_with : ℕ → ℤ → ℕ → List ℕ → Event
-finish_with ticket took status bytes = event.Finish ticket took (Body status bytes)
+-- the finish of a ticket after so many milliseconds, by a body of that form with a status
+abbrev pub finish_with : ℕ → ℤ → Form → ℕ → List ℕ → Event
+finish_with ticket took form status bytes = event.Finish ticket took (page_in form status bytes)

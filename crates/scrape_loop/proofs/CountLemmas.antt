@@ -54,6 +54,9 @@ module _ (life : ℕ) (target said : List Pair) (extra b : Bool) (old cache c : 
   told : s ≡ outcome_for l rules metric reply took
   told = s_is ∙ ap₂ (λ (t : List Pair) (k : ℤ). outcome rules metric t reply k) own_target took_is
 
+  pub reply_told : s ≡ outcome_for l rules metric reply took
+  reply_told = told
+
   shown : texts_by rules metric said cache (rows_or_fault rules reply lasted) ≡ texts_for l rules metric reply took
   shown = λ i. texts_by rules metric (own_target i) (own_cache i) (rows_or_fault rules reply (took_is i))
 

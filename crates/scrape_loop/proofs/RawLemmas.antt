@@ -1,14 +1,15 @@
 -- The texts that a life knows are raw texts of rows that it was given.
-use Rattle.std.proofs.Common.{◌≡◌, ◌∙◌, ◌||◌, ℕ, ℤ, zero, suc, Bool, true, false, List, [], ◌∷◌, Option, Some, None, map, sym, ap, refl, slice_get, take, true≢false}
+use Rattle.std.proofs.Common.{◌≡◌, ◌∙◌, ◌||◌, ℕ, ℤ, zero, suc, Bool, true, false, cond, List, [], ◌∷◌, Option, Some, None, map, sym, ap, refl, slice_get, take, true≢false}
 use Rattle.std.specs.Prelude.{Result, Ok, Err}
 use Rattle.std.specs.Str.{bytes_eq}
 use Rattle.std.proofs.lemmas.Slice.Eq.{bytes_eq-Decides}
 use Rattle.rule_conf.specs.declared.conf.RuleConf.{RuleConf}
+use Rattle.label_set.specs.declared.forms.Form.{Form}
 use Rattle.expo_reader.specs.Bodies.{reading}
 use Rattle.expo_reader.specs.Like.{IsRawText, raws}
 use Rattle.expo_reader.specs.declared.rows.BodyRow.{BodyRow}
 use Rattle.outside.specs.declared.replies.Reply.{Reply}
-use Rattle.sample_rows.specs.Outcomes.{body_of, early_fault, or_line, unless_fault}
+use Rattle.sample_rows.specs.Outcomes.{body_of, form_of, early_fault, or_line, unless_fault}
 use Rattle.sample_rows.specs.declared.fault.ScrapeFault.{ScrapeFault}
 use Rattle.sample_rows.specs.declared.scrape.RowRules.{RowRules}
 use Rattle.series_cache.specs.Caches.{CacheView, turned}
@@ -42,31 +43,31 @@ has_at raw (t ∷ ts) (suc place) at = by (bytes_eq raw t) (has_at raw ts place 
     by false h = h
 
 -- the text at a place is known, and so it is a raw text
-pub raw_at : (c : CacheView) (place : ℕ) (raw : List ℕ) → AreRaw c → slice_get (texts_in c) place ≡ Some raw → IsRawText raw
-raw_at c place raw all at = all raw (has_at raw (texts_in c) place at)
+pub raw_at : (form : Form) (c : CacheView) (place : ℕ) (raw : List ℕ) → AreRaw form c → slice_get (texts_in c) place ≡ Some raw → IsRawText form raw
+raw_at form c place raw all at = all raw (has_at raw (texts_in c) place at)
 
 -- nothing is known
-pub none_raw : (c : CacheView) → c.texts ≡ [] → AreRaw c
-none_raw c none = λ raw has. absurd (true≢false (sym has ∙ ap (λ ts. has_text raw (map (λ (t : Text). t.0) ts)) none))
+pub none_raw : (form : Form) (c : CacheView) → c.texts ≡ [] → AreRaw form c
+none_raw form c none = λ raw has. absurd (true≢false (sym has ∙ ap (λ ts. has_text raw (map (λ (t : Text). t.0) ts)) none))
 
 -- the texts of the rows of a reply
-of_reading : (raw bytes : List ℕ) (r : Result (List BodyRow) ℕ) → reading bytes ≡ r → has_text raw (row_texts (or_line r)) ≡ true → IsRawText raw
-of_reading raw bytes (Ok rows) e has = let found = place_of raw (raws rows) has in (bytes, rows, found.0, e, found.1)
-of_reading raw bytes (Err line) e has = absurd cc
+of_reading : (form : Form) (raw bytes : List ℕ) (r : Result (List BodyRow) ℕ) → reading form bytes ≡ r → has_text raw (row_texts (or_line r)) ≡ true → IsRawText form raw
+of_reading form raw bytes (Ok rows) e has = let found = place_of raw (raws rows) has in (bytes, rows, found.0, e, found.1)
+of_reading form raw bytes (Err line) e has = absurd cc
 
-of_reply : (raw bytes : List ℕ) (f : Option ScrapeFault) → has_text raw (row_texts (unless_fault f (or_line (reading bytes)))) ≡ true → IsRawText raw
-of_reply raw bytes None has = of_reading raw bytes (reading bytes) refl has
-of_reply raw bytes (Some f) has = absurd cc
+of_reply : (form : Form) (raw bytes : List ℕ) (f : Option ScrapeFault) → has_text raw (row_texts (unless_fault f (or_line (reading form bytes)))) ≡ true → IsRawText form raw
+of_reply form raw bytes None has = of_reading form raw bytes (reading form bytes) refl has
+of_reply form raw bytes (Some f) has = absurd cc
 
 -- after a reply that counts
-pub reply_raw : (l : LifeView) (rules : RowRules) (metric : List RuleConf) (reply : Reply) (took : ℤ) → KnownLaw l rules metric reply took → AreRaw l.cache →
-    AreRaw (after_reply l rules metric reply took).cache
-reply_raw l rules metric reply took law old = λ raw has. by raw has (is_good (outcome_for l rules metric reply took)) refl
+pub reply_raw : (l : LifeView) (rules : RowRules) (metric : List RuleConf) (reply : Reply) (took : ℤ) → KnownLaw l rules metric reply took → (form : Form) → AreRaw form l.cache →
+    AreRaw (cond (is_good (outcome_for l rules metric reply took)) (form_of reply) form) (after_reply l rules metric reply took).cache
+reply_raw l rules metric reply took law form old = λ raw has. by raw has (is_good (outcome_for l rules metric reply took)) refl
   where
-    by : (raw : List ℕ) → has_text raw (texts_in (after_reply l rules metric reply took).cache) ≡ true → (b : Bool) → is_good (outcome_for l rules metric reply took) ≡ b → IsRawText raw
-    by raw has true e = of_reply raw (body_of reply) (early_fault rules reply took) (sym (law.good e raw) ∙ has)
+    by : (raw : List ℕ) → has_text raw (texts_in (after_reply l rules metric reply took).cache) ≡ true → (b : Bool) → is_good (outcome_for l rules metric reply took) ≡ b → IsRawText (cond b (form_of reply) form) raw
+    by raw has true e = of_reply (form_of reply) raw (body_of reply) (early_fault rules reply took) (sym (law.good e raw) ∙ has)
     by raw has false e = old raw (ap (has_text raw) (sym (law.bad e)) ∙ has)
 
 -- after a forced scrape the same texts are known
-pub forced_raw : (c : CacheView) → IsAtRest c → AreRaw c → AreRaw (turned false c)
-forced_raw c rest old = λ raw has. old raw (ap (has_text raw) (sym (failed_texts (take c.kept c.texts) ∙ ap texts_in rest)) ∙ has)
+pub forced_raw : (form : Form) (c : CacheView) → IsAtRest c → AreRaw form c → AreRaw form (turned false c)
+forced_raw form c rest old = λ raw has. old raw (ap (has_text raw) (sym (failed_texts (take c.kept c.texts) ∙ ap texts_in rest)) ∙ has)

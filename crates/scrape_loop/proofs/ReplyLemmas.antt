@@ -1,7 +1,7 @@
 -- A reply of which rows are looked at has a body with status 200.
 use Rattle.std.proofs.Common.{◌≡◌, ℕ, ℤ, Bool, true, false, not, length, nat_lt, ◌==◌, Option, Some, None, if◌then◌else◌, refl}
 use Rattle.outside.specs.declared.replies.Reply.{Reply}
-use Rattle.outside.specs.declared.replies.Reply.TheVariants.{Body, Lost, Garbled, Unsent, Oversize}
+use Rattle.outside.specs.declared.replies.Reply.TheVariants.{Body, Quoted, Lost, Garbled, Unsent, Oversize}
 use Rattle.sample_rows.specs.Outcomes.{early_fault, is_slow}
 use Rattle.sample_rows.specs.declared.fault.ScrapeFault.{ScrapeFault}
 use Rattle.sample_rows.specs.declared.fault.ScrapeFault.TheVariants as fault
@@ -27,5 +27,7 @@ looked_at rules Lost took e = absurd cc
 looked_at rules Garbled took e = absurd cc
 looked_at rules Unsent took e = absurd cc
 looked_at rules Oversize took e = never (is_slow rules took) e
+looked_at rules (Quoted status bytes) took e =
+    by_slow status (is_slow rules took) (status == 200) (if nat_lt (body_limit rules.limits) (length bytes) then Some fault.Size else None) e
 looked_at rules (Body status bytes) took e =
     by_slow status (is_slow rules took) (status == 200) (if nat_lt (body_limit rules.limits) (length bytes) then Some fault.Size else None) e

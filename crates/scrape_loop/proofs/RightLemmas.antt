@@ -2,6 +2,7 @@
 use Rattle.std.proofs.Common.{◌≡◌, ℕ, ℤ, ◌<◌, Bool, true, false, cond, List, [], ◌∷◌, length, take, get_or, Option, Some, None, refl, sym, ap, ap₂, subst}
 use Rattle.std.specs.Prelude.{All, Result, Ok, Err}
 use Rattle.std.proofs.lemmas.List.Elements.{All-nil, All-head, All-tail, All-push, All-map, All-filter, All-take, All-weaker, All-get_or, All-from_get_or}
+use Rattle.label_set.specs.declared.forms.Form.{Form}
 use Rattle.label_set.specs.declared.texts.Pair.{Pair}
 use Rattle.label_conflict.specs.Merging.{merged}
 use Rattle.outside.specs.declared.replies.Reply.{Reply}
@@ -11,7 +12,7 @@ use Rattle.expo_reader.specs.Bodies.{reading}
 use Rattle.expo_reader.specs.Laws.{AgreesWith}
 use Rattle.expo_reader.specs.declared.rows.BodyRow.{BodyRow}
 use Rattle.expo_reader.proofs.RawLemmas.{raw_texts_tell}
-use Rattle.sample_rows.specs.Outcomes.{body_of, or_line, rows_or_fault, unless_fault}
+use Rattle.sample_rows.specs.Outcomes.{body_of, form_of, or_line, rows_or_fault, unless_fault}
 use Rattle.sample_rows.specs.Rows.{joined_set, is_tracked, row_series, series_of}
 use Rattle.sample_rows.specs.declared.fault.ScrapeFault.{ScrapeFault}
 use Rattle.sample_rows.specs.declared.scrape.RowRules.{RowRules}
@@ -41,16 +42,16 @@ module _ (honor : Bool) (metric : List RuleConf) (target : List Pair) where
   same_series r s agrees = λ raw. (let h = agrees raw in ap₂ (λ name labels. series_of (relabelled metric (merged name labels target honor))) h.0 h.1)
 
   -- it is so for each row of a body that is read
-  rows_by : (bytes : List ℕ) (d : BodyRow) (rows : List BodyRow) → reading bytes ≡ Ok rows → All Tells rows
-  rows_by bytes d rows e =
+  rows_by : (form : Form) (bytes : List ℕ) (d : BodyRow) (rows : List BodyRow) → reading form bytes ≡ Ok rows → All Tells rows
+  rows_by form bytes d rows e =
       All-from_get_or Tells rows d
-      (λ i within b more f.
+      (λ i within g b more f.
       All-weaker (AgreesWith (get_or rows i d)) (IsRightFor honor metric target (text_of (get_or rows i d))) (same_series (get_or rows i d)) more
-      (All-get_or (λ (r : BodyRow). All (AgreesWith r) more) rows i d within (raw_texts_tell bytes b rows more e f)))
+      (All-get_or (λ (r : BodyRow). All (AgreesWith r) more) rows i d within (raw_texts_tell form g bytes b rows more e f)))
 
-  pub rows_tell : (bytes : List ℕ) (rows : List BodyRow) → reading bytes ≡ Ok rows → All Tells rows
-  rows_tell bytes [] e = All-nil Tells
-  rows_tell bytes (r ∷ rows) e = rows_by bytes r (r ∷ rows) e
+  pub rows_tell : (form : Form) (bytes : List ℕ) (rows : List BodyRow) → reading form bytes ≡ Ok rows → All Tells rows
+  rows_tell form bytes [] e = All-nil Tells
+  rows_tell form bytes (r ∷ rows) e = rows_by form bytes r (r ∷ rows) e
 
   -- a text that is shown
   stamped_right : (raw : List ℕ) (tracked : Bool) (t : Text) → IsRight honor metric target t → IsRight honor metric target (stamped raw tracked t)
@@ -91,12 +92,12 @@ module _ (rules : RowRules) (metric : List RuleConf) (target : List Pair) where
       stamp_right rules.honor_labels metric target r.raw (is_tracked rules r) (noted rules metric target c r) (noted_right c r tells h)
 
   -- a row of a body that is read
-  pub shown_right : (bytes : List ℕ) (rows : List BodyRow) (i : ℕ) (r : BodyRow) (c : CacheView) → reading bytes ≡ Ok rows → i < length rows → r ≡ get_or rows i r →
+  pub shown_right : (form : Form) (bytes : List ℕ) (rows : List BodyRow) (i : ℕ) (r : BodyRow) (c : CacheView) → reading form bytes ≡ Ok rows → i < length rows → r ≡ get_or rows i r →
       AreRight rules.honor_labels metric target c.texts → AreRight rules.honor_labels metric target (shown_row rules metric target c r).texts
-  shown_right bytes rows i r c e within is h =
+  shown_right form bytes rows i r c e within is h =
       row_right c r
       (subst (Tells rules.honor_labels metric target) (sym is)
-      (All-get_or (Tells rules.honor_labels metric target) rows i r within (rows_tell rules.honor_labels metric target bytes rows e))) h
+      (All-get_or (Tells rules.honor_labels metric target) rows i r within (rows_tell rules.honor_labels metric target form bytes rows e))) h
 
   -- all rows
   all_right : (rows : List BodyRow) (c : CacheView) → All (Tells rules.honor_labels metric target) rows → AreRight rules.honor_labels metric target c.texts →
@@ -106,9 +107,9 @@ module _ (rules : RowRules) (metric : List RuleConf) (target : List Pair) where
       all_right rs (shown_row rules metric target c r) (All-tail (Tells rules.honor_labels metric target) r rs tells)
       (row_right c r (All-head (Tells rules.honor_labels metric target) r rs tells) h)
 
-  pub rows_right : (bytes : List ℕ) (rows : List BodyRow) (c : CacheView) → reading bytes ≡ Ok rows → AreRight rules.honor_labels metric target c.texts →
+  pub rows_right : (form : Form) (bytes : List ℕ) (rows : List BodyRow) (c : CacheView) → reading form bytes ≡ Ok rows → AreRight rules.honor_labels metric target c.texts →
       AreRight rules.honor_labels metric target (shown_all rules metric target c rows).texts
-  rows_right bytes rows c e h = all_right rows c (rows_tell rules.honor_labels metric target bytes rows e) h
+  rows_right form bytes rows c e h = all_right rows c (rows_tell rules.honor_labels metric target form bytes rows e) h
 
 -- a reply to a scrape of the life's target
 module _ (l : LifeView) (rules : RowRules) (metric : List RuleConf) (reply : Reply) (took : ℤ) where
@@ -116,7 +117,7 @@ module _ (l : LifeView) (rules : RowRules) (metric : List RuleConf) (reply : Rep
   texts_right h = by (rows_or_fault rules reply took) refl
     where
       by : (o : Result (List BodyRow) ScrapeFault) → rows_or_fault rules reply took ≡ o → AreRight rules.honor_labels metric l.target (texts_by rules metric l.target l.cache o).texts
-      by (Ok rows) e = rows_right rules metric l.target (body_of reply) rows l.cache (read_rows _ (reading (body_of reply)) rows e) h
+      by (Ok rows) e = rows_right rules metric l.target (form_of reply) (body_of reply) rows l.cache (read_rows _ (reading (form_of reply) (body_of reply)) rows e) h
       by (Err f) e = h
 
   pub reply_right : AreRight rules.honor_labels metric l.target l.cache.texts → AreRight rules.honor_labels metric l.target (after_reply l rules metric reply took).cache.texts

@@ -4,10 +4,11 @@ use Rattle.std.specs.Prelude.{Result, Ok, Err}
 use Rattle.label_set.specs.declared.texts.Pair.{Pair}
 use Rattle.outside.specs.declared.replies.Reply.{Reply}
 use Rattle.rule_conf.specs.declared.conf.RuleConf.{RuleConf}
+use Rattle.label_set.specs.declared.forms.Form.{Form}
 use Rattle.expo_reader.specs.Bodies.{reading}
 use Rattle.expo_reader.specs.declared.rows.BodyRow.{BodyRow}
 use Rattle.report_samples.specs.declared.scrape_reports.ExtraCounts.{ExtraCounts}
-use Rattle.sample_rows.specs.Outcomes.{body_of, judged, of_early, outcome, rows_or_fault}
+use Rattle.sample_rows.specs.Outcomes.{body_of, form_of, judged, of_early, outcome, rows_or_fault}
 use Rattle.sample_rows.specs.Rows.{left_from, is_tracked, rows_fault, samples_of}
 use Rattle.sample_rows.specs.declared.fault.ScrapeFault.{ScrapeFault}
 use Rattle.sample_rows.specs.declared.scrape.RowRules.{RowRules}
@@ -45,28 +46,28 @@ or_true false = refl
 
 -- a good scrape
 module _ (rules : RowRules) (metric : List RuleConf) (target : List Pair) (c : CacheView) (right : AreRight rules.honor_labels metric target c.texts) (rest : IsAtRest c) where
-  read_shows : (bytes : List ℕ) (rows : List BodyRow) (scraped : ℕ) → reading bytes ≡ Ok rows →
+  read_shows : (form : Form) (bytes : List ℕ) (rows : List BodyRow) (scraped : ℕ) → reading form bytes ≡ Ok rows →
       Shows (texts_by rules metric target c (Ok rows)) (Good (samples_of (left_from rules metric target 0 rows)) scraped)
-  read_shows bytes rows scraped e =
-      let tells = rows_tell rules.honor_labels metric target bytes rows e in
+  read_shows form bytes rows scraped e =
+      let tells = rows_tell rules.honor_labels metric target form bytes rows e in
       record {
         tracked = λ x.
-            rows_have rules metric target (λ (k : Known). k.tracked) (λ (r : BodyRow). is_tracked rules r) (λ r k. refl) (λ set. refl) x rows c (λ t is. is bytes rows e) tells right
+            rows_have rules metric target (λ (k : Known). k.tracked) (λ (r : BodyRow). is_tracked rules r) (λ r k. refl) (λ set. refl) x rows c (λ t is. is form bytes rows e) tells right
             ∙ ap₂ (λ (a b : List (List Pair)). has x a || has x b) (none_tracked c rest) (tracked_left rules metric target 0 rows);
         all = λ x.
-            rows_have rules metric target (λ (k : Known). k.shown) (λ (r : BodyRow). true) (λ r k. or_true k.shown) (λ set. refl) x rows c (λ t is. is bytes rows e) tells right
+            rows_have rules metric target (λ (k : Known). k.shown) (λ (r : BodyRow). true) (λ r k. or_true k.shown) (λ set. refl) x rows c (λ t is. is form bytes rows e) tells right
             ∙ ap₂ (λ (a b : List (List Pair)). has x a || has x b) (none_shown c rest) (sets_left rules metric target 0 rows);
       }
 
-  judged_shows : (bytes : List ℕ) (rows : List BodyRow) (o : Option ScrapeFault) → reading bytes ≡ Ok rows → is_good (judged o (samples_of (left_from rules metric target 0 rows)) (length rows)) ≡ true →
+  judged_shows : (form : Form) (bytes : List ℕ) (rows : List BodyRow) (o : Option ScrapeFault) → reading form bytes ≡ Ok rows → is_good (judged o (samples_of (left_from rules metric target 0 rows)) (length rows)) ≡ true →
       Shows (texts_by rules metric target c (Ok rows)) (judged o (samples_of (left_from rules metric target 0 rows)) (length rows))
-  judged_shows bytes rows None e good = read_shows bytes rows (length rows) e
-  judged_shows bytes rows (Some f) e good = absurd cc
+  judged_shows form bytes rows None e good = read_shows form bytes rows (length rows) e
+  judged_shows form bytes rows (Some f) e good = absurd cc
 
   early_shows : (reply : Reply) (took : ℤ) (o : Result (List BodyRow) ScrapeFault) → rows_or_fault rules reply took ≡ o → is_good (of_early rules metric target o) ≡ true →
       Shows (texts_by rules metric target c o) (of_early rules metric target o)
   early_shows reply took (Ok rows) e good =
-      judged_shows (body_of reply) rows (rows_fault rules.limits (left_from rules metric target 0 rows)) (read_rows _ (reading (body_of reply)) rows e) good
+      judged_shows (form_of reply) (body_of reply) rows (rows_fault rules.limits (left_from rules metric target 0 rows)) (read_rows _ (reading (form_of reply) (body_of reply)) rows e) good
   early_shows reply took (Err f) e good = absurd cc
 
   pub good_shows : (reply : Reply) (took : ℤ) → is_good (of_early rules metric target (rows_or_fault rules reply took)) ≡ true →

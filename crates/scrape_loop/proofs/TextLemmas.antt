@@ -8,6 +8,7 @@ use Rattle.std.proofs.lemmas.List.Elements.{All-head, All-tail, All-get_or}
 use Rattle.std.proofs.lemmas.Slice.Eq.{bytes_eq-Decides}
 use Rattle.label_set.specs.declared.texts.Pair.{Pair}
 use Rattle.rule_conf.specs.declared.conf.RuleConf.{RuleConf}
+use Rattle.label_set.specs.declared.forms.Form.{Form}
 use Rattle.expo_reader.specs.Bodies.{reading}
 use Rattle.expo_reader.specs.declared.rows.BodyRow.{BodyRow}
 use Rattle.sample_rows.specs.Rows.{row_series}
@@ -135,12 +136,12 @@ turned_rests true c = ap (λ (ts : List Text). let v : CacheView = record { text
 turned_rests false c = ap (λ (ts : List Text). let v : CacheView = record { texts = ts; kept = c.kept } in v) (rest_take failed (λ t. refl) c.kept c.texts)
 
 -- where what is known is right, the set of a row's text is the row's series
-module _ (honor : Bool) (metric : List RuleConf) (target : List Pair) (bytes : List ℕ) (rows : List BodyRow) (e : reading bytes ≡ Ok rows)
+module _ (honor : Bool) (metric : List RuleConf) (target : List Pair) (form : Form) (bytes : List ℕ) (rows : List BodyRow) (e : reading form bytes ≡ Ok rows)
     (i : ℕ) (r : BodyRow) (h : i < length rows) (is : r ≡ get_or rows i r) where
   one_right : (t : Text) → IsRight honor metric target t → bytes_eq r.raw t.0 ≡ true → t.1.set ≡ row_series honor metric target r
   one_right t right found =
       subst (λ (x : BodyRow). t.0 ≡ x.raw → t.1.set ≡ row_series honor metric target x) (sym is)
-      (All-get_or (IsRightFor honor metric target t) rows i r h (right bytes rows e)) (sym ((bytes_eq-Decides r.raw t.0).0 found))
+      (All-get_or (IsRightFor honor metric target t) rows i r h (right form bytes rows e)) (sym ((bytes_eq-Decides r.raw t.0).0 found))
 
   pub right_at : (ts : List Text) → AreRight honor metric target ts → IfSome (find r.raw ts) (λ (k : Known). k.set ≡ row_series honor metric target r)
   right_at [] all = tt

@@ -4,6 +4,7 @@
 use Rattle.std.specs.Prelude.{◌≡◌, ℕ, ℤ, Bool, All, List, [], ◌∷◌, ◌++◌, map, Option, is_some, Result, Ok, Err, if◌then◌else◌}
 use Rattle.label_set.specs.declared.texts.Pair.{Pair}
 use Rattle.rule_conf.specs.declared.conf.RuleConf.{RuleConf}
+use Rattle.label_set.specs.declared.forms.Form.{Form}
 use Rattle.expo_reader.specs.Bodies.{reading}
 use Rattle.expo_reader.specs.declared.rows.BodyRow.{BodyRow}
 use Rattle.outside.specs.declared.replies.Reply.{Reply}
@@ -67,7 +68,7 @@ IsRightFor honor metric target t r = t.0 ≡ r.raw → t.1.set ≡ row_series ho
 
 -- in every body
 abbrev pub IsRight : Bool → List RuleConf → List Pair → Text → Type 0
-IsRight honor metric target t = (bytes : List ℕ) (rows : List BodyRow) → reading bytes ≡ Ok rows → All (IsRightFor honor metric target t) rows
+IsRight honor metric target t = (form : Form) (bytes : List ℕ) (rows : List BodyRow) → reading form bytes ≡ Ok rows → All (IsRightFor honor metric target t) rows
 
 -- so for each text
 abbrev pub AreRight : Bool → List RuleConf → List Pair → List Text → Type 0

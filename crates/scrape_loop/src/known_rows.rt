@@ -3,7 +3,7 @@ ghost use Rattle.std.specs.Prelude.{◌≡◌, ◌≤◌, ◌+◌, ◌-◌, fals
 ghost use Rattle.expo_reader.specs.Bodies.{IsFit, reading};
 ghost use Rattle.label_conflict.specs.Merging.{bears};
 ghost use Rattle.label_set.specs.SetText.{metric_label};
-ghost use Rattle.sample_rows.specs.Outcomes.{body_of, of_early, or_line, outcome};
+ghost use Rattle.sample_rows.specs.Outcomes.{body_of, form_of, of_early, or_line, outcome};
 ghost use Rattle.scrape_loop.specs.Replies.{is_page};
 ghost use Rattle.sample_rows.specs.Rows.{row_series, left_from, samples_of, first_fault};
 ghost use Rattle.series_cache.specs.Caches.{find, look_up, turned, undone, was_sets};
@@ -146,8 +146,7 @@ fn sift_known<L: Ledger>(
     requires right { spec.AreRight terms.now.rules.now.honor_labels terms.now.metric.now terms.now.target.now cache.old.texts }
     ensures samples { IfOk result (λ s. s.samples.items
         ≡ samples_of (left_from terms.now.rules.now terms.now.metric.now terms.now.target.now 0 body.now.rows)) }
-    ensures fault { IfOk result (λ s. s.fault
-        ≡ first_fault terms.now.rules.now.limits
+    ensures fault { IfOk result (λ s. s.fault ≡ first_fault terms.now.rules.now.limits
         (left_from terms.now.rules.now terms.now.metric.now terms.now.target.now 0 body.now.rows)) }
     ensures cache { OnOk result (cache.new ≡ spec.shown_all terms.now.rules.now terms.now.metric.now terms.now.target.now cache.old body.now.rows) }
     ensures undone { undone cache.new ≡ undone cache.old }
@@ -182,16 +181,16 @@ fn of_page<L: Ledger>(
     requires page { is_page reply.now ≡ true }
     requires nameless { bears terms.now.target.now metric_label ≡ false }
     requires right { spec.AreRight terms.now.rules.now.honor_labels terms.now.metric.now terms.now.target.now cache.old.texts }
-    ensures outcome { IfOk result (λ s. s ≡ of_early terms.now.rules.now terms.now.metric.now terms.now.target.now (or_line (reading (body_of reply.now)))) }
-    ensures cache { OnOk result (cache.new
-        ≡ spec.texts_by terms.now.rules.now terms.now.metric.now terms.now.target.now cache.old
-        (or_line (reading (body_of reply.now)))) }
+    ensures outcome { IfOk result (λ s. s ≡ of_early terms.now.rules.now terms.now.metric.now terms.now.target.now
+        (or_line (reading (form_of reply.now) (body_of reply.now)))) }
+    ensures cache { OnOk result (cache.new ≡ spec.texts_by terms.now.rules.now terms.now.metric.now terms.now.target.now cache.old
+        (or_line (reading (form_of reply.now) (body_of reply.now)))) }
     ensures undone { undone cache.new ≡ undone cache.old }
     ensures steps { OnOk result (steps.new + length cache.old.texts ≡ steps.old + length cache.new.texts) }
     ensures at_least { steps.old ≤ steps.new }
     ensures at_most { steps.new + length cache.old.texts
         ≤ steps.old + length (spec.texts_by terms.now.rules.now terms.now.metric.now terms.now.target.now cache.old
-        (or_line (reading (body_of reply.now)))).texts }
+        (or_line (reading (form_of reply.now) (body_of reply.now)))).texts }
 {
     let (body, places) = match reply.page() {
         Page::Rows {
@@ -200,6 +199,7 @@ fn of_page<L: Ledger>(
             places,
         } => (body, places),
         Page::Faulty {
+            form: _,
             status: _,
             bytes: _,
             line,

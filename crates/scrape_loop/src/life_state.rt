@@ -1,5 +1,5 @@
 //! What the scrapes of one life leave for the next.
-ghost use Rattle.std.specs.Prelude.{◌≡◌, ◌≤◌, ◌+◌, List, [], ◌++◌, length, pos, ◌≤ℤ◌, Bool, false, true, IfOk, IfSome, OnOk, OnErr};
+ghost use Rattle.std.specs.Prelude.{◌≡◌, ◌≤◌, ◌+◌, List, [], ◌++◌, length, pos, ◌≤ℤ◌, Bool, cond, false, true, IfOk, IfSome, OnOk, OnErr};
 ghost use Rattle.label_conflict.specs.Merging.{bears};
 ghost use Rattle.label_set.specs.SetText.{metric_label};
 ghost use Rattle.rule_conf.specs.declared.conf.RuleConf.{RuleConf};
@@ -20,7 +20,7 @@ use crate::scrape_parts::{extra_in, fault_in, size_in};
 use crate::target_labels::TargetLabels;
 use appender_book::Book;
 use expo_reader::RawTexts;
-use label_set::{LabelSet, NoMemory, Steps};
+use label_set::{Form, LabelSet, NoMemory, Steps};
 use outside::Reply;
 use relabel::Rules;
 use report_samples::{Closing, EntryList, ExtraCounts};
@@ -47,6 +47,8 @@ pub struct LifeState {
     past: Past,
     /// What is known of the raw texts of the last good scrape.
     cache: SeriesCache,
+    /// The form of the body in which they stood.
+    form: Form,
 }
 
 impl Model for LifeState {
@@ -58,18 +60,50 @@ impl Model for LifeState {
 
     ghost view = { λ s. life_of s.past.life s.past.target s.past.extra s.cache s.past.scraped };
 
-    ghost invariant = { λ s. IsAtRest s.cache × AreRaw s.cache };
+    ghost invariant = { λ s. IsAtRest s.cache × AreRaw s.form s.cache };
 }
 
-/// The raw texts of the last good scrape.
-impl RawTexts for LifeState {
+/// The raw texts of the last good scrape of a life, all of one form.
+#[derive(Drop)]
+struct LastTexts<'a> {
+    cache: &'a SeriesCache,
+    form: Form,
+}
+
+impl<'a> Model for LastTexts<'a> {
+    ghost use Rattle.label_set.specs.declared.forms.Form.{Form};
+    ghost use Rattle.series_cache.specs.Caches.{CacheView};
+
+    ghost Value = { CacheView × Form };
+
+    ghost use Rattle.scrape_loop.specs.Raw.{AreRaw};
+
+    ghost view = { λ t. (t.cache.now, t.form) };
+
+    ghost invariant = { λ t. AreRaw t.form t.cache.now };
+}
+
+impl<'a> RawTexts for LastTexts<'a> {
     ghost use Rattle.scrape_loop.specs.Fresh.{texts_in};
 
-    ghost texts = { λ s. texts_in s.cache };
+    ghost texts = { λ t. texts_in t.0 };
+
+    ghost form_of = { λ t. t.1 };
+
+    fn form(&self) -> Form {
+        self.form
+    }
 
     fn text_at(&self, place: usize) -> Option<&[u8]> {
         self.cache.text_at(place)
     }
+}
+
+/// The form of the texts that are known after a scrape: that of its body where it is good, and else the one of before.
+fn form_after(good: bool, form: Form, before: Form) -> Form
+    ensures { result ≡ cond good form before }
+{
+    if good { form } else { before }
 }
 
 /// Lets a cache without texts begin its hashes as a book does, whose seed a target doesn't know.
@@ -134,6 +168,7 @@ impl LifeState {
                 scraped: false,
             },
             cache: SeriesCache::new(alloc)?,
+            form: Form::Plain,
         })
     }
 
@@ -165,7 +200,11 @@ impl LifeState {
     pub fn read(&self, alloc: Global, reply: Reply) -> Result<ReadReply, NoMemory>
         ensures { IfOk result (λ r. r ≡ reply) }
     {
-        ReadReply::like(alloc, reply, self)
+        let known = LastTexts {
+            cache: &self.cache,
+            form: self.form,
+        };
+        ReadReply::like(alloc, reply, &known)
     }
 
     /// What the life leaves behind where it is closed at a moment, with its next scrape planned at another one and this scrape interval.
@@ -258,6 +297,7 @@ impl LifeState {
             steps,
         )?;
         let fault = fault_in(&scrape);
+        let good = fault.is_none();
         let extra = extra_in(rules, size_in(&scrape, reply.size()));
         match append(
             alloc,
@@ -275,7 +315,8 @@ impl LifeState {
             }
             Ok(()) => {
                 self.past.scraped = true;
-                self.cache.turn(fault.is_none());
+                self.form = form_after(good, reply.form(), self.form);
+                self.cache.turn(good);
                 Ok(Counted { fault, runs })
             }
         }

@@ -1,14 +1,14 @@
 //! The reply of a fetch, whose body is read.
 ghost use Rattle.std.specs.Prelude.{◌≡◌, ◌<◌, ◌^◌, false, length, None, true, IfOk};
 ghost use Rattle.expo_reader.specs.Bodies.{CauseIs, reading};
-ghost use Rattle.outside.specs.declared.replies.Reply.TheVariants.{Body};
 ghost use Rattle.sample_rows.specs.Outcomes as spec;
+ghost use Rattle.scrape_loop.specs.Replies as replies;
 ghost use Rattle.scrape_loop.specs.Replies.{IsRead, is_page, reply_of};
 
 use expo_reader::{BodyCause, LikeBody, NoTexts, RawTexts, ReadBody, Unread, read_like};
-use label_set::{Blob, NoMemory};
+use label_set::{Blob, Form, NoMemory};
 use outside::Reply;
-use sample_rows::{RowRules, ScrapeFault, body_of, early_fault, early_read_fault};
+use sample_rows::{RowRules, ScrapeFault, body_of, early_fault, early_read_fault, form_of};
 use std::alloc::Global;
 use std::marker::Model;
 
@@ -25,6 +25,7 @@ pub(crate) enum Page {
         places: Vec<u32>,
     },
     Faulty {
+        form: Form,
         status: u16,
         bytes: Blob,
         line: u64,
@@ -52,15 +53,26 @@ impl Model for ReadReply {
     ghost invariant = { λ r. IsRead r.page };
 }
 
+/// A reply whose body has that form.
+fn page_in(form: Form, status: u16, bytes: Blob) -> Reply
+    ensures { result ≡ replies.page_in form status bytes }
+{
+    match form {
+        Form::Plain => Reply::Body { status, bytes },
+        Form::Quoted => Reply::Quoted { status, bytes },
+    }
+}
+
 /// What a body says that has a faulty line.
-fn faulty(status: u16, unread: Unread) -> Result<Page, NoMemory>
-    requires { CauseIs unread.cause (reading unread.bytes) }
-    ensures reply { IfOk result (λ p. reply_of p ≡ Body status unread.bytes) }
+fn faulty(form: Form, status: u16, unread: Unread) -> Result<Page, NoMemory>
+    requires { CauseIs unread.cause (reading form unread.bytes) }
+    ensures reply { IfOk result (λ p. reply_of p ≡ replies.page_in form status unread.bytes) }
     ensures read { IfOk result (λ p. IsRead p) }
 {
     let Unread { bytes, cause } = unread;
     match cause {
         BodyCause::Line(line) => Ok(Page::Faulty {
+            form,
             status,
             bytes,
             line,
@@ -70,19 +82,25 @@ fn faulty(status: u16, unread: Unread) -> Result<Page, NoMemory>
 }
 
 /// Reads a body.
-fn page_of<T: RawTexts>(alloc: Global, status: u16, bytes: Blob, like: &T) -> Result<Page, NoMemory>
-    ensures reply { IfOk result (λ p. reply_of p ≡ Body status bytes) }
+fn page_of<T: RawTexts>(
+    alloc: Global,
+    form: Form,
+    status: u16,
+    bytes: Blob,
+    like: &T,
+) -> Result<Page, NoMemory>
+    ensures reply { IfOk result (λ p. reply_of p ≡ replies.page_in form status bytes) }
     ensures read { IfOk result (λ p. IsRead p) }
 {
-    match read_like(alloc, bytes, like) {
+    match read_like(alloc, form, bytes, like) {
         Ok(LikeBody { body, places }) => Ok(rows(status, body, places)),
-        Err(unread) => faulty(status, unread),
+        Err(unread) => faulty(form, status, unread),
     }
 }
 
 /// A body that is read.
 fn rows(status: u16, body: ReadBody, places: Vec<u32>) -> Page
-    ensures reply { reply_of result ≡ Body status body.bytes }
+    ensures reply { reply_of result ≡ replies.page_in body.form status body.bytes }
     ensures read { IsRead result }
 {
     let _bytes = body.bytes();
@@ -96,17 +114,18 @@ fn rows(status: u16, body: ReadBody, places: Vec<u32>) -> Page
 /// A body, read where its status is 200.
 fn looked_at<T: RawTexts>(
     alloc: Global,
+    form: Form,
     status: u16,
     bytes: Blob,
     like: &T,
 ) -> Result<Page, NoMemory>
-    ensures reply { IfOk result (λ p. reply_of p ≡ Body status bytes) }
+    ensures reply { IfOk result (λ p. reply_of p ≡ replies.page_in form status bytes) }
     ensures read { IfOk result (λ p. IsRead p) }
 {
     if status != OK_STATUS {
-        return Ok(Page::Passed(Reply::Body { status, bytes }));
+        return Ok(Page::Passed(page_in(form, status, bytes)));
     }
-    page_of(alloc, status, bytes, like)
+    page_of(alloc, form, status, bytes, like)
 }
 
 impl ReadReply {
@@ -134,7 +153,10 @@ impl ReadReply {
         ensures { IfOk result (λ r. r ≡ reply) }
     {
         let page = match reply {
-            Reply::Body { status, bytes } => looked_at(alloc, status, bytes, like)?,
+            Reply::Body { status, bytes } => looked_at(alloc, Form::Plain, status, bytes, like)?,
+            Reply::Quoted { status, bytes } => {
+                looked_at(alloc, Form::Quoted, status, bytes, like)?
+            }
             Reply::Lost => Page::Passed(Reply::Lost),
             Reply::Garbled => Page::Passed(Reply::Garbled),
             Reply::Unsent => Page::Passed(Reply::Unsent),
@@ -145,7 +167,7 @@ impl ReadReply {
 
     /// The reply with a body that was read.
     pub fn with(alloc: Global, status: u16, body: ReadBody) -> ReadReply
-        ensures { result ≡ Body status body.bytes }
+        ensures { result ≡ replies.page_in body.form status body.bytes }
     {
         ReadReply {
             page: rows(status, body, Vec::new(alloc)),
@@ -161,15 +183,16 @@ impl ReadReply {
                 status,
                 body,
                 places: _,
-            } => Reply::Body {
-                status,
-                bytes: body.into_bytes(),
-            },
+            } => {
+                let form = body.form();
+                page_in(form, status, body.into_bytes())
+            }
             Page::Faulty {
+                form,
                 status,
                 bytes,
                 line: _,
-            } => Reply::Body { status, bytes },
+            } => page_in(form, status, bytes),
             Page::Passed(reply) => reply,
         }
     }
@@ -180,6 +203,26 @@ impl ReadReply {
         ensures read { IsRead result.now }
     {
         &self.page
+    }
+
+    /// The form in which its body is read.
+    pub(crate) fn form(&self) -> Form
+        ensures { result ≡ spec.form_of self.now }
+    {
+        match &self.page {
+            Page::Rows {
+                status: _,
+                body,
+                places: _,
+            } => body.form(),
+            Page::Faulty {
+                form,
+                status: _,
+                bytes: _,
+                line: _,
+            } => *form,
+            Page::Passed(reply) => form_of(reply),
+        }
     }
 
     /// How many bytes its body has; one without a body has none.
@@ -194,6 +237,7 @@ impl ReadReply {
                 places: _,
             } => body.bytes().len(),
             Page::Faulty {
+                form: _,
                 status: _,
                 bytes,
                 line: _,
@@ -214,6 +258,7 @@ impl ReadReply {
                 places: _,
             } => { early_read_fault(rules, *status, body.bytes().len(), took) }
             Page::Faulty {
+                form: _,
                 status,
                 bytes,
                 line: _,

@@ -7,7 +7,7 @@ use mathlib.Core.List.{IsPrefix}
 use Rattle.journal_text.specs.declared.events.Event.{Event}
 use Rattle.outside.specs.declared.calls.Call.{Call}
 use Rattle.outside.specs.declared.replies.Reply.{Reply}
-use Rattle.outside.specs.declared.replies.Reply.TheVariants.{Body, Lost, Garbled, Unsent, Oversize}
+use Rattle.outside.specs.declared.replies.Reply.TheVariants.{Body, Quoted, Lost, Garbled, Unsent, Oversize}
 use Rattle.outside.specs.declared.requests.Fetched.{Fetched}
 use Rattle.outside.specs.declared.requests.Request.{Request}
 use Rattle.outside.specs.Clocks.{ClockSeen, Reads, next_reading, later_readings}
@@ -65,6 +65,7 @@ request_prefix xs ys k r h is = (events_in xs, events_in h.0, sym (ap events_in 
 -- a fetch told its call, and its count didn't fall
 pub counts_rise : (r : Reply) (u : Use FetchSeen) → CountsReply r u → u.before.faults ≤ u.after.faults
 counts_rise (Body status bytes) u h = omega (arith, h)
+counts_rise (Quoted status bytes) u h = omega (arith, h)
 counts_rise Lost u h = h.0
 counts_rise Garbled u h = omega (arith, h)
 counts_rise Unsent u h = omega (arith, h)

@@ -1,5 +1,5 @@
 -- The journal that is made of three numbers: a seed, how many targets there are, and how often each is scraped.
-use Rattle.std.specs.Prelude.{ℕ, zero, suc, ◌<◌, ◌≤◌, ◌^◌, ◌+◌, ◌*◌, ◌%◌, Bool, List, [], ◌∷◌, ◌++◌, map, flat_map, codes, pos, if◌then◌else◌, ◌==◌}
+use Rattle.std.specs.Prelude.{ℕ, zero, suc, ◌<◌, ◌≤◌, ◌^◌, ◌+◌, ◌*◌, ◌%◌, List, [], ◌∷◌, ◌++◌, map, flat_map, codes, pos, if◌then◌else◌, ◌==◌}
 use Rattle.std.specs.Fmt.{decimal}
 use Rattle.outside.specs.declared.replies.Reply.TheVariants.{Body}
 use Rattle.journal_text.specs.declared.events.Event.{Event}

@@ -1,13 +1,14 @@
 //! The journal of a script, event by event.
 ghost use Rattle.std.specs.Prelude.{◌≡◌, ◌<◌, ◌≤◌, ◌+◌, ◌*◌, ◌^◌, ◌++◌, [], ◌∷◌, IfOk, OnOk, pos, length, flat_map};
-ghost use Rattle.journal_text.specs.Events.{IsInLimits, IsJournal, MayFollow, now_of, now_after, journal_text};
+ghost use Rattle.journal_text.specs.Events.{IsInLimits, MayFollow, now_of, now_after, journal_text};
+ghost use Rattle.journal_text.specs.Faults.{Spells};
 ghost use Rattle.outside.specs.Sizes.{most_text_bytes, most_body_bytes};
 ghost use Rattle.outside.specs.declared.replies.Reply.TheVariants as replies;
 ghost use Rattle.journal_text.specs.declared.events.Event.TheVariants as events;
 ghost use Rattle.synth.specs.Scripts as spec;
 
 use crate::pages::{conf_text, page};
-use journal_text::{Event, Journal, write_journal};
+use journal_text::{Event, Journal, Version, write_version};
 use label_set::{Blob, NoMemory};
 use outside::Reply;
 use std::alloc::Global;
@@ -164,12 +165,13 @@ pub fn journal_of(alloc: Global, plan: &Plan) -> Result<Journal, NoMemory>
 }
 
 /// The text of the journal that a seed, 1 to 10,000 targets and up to 1,000 scrapes of each make, at most 20,000 scrapes in all.
-/// It spells that journal.
+/// It spells that journal, in version 1.
+#[tactic(auto, using(crate::proofs::VersionLemmas::script_has))]
 pub fn make_script(alloc: Global, seed: u32, targets: u32, scrapes: u32) -> Result<Blob, NoMemory>
     requires targets { (1 ≤ targets) × (targets ≤ spec.most_targets) }
     requires scrapes { (scrapes ≤ spec.most_scrapes) × (targets * scrapes ≤ spec.most_scrapes_of_all) }
-    ensures text { IfOk result (λ text. text ≡ journal_text (spec.script_events (spec.plan seed targets scrapes))) }
-    ensures spells { IfOk result (λ _. IsJournal (spec.script_events (spec.plan seed targets scrapes))) }
+    ensures text { IfOk result (λ text. text ≡ journal_text Version.One (spec.script_events (spec.plan seed targets scrapes))) }
+    ensures spells { IfOk result (λ text. Spells Version.One (spec.script_events (spec.plan seed targets scrapes)) text) }
 {
     let plan = Plan {
         seed: seed as u64,
@@ -177,7 +179,7 @@ pub fn make_script(alloc: Global, seed: u32, targets: u32, scrapes: u32) -> Resu
         scrapes: scrapes as u64,
     };
     let journal = journal_of(alloc, &plan)?;
-    let text = write_journal(alloc, &journal)?;
+    let text = write_version(alloc, Version::One, &journal)?;
     let _events = journal.into_events();
     Ok(text)
 }

@@ -1,11 +1,12 @@
 //! Books: entries that are appended, each with its verdict.
 
-use crate::shared::labelled;
+use crate::shared::{holds, labelled};
 use appender_book::{Book, Verdict};
 use label_set::NoMemory;
 use report_samples::{Entry, EntryList, Kind};
 use std::alloc::Global;
 use std::hash::RandomState;
+use std::process::Abort;
 use std::test::Fail;
 use value_text::ValueText;
 
@@ -68,34 +69,37 @@ fn append_judged(alloc: Global, book: &mut Book) -> Result<(), NoMemory> {
     book.append_all(more_entries(alloc)?)
 }
 
-/// Whether their verdicts are the wanted ones.
-fn is_judged(book: &Book) -> bool {
+/// Ends the test where their verdicts are others.
+fn are_judged(rt: &impl Abort, book: &Book) {
     for (place, row) in JUDGED.iter().enumerate() {
-        if book.verdict(place) != Some(row.2) {
-            return false;
-        }
+        holds(rt, book.verdict(place) == Some(row.2), "a verdict");
     }
-    true
 }
 
-#[test]
-fn a_book_judges_its_entries(rt: HostRuntime) -> Result<(), Fail> {
-    {
-        let mut book = Book::new(rt.alloc())?;
-        append_judged(rt.alloc(), &mut book)?;
-        assert!(rt; is_judged(&book));
-        assert_eq!(rt; book.len(), 10);
-        assert_eq!(rt; book.entry(4).map(|e| e.moment), Some(999));
-        assert!(rt; book.entry(10).is_none() && book.verdict(10).is_none());
-    }
-    {
-        let Ok(seed) = RandomState::new(&rt) else {
-            panic!(rt; "no seed");
-        };
-        let mut book = Book::seeded(rt.alloc(), seed)?;
-        append_judged(rt.alloc(), &mut book)?;
-        assert!(rt; is_judged(&book));
-    }
+/// The moment of the entry at a place.
+fn moment_at(book: &Book, place: usize) -> Option<i64> {
+    Some(book.entry(place)?.moment)
+}
+
+fn a_book_judges_its_entries(rt: &impl Abort, alloc: Global) -> Result<(), NoMemory> {
+    let mut book = Book::new(alloc)?;
+    append_judged(alloc, &mut book)?;
+    are_judged(rt, &book);
+    holds(rt, book.len() == 10, "ten entries");
+    holds(rt, moment_at(&book, 4) == Some(999), "an entry");
+    holds(rt, moment_at(&book, 10) == None, "no entry");
+    holds(rt, book.verdict(10) == None, "no verdict");
+    Ok(())
+}
+
+fn a_book_with_a_seed_judges_alike(
+    rt: &impl Abort,
+    alloc: Global,
+    seed: RandomState,
+) -> Result<(), NoMemory> {
+    let mut book = Book::seeded(alloc, seed)?;
+    append_judged(alloc, &mut book)?;
+    are_judged(rt, &book);
     Ok(())
 }
 
@@ -131,25 +135,31 @@ fn append_series(alloc: Global, book: &mut Book) -> Result<(), NoMemory> {
     Ok(())
 }
 
+/// Ends the test where the entries have other verdicts, or other numbers of their series.
+fn are_found(rt: &impl Abort, book: &Book) {
+    for (place, row) in SERIES.iter().enumerate() {
+        let verdict = if row.1 { Verdict::Kept } else { Verdict::Same };
+        holds(rt, book.verdict(place) == Some(verdict), row.0);
+        holds(rt, book.series_at(place) == Some(row.2), row.0);
+    }
+}
+
+fn a_series_is_found_in_any_order(rt: &impl Abort, alloc: Global) -> Result<(), NoMemory> {
+    let mut book = Book::new(alloc)?;
+    append_series(alloc, &mut book)?;
+    are_found(rt, &book);
+    holds(rt, book.series_at(20) == None, "no entry");
+    holds(rt, book.series_count() == 5, "five series");
+    holds(rt, book.entry_of(4).is_some(), "the last series");
+    holds(rt, book.entry_of(5).is_none(), "no series");
+    holds(rt, book.longest_value() == 1, "the longest value");
+    Ok(())
+}
+
 #[test]
-fn a_series_is_found_in_any_order(rt: HostRuntime) -> Result<(), Fail> {
-    {
-        let mut book = Book::new(rt.alloc())?;
-        append_series(rt.alloc(), &mut book)?;
-        for (place, row) in SERIES.iter().enumerate() {
-            let verdict = if row.1 { Verdict::Kept } else { Verdict::Same };
-            assert_eq!(rt; book.verdict(place), Some(verdict), "{place}");
-        }
-    }
-    {
-        let mut book = Book::new(rt.alloc())?;
-        append_series(rt.alloc(), &mut book)?;
-        for (place, row) in SERIES.iter().enumerate() {
-            assert_eq!(rt; book.series_at(place), Some(row.2));
-        }
-        assert!(rt; book.series_at(20).is_none() && book.series_count() == 5);
-        assert!(rt; book.entry_of(4).is_some() && book.entry_of(5).is_none());
-        assert_eq!(rt; book.longest_value(), 1);
-    }
+fn books_judge_entries_and_find_series(rt: HostRuntime) -> Result<(), Fail> {
+    a_book_judges_its_entries(&rt, rt.alloc())?;
+    a_book_with_a_seed_judges_alike(&rt, rt.alloc(), RandomState::new(&rt)?)?;
+    a_series_is_found_in_any_order(&rt, rt.alloc())?;
     Ok(())
 }

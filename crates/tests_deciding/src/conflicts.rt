@@ -1,10 +1,13 @@
 //! Labels of lines and targets that bear the same name. More of them the cases show.
-use crate::shared::set_of;
+
+use crate::shared::{are_bytes, holds, set_of};
 use expo_reader::read_body;
 use label_conflict::merge;
+use label_set::sets::LabelError;
 use label_set::{Blob, LabelSet, NoMemory};
 use sample_rows::left::is_named;
 use std::alloc::{AllocError, Global};
+use std::process::Abort;
 use std::test::Fail;
 
 /// A metric name, a line with labels, the labels of the target, whether the line is honoured, and the text of the set.
@@ -83,6 +86,19 @@ fn joined_text(
     Ok(text)
 }
 
+/// The text of the set of a row.
+fn text_of(alloc: Global, (name, line, labels, honor, _): Row) -> Result<Vec<u8>, LabelError> {
+    let target = set_of(alloc, labels)?;
+    Ok(joined_text(alloc, name, line, &target, honor)?)
+}
+
+fn lines_are_joined(rt: &impl Abort, alloc: Global) -> Result<(), LabelError> {
+    for &row in ROWS {
+        are_bytes(rt, &text_of(alloc, row)?, row.4.as_bytes());
+    }
+    Ok(())
+}
+
 /// A line with the labels `a0=v` to `a39=v`.
 fn many_labels(alloc: Global) -> Result<String, AllocError> {
     let mut text = String::from_str(alloc, "x{")?;
@@ -95,22 +111,33 @@ fn many_labels(alloc: Global) -> Result<String, AllocError> {
     Ok(text)
 }
 
+/// How many labels a line has when it is joined.
+fn joined_count(
+    alloc: Global,
+    line: &str,
+    target: &LabelSet,
+    honor: bool,
+) -> Result<usize, NoMemory> {
+    Ok(joined(alloc, "x", line, target, honor)?.len())
+}
+
+/// Ends the test where a line with forty labels isn't joined with as many of its target.
+fn are_joined(rt: &impl Abort, alloc: Global, line: &str) -> Result<(), NoMemory> {
+    let target = joined(alloc, "", line, &LabelSet::empty(), true)?;
+    let renamed = joined_count(alloc, line, &target, false)?;
+    holds(rt, renamed == 81, "forty labels renamed");
+    let kept = joined_count(alloc, line, &target, true)?;
+    holds(rt, kept == 41, "forty labels kept");
+    Ok(())
+}
+
+fn many_labels_are_joined(rt: &impl Abort, alloc: Global) -> Result<(), NoMemory> {
+    are_joined(rt, alloc, many_labels(alloc)?.as_str())
+}
+
 #[test]
 fn labels_are_kept_or_renamed(rt: HostRuntime) -> Result<(), Fail> {
-    {
-        for &(name, line, labels, honor, want) in ROWS {
-            let target = set_of(rt.alloc(), labels)?;
-            let text = joined_text(rt.alloc(), name, line, &target, honor)?;
-            assert_eq!(rt; text.as_slice(), want.as_bytes(), "{want}");
-        }
-    }
-    {
-        let line = many_labels(rt.alloc())?;
-        let target = joined(rt.alloc(), "", line.as_str(), &LabelSet::empty(), true)?;
-        for (honor, count) in [(false, 81), (true, 41)] {
-            let set = joined(rt.alloc(), "x", line.as_str(), &target, honor)?;
-            assert_eq!(rt; set.len(), count);
-        }
-    }
+    lines_are_joined(&rt, rt.alloc())?;
+    many_labels_are_joined(&rt, rt.alloc())?;
     Ok(())
 }

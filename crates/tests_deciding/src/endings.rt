@@ -2,11 +2,12 @@
 ghost use Rattle.std.specs.Prelude.{IfOk};
 ghost use Rattle.end_of_run.specs.Endings.{IsInLimits};
 
-use crate::shared::{labelled, push_entries};
+use crate::shared::{are_bytes, holds, labelled, push_entries};
 use end_of_run::{Endings, due_at, ending_entries, marker_at};
 use label_set::{NoMemory, SetList};
 use report_samples::{Closing, EntryList};
 use std::alloc::Global;
+use std::process::Abort;
 use std::test::Fail;
 
 /// The ending of a life with one tracked set: its marker, and those of the five reports.
@@ -38,10 +39,28 @@ fn closing(alloc: Global) -> Result<Closing, NoMemory>
     })
 }
 
+fn moments_follow_from_the_plan(rt: &impl Abort) {
+    holds(rt, marker_at(2500, 2000) == 2500, "as planned");
+    holds(rt, marker_at(2500, 2501) == 2501, "closed later");
+    holds(rt, due_at(2500, 2000, 1009) == 3609, "when it is due");
+}
+
 fn shown(alloc: Global, entries: &EntryList) -> Result<Vec<u8>, NoMemory> {
     let mut text = Vec::new(alloc);
     push_entries(alloc, &mut text, entries)?;
     Ok(text)
+}
+
+/// The entries of that ending.
+fn entries(alloc: Global) -> Result<EntryList, NoMemory> {
+    let closing = closing(alloc)?;
+    ending_entries(alloc, &closing)
+}
+
+fn an_ending_has_its_entries(rt: &impl Abort, alloc: Global) -> Result<(), NoMemory> {
+    let entries = entries(alloc)?;
+    are_bytes(rt, &shown(alloc, &entries)?, ENDING.as_bytes());
+    Ok(())
 }
 
 /// The endings of that life alone.
@@ -52,26 +71,31 @@ fn one_ending(alloc: Global) -> Result<Endings, NoMemory> {
     Ok(endings)
 }
 
+/// How many entries the ending of that life has.
+fn count(alloc: Global, endings: &Endings) -> Result<usize, NoMemory> {
+    Ok(endings.entries(alloc, 7)?.items.len())
+}
+
+fn is_taken_once(rt: &impl Abort, alloc: Global, endings: &mut Endings) -> Result<(), NoMemory> {
+    holds(rt, !endings.due(3608), "not due");
+    holds(rt, endings.due(3609), "due");
+    holds(rt, !endings.take(7, 3608), "not taken before");
+    holds(rt, count(alloc, endings)? == 6, "six entries");
+    holds(rt, endings.take(7, 3609), "taken");
+    holds(rt, !endings.take(7, 3609), "not taken again");
+    holds(rt, !endings.due(3609), "not due again");
+    holds(rt, count(alloc, endings)? == 0, "no entry");
+    Ok(())
+}
+
+fn an_ending_is_taken_once(rt: &impl Abort, alloc: Global) -> Result<(), NoMemory> {
+    is_taken_once(rt, alloc, &mut one_ending(alloc)?)
+}
+
 #[test]
 fn an_ending_is_due_and_taken_once(rt: HostRuntime) -> Result<(), Fail> {
-    {
-        assert_eq!(rt; marker_at(2500, 2000), 2500);
-        assert_eq!(rt; marker_at(2500, 2501), 2501);
-        assert_eq!(rt; due_at(2500, 2000, 1009), 3609);
-    }
-    {
-        let closing = closing(rt.alloc())?;
-        let entries = ending_entries(rt.alloc(), &closing)?;
-        assert!(rt; shown(rt.alloc(), &entries)?.as_slice() == ENDING.as_bytes());
-    }
-    {
-        let mut endings = one_ending(rt.alloc())?;
-        assert!(rt; !endings.due(3608) && endings.due(3609));
-        assert!(rt; !endings.take(7, 3608));
-        assert_eq!(rt; endings.entries(rt.alloc(), 7)?.items.len(), 6);
-        assert!(rt; endings.take(7, 3609));
-        assert!(rt; !endings.take(7, 3609) && !endings.due(3609));
-        assert!(rt; endings.entries(rt.alloc(), 7)?.items.is_empty());
-    }
+    moments_follow_from_the_plan(&rt);
+    an_ending_has_its_entries(&rt, rt.alloc())?;
+    an_ending_is_taken_once(&rt, rt.alloc())?;
     Ok(())
 }

@@ -1,9 +1,9 @@
 //! Instant views: what a selector sees in a book at a moment.
 ghost use Rattle.std.specs.Prelude.{◌≡◌};
 
-use crate::shared::set_of;
+use crate::shared::{are_bytes, holds, set_of};
 use appender_book::Book;
-use instant_view::{Selector, SelectorError, View, ViewRow, laws_of_views};
+use instant_view::{Selector, SelectorError, View, ViewRow, ViewRows, laws_of_views};
 use label_set::{LabelSet, NoMemory};
 use report_samples::{Entry, EntryList, Kind};
 use std::alloc::Global;
@@ -81,26 +81,29 @@ const SELECTED: [(&str, bool); 26] = [
     ("{a!=\"ü\",a!=\"\"}", true),
 ];
 
-#[test]
-fn selectors_are_read_and_select(rt: HostRuntime) -> Result<(), Fail> {
-    let alloc = rt.alloc();
+fn texts_are_refused(rt: &impl Abort, alloc: Global) {
     for (text, error) in REFUSED {
         match Selector::read(alloc, text) {
             Ok(_) => panic!(rt; "read: {text}"),
-            Err(found) => assert_eq!(rt; found, error, "{text}"),
+            Err(found) => holds(rt, found == error, text),
         }
     }
+}
+
+/// Whether a text selects a set.
+fn selects(rt: &impl Abort, alloc: Global, text: &str, set: &LabelSet) -> Result<bool, NoMemory> {
+    match Selector::read(alloc, text) {
+        Ok(selector) => selector.selects(alloc, set),
+        Err(found) => panic!(rt; "{found:?}: {text}"),
+    }
+}
+
+fn sets_are_selected(rt: &impl Abort, alloc: Global) -> Result<(), NoMemory> {
     let Ok(set) = set_of(alloc, &[("__name__", "x"), ("a", "b\n\"\\q")]) else {
         panic!(rt; "no set");
     };
     for (text, selected) in SELECTED {
-        match Selector::read(alloc, text) {
-            Ok(selector) => {
-                let found = selector.selects(alloc, &set)?;
-                assert_eq!(rt; found, selected, "{text}");
-            }
-            Err(found) => panic!(rt; "{found:?}: {text}"),
-        }
+        holds(rt, selects(rt, alloc, text, &set)? == selected, text);
     }
     Ok(())
 }
@@ -270,6 +273,31 @@ fn push_row(alloc: Global, text: &mut Vec<u8>, row: &ViewRow) -> Result<(), NoMe
     Ok(())
 }
 
+/// The rows that a selector sees at a moment.
+fn rows_text(alloc: Global, rows: &[ViewRow]) -> Result<Vec<u8>, NoMemory> {
+    let mut text = Vec::new(alloc);
+    for row in rows {
+        push_row(alloc, &mut text, row)?;
+    }
+    Ok(text)
+}
+
+/// What a selector sees at a moment.
+fn seen(
+    rt: &impl Abort,
+    alloc: Global,
+    view: &mut View,
+    query: &(&str, i64, &str),
+) -> Result<ViewRows, NoMemory>
+    ensures { view.new ≡ view.old }
+{
+    match Selector::read(alloc, query.0) {
+        Ok(selector) => view.instant(alloc, &selector, query.1),
+        Err(_) => panic!(rt; "no selector"),
+    }
+}
+
+/// Ends the test where it sees other rows.
 fn expect_rows(
     rt: &impl Abort,
     alloc: Global,
@@ -278,20 +306,8 @@ fn expect_rows(
 ) -> Result<(), NoMemory>
     ensures { view.new ≡ view.old }
 {
-    let Ok(selector) = Selector::read(alloc, query.0) else {
-        panic!(rt; "no selector");
-    };
-    let rows = view.instant(alloc, &selector, query.1)?;
-    let mut text = Vec::new(alloc);
-    for row in &rows.items {
-        push_row(alloc, &mut text, row)?;
-    }
-    assert!(rt;
-        text.as_slice() == query.2.as_bytes(),
-        "{} at {}",
-        query.0,
-        query.1
-    );
+    let rows = seen(rt, alloc, view, query)?;
+    are_bytes(rt, &rows_text(alloc, &rows.items)?, query.2.as_bytes());
     Ok(())
 }
 
@@ -321,19 +337,28 @@ fn entries_of(
     Ok(EntryList { items })
 }
 
-#[test]
-fn a_view_follows_a_book_and_is_asked(rt: HostRuntime) -> Result<(), Fail> {
-    let alloc = rt.alloc();
-    let mut book = Book::new(alloc)?;
+/// Appends the entries to a book, while a view follows it.
+fn follows(rt: &impl Abort, alloc: Global, book: &mut Book) -> Result<(), NoMemory> {
     let mut view = View::new(alloc);
-    let first = entries_of(&rt, alloc, &FIRST)?;
+    let first = entries_of(rt, alloc, &FIRST)?;
     book.append_all(first)?;
-    view.follow(alloc, &book)?;
-    expect_all(&rt, alloc, &mut view, &EARLY)?;
-    let later = entries_of(&rt, alloc, &LATER)?;
+    view.follow(alloc, book)?;
+    expect_all(rt, alloc, &mut view, &EARLY)?;
+    let later = entries_of(rt, alloc, &LATER)?;
     book.append_all(later)?;
     laws_of_views();
-    view.follow(alloc, &book)?;
-    expect_all(&rt, alloc, &mut view, &LATE)?;
+    view.follow(alloc, book)?;
+    expect_all(rt, alloc, &mut view, &LATE)
+}
+
+fn a_view_follows_a_book_and_is_asked(rt: &impl Abort, alloc: Global) -> Result<(), NoMemory> {
+    follows(rt, alloc, &mut Book::new(alloc)?)
+}
+
+#[test]
+fn selectors_are_read_and_views_asked(rt: HostRuntime) -> Result<(), Fail> {
+    texts_are_refused(&rt, rt.alloc());
+    sets_are_selected(&rt, rt.alloc())?;
+    a_view_follows_a_book_and_is_asked(&rt, rt.alloc())?;
     Ok(())
 }

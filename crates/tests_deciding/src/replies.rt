@@ -1,7 +1,7 @@
 //! What a reply to a scrape comes to. Each fault shows in a case, too.
 ghost use Rattle.std.specs.Prelude.{◌≡◌, ◌<◌};
 
-use crate::shared::{conf_of, job_in, labelled};
+use crate::shared::{are_bytes, conf_of, job_in, labelled};
 use label_set::{Blob, LabelSet, NoMemory, Steps};
 use outside::Reply;
 use sample_rows::left::is_named;
@@ -116,15 +116,22 @@ fn told(rt: &impl Abort, alloc: Global, reply: &Reply, took: i64) -> Result<Vec<
     shown(alloc, &scrape)
 }
 
-fn body_of(alloc: Global, status: u16, text: &str) -> Result<Reply, NoMemory> {
-    Ok(Reply::Body {
-        status,
-        bytes: Blob::from_slice(alloc, text.as_bytes())?,
-    })
+/// Ends the test where a reply doesn't come to what is wanted.
+fn is_told(
+    rt: &impl Abort,
+    alloc: Global,
+    reply: &Reply,
+    took: i64,
+    want: &str,
+) -> Result<(), NoMemory> {
+    are_bytes(rt, &told(rt, alloc, reply, took)?, want.as_bytes());
+    Ok(())
 }
 
 /// The status and the text of a body, how long its fetch took, and what it comes to.
-const BODIES: &[(u16, &str, i64, &str)] = &[
+type Row = (u16, &'static str, i64, &'static str);
+
+const BODIES: &[Row] = &[
     (
         200,
         "x{job=\"a\"} 1 5\ny 2\nz 3\n",
@@ -142,29 +149,49 @@ const BODIES: &[(u16, &str, i64, &str)] = &[
     ),
     (200, "x 1\nx{", 5, "Line(2), 0 of 0"),
     (200, "x 1\ny 2\nz 3\nv 4\n", 5, "Samples, 3 of 4"),
+    (200, "{\"a.b\",\"c.d\"=\"x\"} 1\n", 5, "Line(1), 0 of 0"),
 ];
 
-/// Ends the test where a reply doesn't come to what is wanted.
-fn is_told(rt: &impl Abort, alloc: Global, reply: &Reply, want: &str) -> Result<(), NoMemory> {
-    let text = told(rt, alloc, reply, 5)?;
-    assert_eq!(rt; text.as_slice(), want.as_bytes());
+fn bodies_are_told(rt: &impl Abort, alloc: Global) -> Result<(), NoMemory> {
+    for &(status, text, took, want) in BODIES {
+        let bytes = Blob::from_slice(alloc, text.as_bytes())?;
+        let reply = Reply::Body { status, bytes };
+        is_told(rt, alloc, &reply, took, want)?;
+    }
     Ok(())
+}
+
+/// The same of bodies whose names may stand in quotes.
+const QUOTED: &[Row] = &[
+    (
+        200,
+        "{\"a.b\",\"c.d\"=\"x\"} 1\ny 2\n",
+        10_000,
+        "{\"a.b\",\"c.d\"=\"x\",job=\"j\"} 1; of 2",
+    ),
+    (404, "x 1\n", 5, "Status(404), 0 of 0"),
+];
+
+fn names_in_quotes_are_told(rt: &impl Abort, alloc: Global) -> Result<(), NoMemory> {
+    for &(status, text, took, want) in QUOTED {
+        let bytes = Blob::from_slice(alloc, text.as_bytes())?;
+        let reply = Reply::Quoted { status, bytes };
+        is_told(rt, alloc, &reply, took, want)?;
+    }
+    Ok(())
+}
+
+fn other_replies_are_told(rt: &impl Abort, alloc: Global) -> Result<(), NoMemory> {
+    is_told(rt, alloc, &Reply::Lost, 5, "Lost, 0 of 0")?;
+    is_told(rt, alloc, &Reply::Garbled, 5, "Garbled, 0 of 0")?;
+    is_told(rt, alloc, &Reply::Unsent, 5, "Unsent, 0 of 0")?;
+    is_told(rt, alloc, &Reply::Oversize, 5, "Size, 0 of 0")
 }
 
 #[test]
 fn replies_come_to_samples_or_a_fault(rt: HostRuntime) -> Result<(), Fail> {
-    {
-        for &(status, text, took, want) in BODIES {
-            let reply = body_of(rt.alloc(), status, text)?;
-            let text = told(&rt, rt.alloc(), &reply, took)?;
-            assert_eq!(rt; text.as_slice(), want.as_bytes(), "{want}");
-        }
-    }
-    {
-        is_told(&rt, rt.alloc(), &Reply::Lost, "Lost, 0 of 0")?;
-        is_told(&rt, rt.alloc(), &Reply::Garbled, "Garbled, 0 of 0")?;
-        is_told(&rt, rt.alloc(), &Reply::Unsent, "Unsent, 0 of 0")?;
-        is_told(&rt, rt.alloc(), &Reply::Oversize, "Size, 0 of 0")?;
-    }
+    bodies_are_told(&rt, rt.alloc())?;
+    names_in_quotes_are_told(&rt, rt.alloc())?;
+    other_replies_are_told(&rt, rt.alloc())?;
     Ok(())
 }

@@ -1,11 +1,13 @@
 //! Reports of scrapes, and stale markers.
-use crate::shared::{push_entries, push_entry, set_of};
+
+use crate::shared::{are_bytes, holds, push_entries, push_entry, set_of};
 use label_set::sets::LabelError;
 use label_set::{LabelSet, NoMemory};
 use report_samples::{
     ExtraCounts, Report, ReportCounts, ReportSets, report_set, reports, stale_entry,
 };
 use std::alloc::Global;
+use std::process::Abort;
 use std::test::Fail;
 
 /// The reports of a good scrape, of one that wasn't made, and of one with extra reports.
@@ -101,26 +103,44 @@ fn markers(alloc: Global, sets: &ReportSets) -> Result<Vec<u8>, NoMemory> {
     Ok(text)
 }
 
+fn reports_are_made(rt: &impl Abort, alloc: Global) -> Result<(), LabelError> {
+    let target = target(alloc)?;
+    are_bytes(rt, &all_reports(alloc, &target)?, REPORTS.as_bytes());
+    Ok(())
+}
+
+/// Ends the test where the set of a report has not its name and the labels of the target.
+fn has_its_set(
+    rt: &impl Abort,
+    alloc: Global,
+    target: &LabelSet,
+    report: Report,
+    name: &str,
+) -> Result<(), NoMemory> {
+    let set = report_set(alloc, target, report)?;
+    holds(rt, set.get("__name__") == Some(name), name);
+    holds(rt, set.get("instance") == Some("a:1"), name);
+    holds(rt, set.len() == 3, name);
+    Ok(())
+}
+
+fn reports_have_their_sets(rt: &impl Abort, alloc: Global) -> Result<(), LabelError> {
+    let target = target(alloc)?;
+    has_its_set(rt, alloc, &target, Report::Up, "up")?;
+    has_its_set(rt, alloc, &target, Report::Added, "scrape_series_added")?;
+    Ok(())
+}
+
+fn markers_are_made(rt: &impl Abort, alloc: Global) -> Result<(), LabelError> {
+    let sets = ReportSets::of(alloc, target(alloc)?, true)?;
+    are_bytes(rt, &markers(alloc, &sets)?, MARKERS.as_bytes());
+    Ok(())
+}
+
 #[test]
 fn each_scrape_has_its_reports(rt: HostRuntime) -> Result<(), Fail> {
-    {
-        let target = target(rt.alloc())?;
-        let text = all_reports(rt.alloc(), &target)?;
-        assert!(rt; text.as_slice() == REPORTS.as_bytes());
-    }
-    {
-        let target = target(rt.alloc())?;
-        for (report, name) in [(Report::Up, "up"), (Report::Added, "scrape_series_added")] {
-            let set = report_set(rt.alloc(), &target, report)?;
-            assert_eq!(rt; set.get("__name__"), Some(name));
-            assert_eq!(rt; set.get("instance"), Some("a:1"));
-            assert_eq!(rt; set.len(), 3);
-        }
-    }
-    {
-        let sets = ReportSets::of(rt.alloc(), target(rt.alloc())?, true)?;
-        let text = markers(rt.alloc(), &sets)?;
-        assert!(rt; text.as_slice() == MARKERS.as_bytes());
-    }
+    reports_are_made(&rt, rt.alloc())?;
+    reports_have_their_sets(&rt, rt.alloc())?;
+    markers_are_made(&rt, rt.alloc())?;
     Ok(())
 }

@@ -1,7 +1,7 @@
 //! The scrapes of one life: what each appends, and what the life leaves behind.
 ghost use Rattle.std.specs.Prelude.{◌≡◌, ◌<◌};
 
-use crate::shared::{conf_of, job_in, labelled, push_entries, push_entry};
+use crate::shared::{are_bytes, conf_of, holds, job_in, labelled, push_entries, push_entry};
 use appender_book::Book;
 use label_set::{Blob, LabelSet, NoMemory, Steps};
 use outside::Reply;
@@ -128,25 +128,43 @@ fn left_behind(alloc: Global, life: &LifeState) -> Result<usize, NoMemory> {
     Ok(closing.tracked.as_slice().len())
 }
 
-#[test]
-fn a_life_is_counted_forced_and_let_go(rt: HostRuntime) -> Result<(), Fail> {
-    let mut book = Book::new(rt.alloc())?;
-    let mut life = after_page(&rt, rt.alloc(), &mut book)?;
-    assert!(rt; life.scraped() && life.target().len() == 1);
-    assert!(rt; shown_book(rt.alloc(), &book)?.as_slice() == ENTRIES.as_bytes());
-    assert!(rt; shown_forced(rt.alloc(), &life)?.as_slice() == FORCED.as_bytes());
-    assert_eq!(rt; left_behind(rt.alloc(), &life)?, 1);
-    life.force();
-    assert_eq!(rt; left_behind(rt.alloc(), &life)?, 0);
-    life.release();
-    assert!(rt; life.scraped());
+/// Ends the test where the life after its first scrape isn't what it is to be.
+fn is_counted(
+    rt: &impl Abort,
+    alloc: Global,
+    life: &LifeState,
+    book: &Book,
+) -> Result<(), NoMemory> {
+    holds(rt, life.scraped(), "a scrape");
+    holds(rt, life.target().len() == 1, "its target");
+    are_bytes(rt, &shown_book(alloc, book)?, ENTRIES.as_bytes());
+    are_bytes(rt, &shown_forced(alloc, life)?, FORCED.as_bytes());
+    holds(rt, left_behind(alloc, life)? == 1, "one series is left");
     Ok(())
+}
+
+/// The same after a scrape that isn't made.
+fn is_forced(rt: &impl Abort, alloc: Global, life: &mut LifeState) -> Result<(), NoMemory> {
+    life.force();
+    holds(rt, left_behind(alloc, life)? == 0, "none is left");
+    life.release();
+    holds(rt, life.scraped(), "a scrape still");
+    Ok(())
+}
+
+fn a_life_is_counted_forced_and_let_go(rt: &impl Abort, alloc: Global) -> Result<(), NoMemory> {
+    let mut book = Book::new(alloc)?;
+    let mut life = after_page(rt, alloc, &mut book)?;
+    is_counted(rt, alloc, &life, &book)?;
+    drop(book);
+    is_forced(rt, alloc, &mut life)
 }
 
 /// Ends the test where the raw text `x` of the life isn't hashed by the hasher of the book.
 fn hashes_as(rt: &impl Abort, alloc: Global, life: &LifeState, book: &Book) {
     let wanted = SeriesCache::hashed(alloc, book.hasher());
-    assert_eq!(rt; life.hash_of(b"x"), wanted.hash_of(b"x"));
+    let is_so = life.hash_of(b"x") == wanted.hash_of(b"x");
+    holds(rt, is_so, "the hash of a raw text");
 }
 
 /// The hash of that text where no seed is used.
@@ -154,15 +172,18 @@ fn hash_without_seed(alloc: Global) -> Result<u64, NoMemory> {
     Ok(SeriesCache::new(alloc)?.hash_of(b"x"))
 }
 
-#[test]
-fn texts_are_hashed_with_the_seed_of_the_book(rt: HostRuntime) -> Result<(), Fail> {
-    let seed = RandomState::new(&rt)?;
-    let mut book = Book::seeded(rt.alloc(), seed)?;
-    let mut life = after_page(&rt, rt.alloc(), &mut book)?;
-    hashes_as(&rt, rt.alloc(), &life, &book);
-    assert!(rt; life.hash_of(b"x") != hash_without_seed(rt.alloc())?);
+fn texts_are_hashed_with_the_seed_of_the_book(
+    rt: &impl Abort,
+    alloc: Global,
+    seed: RandomState,
+) -> Result<(), NoMemory> {
+    let plain = hash_without_seed(alloc)?;
+    let mut book = Book::seeded(alloc, seed)?;
+    let mut life = after_page(rt, alloc, &mut book)?;
+    hashes_as(rt, alloc, &life, &book);
+    holds(rt, life.hash_of(b"x") != plain, "a hash with a seed");
     life.release();
-    hashes_as(&rt, rt.alloc(), &life, &book);
+    hashes_as(rt, alloc, &life, &book);
     Ok(())
 }
 
@@ -186,10 +207,23 @@ fn next_given(rt: &impl Abort, alloc: Global) -> Result<bool, NoMemory> {
     Ok(gives(reply, NEXT))
 }
 
-#[test]
-fn a_reply_that_is_read_is_given_back(rt: HostRuntime) -> Result<(), Fail> {
-    assert!(rt; gives(page(rt.alloc())?, BODY));
-    assert!(rt; next_given(&rt, rt.alloc())?);
+/// A page whose name stands in quotes.
+const QUOTED: &[u8] = b"{\"a.b\"} 1\n";
+
+/// Whether the reply with it, read in its form, gives it back.
+fn quoted_given(alloc: Global) -> Result<bool, NoMemory> {
+    let bytes = Blob::from_slice(alloc, QUOTED)?;
+    let reply = ReadReply::of(alloc, Reply::Quoted { status: 200, bytes })?;
+    match reply.into_reply() {
+        Reply::Quoted { status, bytes } => Ok(status == 200 && bytes.as_slice() == QUOTED),
+        _ => Ok(false),
+    }
+}
+
+fn a_reply_that_is_read_is_given_back(rt: &impl Abort, alloc: Global) -> Result<(), NoMemory> {
+    holds(rt, gives(page(alloc)?, BODY), "the first page");
+    holds(rt, next_given(rt, alloc)?, "the second page");
+    holds(rt, quoted_given(alloc)?, "a page with a name in quotes");
     Ok(())
 }
 
@@ -212,12 +246,30 @@ fn lost<L: Ledger>(
     Ok(said.fault)
 }
 
+/// The same under a job without rules for samples.
+fn lost_under(
+    rt: &impl Abort,
+    alloc: Global,
+    book: &mut Book,
+) -> Result<Option<ScrapeFault>, NoMemory> {
+    let conf = conf_of(rt, alloc, "")?;
+    lost::<Brand>(alloc, Blank::new(1), job_in(rt, &conf), book)
+}
+
+fn a_scrape_without_a_reply_is_counted(rt: &impl Abort, alloc: Global) -> Result<(), NoMemory> {
+    let mut book = Book::new(alloc)?;
+    let fault = lost_under(rt, alloc, &mut book)?;
+    holds(rt, fault == Some(ScrapeFault::Lost), "its fault");
+    holds(rt, book.len() == 5, "five reports");
+    Ok(())
+}
+
 #[test]
-fn a_scrape_without_a_reply_is_counted(rt: HostRuntime) -> Result<(), Fail> {
-    let mut book = Book::new(rt.alloc())?;
-    let conf = conf_of(&rt, rt.alloc(), "")?;
-    let fault = lost::<Brand>(rt.alloc(), Blank::new(1), job_in(&rt, &conf), &mut book)?;
-    assert_eq!(rt; fault, Some(ScrapeFault::Lost));
-    assert_eq!(rt; book.len(), 5);
+fn scrapes_of_a_life_are_counted(rt: HostRuntime) -> Result<(), Fail> {
+    let seed = RandomState::new(&rt)?;
+    a_life_is_counted_forced_and_let_go(&rt, rt.alloc())?;
+    texts_are_hashed_with_the_seed_of_the_book(&rt, rt.alloc(), seed)?;
+    a_reply_that_is_read_is_given_back(&rt, rt.alloc())?;
+    a_scrape_without_a_reply_is_counted(&rt, rt.alloc())?;
     Ok(())
 }

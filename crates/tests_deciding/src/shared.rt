@@ -1,4 +1,5 @@
-//! What several of the tests make and show.
+//! What several of the tests make and show, and what ends a test. A call of what ends one has no branch of its own, so a test with many of
+//! them is proved fast.
 
 use label_set::sets::LabelError;
 use label_set::{LabelSet, NoMemory};
@@ -6,6 +7,16 @@ use report_samples::{Entry, EntryList};
 use scrape_config::{Conf, ConfError, Job, read_conf};
 use std::alloc::Global;
 use std::process::Abort;
+
+/// Ends the test where something doesn't hold, with what was looked at.
+pub(crate) fn holds(rt: &impl Abort, is_so: bool, what: &str) {
+    assert!(rt; is_so, "wrong at [{what}]");
+}
+
+/// Ends the test where bytes are not those that are wanted.
+pub(crate) fn are_bytes(rt: &impl Abort, found: &[u8], wanted: &[u8]) {
+    assert_eq!(rt; found, wanted);
+}
 
 /// The set that labels make, put in one after another.
 pub(crate) fn set_of(alloc: Global, labels: &[(&str, &str)]) -> Result<LabelSet, LabelError> {

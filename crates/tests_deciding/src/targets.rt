@@ -3,8 +3,9 @@ mod requests;
 
 ghost use Rattle.std.specs.Prelude.{◌≡◌, ◌<◌};
 
-use crate::shared::{conf_of, job_in};
+use crate::shared::{are_bytes, conf_of, holds, job_in};
 use label_set::{LabelSet, Name, NoMemory, Steps};
+use requests::requests_are_made_of_identities;
 use scrape_config::{Job, MOST_TARGETS, read_groups};
 use std::alloc::{AllocError, Global};
 use std::marker::Brand;
@@ -209,19 +210,19 @@ fn listed_groups(alloc: Global, job: &Job) -> Result<String, NoMemory> {
     counted_groups::<Brand>(alloc, Blank::new(1), job)
 }
 
-#[test]
-fn targets_are_kept_refused_or_dropped(rt: HostRuntime) -> Result<(), Fail> {
-    {
-        for &(fields, want) in &ROWS {
-            let text = told(&rt, rt.alloc(), fields)?;
-            assert_eq!(rt; text.as_str(), want, "{fields}");
-        }
+/// What becomes of the targets of the groups of a job with these fields.
+fn told_groups(rt: &impl Abort, alloc: Global, fields: &str) -> Result<String, NoMemory> {
+    let conf = conf_of(rt, alloc, fields)?;
+    listed_groups(alloc, job_in(rt, &conf))
+}
+
+fn listed_targets_are_told(rt: &impl Abort, alloc: Global) -> Result<(), NoMemory> {
+    for &(fields, want) in &ROWS {
+        let text = told(rt, alloc, fields)?;
+        are_bytes(rt, text.as_bytes(), want.as_bytes());
     }
-    {
-        let conf = conf_of(&rt, rt.alloc(), ROWS[0].0)?;
-        let text = listed_groups(rt.alloc(), job_in(&rt, &conf))?;
-        assert_eq!(rt; text.as_str(), ROWS[0].1);
-    }
+    let text = told_groups(rt, alloc, ROWS[0].0)?;
+    are_bytes(rt, text.as_bytes(), ROWS[0].1.as_bytes());
     Ok(())
 }
 
@@ -273,25 +274,55 @@ const OF_ONE_FILE: (&str, &str) = (
     | f=t/a.json instance=i job=j; dropped 0",
 );
 
+/// Ends the test where something else becomes of the targets of a job with these files.
+fn are_listed(
+    rt: &impl Abort,
+    alloc: Global,
+    job: &Job,
+    files: &[FileGroups],
+    want: &str,
+) -> Result<(), NoMemory> {
+    let text = listed(alloc, job, files)?;
+    are_bytes(rt, text.as_bytes(), want.as_bytes());
+    Ok(())
+}
+
+/// A job with the target `a` and these files, which list four targets with it.
+fn two_files_are_listed(
+    rt: &impl Abort,
+    alloc: Global,
+    files: &[FileGroups],
+) -> Result<(), NoMemory> {
+    let conf = conf_of(rt, alloc, r#","static_configs":[{"targets":["a"]}]"#)?;
+    let job = job_in(rt, &conf);
+    let four = listed_within(&job.conf, files, 4);
+    holds(rt, four == Some(4), "four targets");
+    let none = listed_within(&job.conf, files, 3);
+    holds(rt, none == None, "more than three targets");
+    are_listed(rt, alloc, job, files, OF_FILES)
+}
+
+fn one_file_is_listed(rt: &impl Abort, alloc: Global) -> Result<(), NoMemory> {
+    let groups = r#"[{"targets":["a:1"],"labels":{"instance":"i"}}]"#;
+    let file = file_of(rt, alloc, "t/a.json", groups)?;
+    let conf = conf_of(rt, alloc, OF_ONE_FILE.0)?;
+    are_listed(rt, alloc, job_in(rt, &conf), &[file], OF_ONE_FILE.1)
+}
+
+fn groups_of_files_come_behind_the_jobs_own(
+    rt: &impl Abort,
+    alloc: Global,
+) -> Result<(), NoMemory> {
+    let files = all_shared(alloc, two_files(rt, alloc)?.as_slice())?;
+    two_files_are_listed(rt, alloc, files.as_slice())?;
+    drop(files);
+    one_file_is_listed(rt, alloc)
+}
+
 #[test]
-fn groups_of_files_come_behind_the_jobs_own(rt: HostRuntime) -> Result<(), Fail> {
-    {
-        let conf = conf_of(&rt, rt.alloc(), r#","static_configs":[{"targets":["a"]}]"#)?;
-        let files = all_shared(rt.alloc(), two_files(&rt, rt.alloc())?.as_slice())?;
-        let job = job_in(&rt, &conf);
-        assert_eq!(rt; listed_within(&job.conf, files.as_slice(), 4), Some(4));
-        assert_eq!(rt; listed_within(&job.conf, files.as_slice(), 3), None);
-        assert_eq!(rt;
-            listed(rt.alloc(), job, files.as_slice())?.as_str(),
-            OF_FILES
-        );
-    }
-    {
-        let conf = conf_of(&rt, rt.alloc(), OF_ONE_FILE.0)?;
-        let groups = r#"[{"targets":["a:1"],"labels":{"instance":"i"}}]"#;
-        let file = file_of(&rt, rt.alloc(), "t/a.json", groups)?;
-        let text = listed(rt.alloc(), job_in(&rt, &conf), &[file])?;
-        assert_eq!(rt; text.as_str(), OF_ONE_FILE.1);
-    }
+fn targets_are_kept_refused_or_dropped(rt: HostRuntime) -> Result<(), Fail> {
+    listed_targets_are_told(&rt, rt.alloc())?;
+    groups_of_files_come_behind_the_jobs_own(&rt, rt.alloc())?;
+    requests_are_made_of_identities(&rt, rt.alloc())?;
     Ok(())
 }

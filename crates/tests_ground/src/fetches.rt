@@ -92,6 +92,7 @@ fn parts_of(reply: &Reply) -> (&'static str, &[u8]) {
     match reply {
         Reply::Body { status: 200, bytes } => ("200", bytes.as_slice()),
         Reply::Body { .. } => ("another status", b""),
+        Reply::Quoted { .. } => ("quoted", b""),
         Reply::Lost => ("lost", b""),
         Reply::Garbled => ("garbled", b""),
         Reply::Unsent => ("unsent", b""),

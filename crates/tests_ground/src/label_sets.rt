@@ -239,6 +239,22 @@ fn sets_are_printed(rt: &impl Abort, alloc: Global) -> Result<(), LabelError> {
     Ok(())
 }
 
+/// A set of any names: the name of the metric, and that of a label with a quote and a backslash in it.
+fn set_of_any(alloc: Global) -> Result<LabelSet, LabelError> {
+    let set = LabelSet::empty().with_any(alloc, "__name__", "a.b")?;
+    set.with_any(alloc, "c\"\\", "x")
+}
+
+fn names_in_quotes_are_printed(rt: &impl Abort, alloc: Global) -> Result<(), LabelError> {
+    let text = printed_twice(alloc, set_of_any(alloc)?)?;
+    let want = r#"{"a.b","c\"\\"="x"}{"a.b","c\"\\"="x"}"#;
+    are_bytes(rt, &text, want.as_bytes());
+    let refused = LabelSet::empty().with_any(alloc, "", "x");
+    let is_so = matches!(refused, Err(LabelError::BadName));
+    holds(rt, is_so, "a name that is empty");
+    Ok(())
+}
+
 #[test]
 fn texts_and_labels_are_copied(rt: HostRuntime) -> Result<(), Fail> {
     names_are_told_apart(&rt);
@@ -256,5 +272,6 @@ fn sets_are_made_compared_and_printed(rt: HostRuntime) -> Result<(), Fail> {
     labels_come_in_any_order(&rt, rt.alloc())?;
     sets_are_compared(&rt, rt.alloc())?;
     sets_are_printed(&rt, rt.alloc())?;
+    names_in_quotes_are_printed(&rt, rt.alloc())?;
     Ok(())
 }

@@ -14,7 +14,9 @@
 //! | `LabelSet::{empty, is_empty, from_labels}`, `SetList::as_slice` | `label_sets::sets_make_a_list` |
 //! | `LabelSet::{of, labels}`, `lent`, `Pair::label` | `label_sets::labels_come_in_any_order` |
 //! | `LabelSet::hash` | `label_sets::sets_are_compared` |
-//! | `LabelSet::{append_text, write_text}` | `label_sets::sets_are_printed` |
+//! | `LabelSet::{append_text, write_text}` | `label_sets::{sets_are_printed, names_in_quotes_are_printed}` |
+//! | `LabelSet::with_any` | `label_sets::names_in_quotes_are_printed` |
+//! | `Form` | `tests_reading::quoted` |
 //! | `LabelSet::with_label`, `Labels::{value_of, at}` | within `with`, `get` and `at` |
 //! | `Labels::again` | contract alone |
 //! | `Steps::{open, tick}` | `tests_reading::rules` |

@@ -2,7 +2,8 @@
 
 use crate::shared::{are_bytes, holds};
 use expo_reader::{
-    BodyCause, BodyReader, BodyRow, LikeBody, ReadBody, SampleRow, Unread, read_body, read_like,
+    BodyCause, BodyReader, BodyRow, Form, LikeBody, ReadBody, SampleRow, Unread, read_body,
+    read_like,
 };
 use label_set::{Blob, NoMemory};
 use std::alloc::{AllocError, Global};
@@ -18,7 +19,7 @@ fn push_bytes(text: &mut Vec<u8>, bytes: &[u8], end: &[u8]) -> Result<(), AllocE
 /// Adds a row: raw text, name, labels and value, and then the line and the timestamp, where there is one.
 fn push_row(alloc: Global, text: &mut Vec<u8>, row: &SampleRow<'_>) -> Result<(), NoMemory> {
     push_bytes(text, row.raw(), b" ")?;
-    push_bytes(text, row.name().as_bytes(), b" ")?;
+    push_bytes(text, row.name(alloc)?.as_str().as_bytes(), b" ")?;
     for label in row.labels(alloc)?.as_slice() {
         push_bytes(text, label.name().as_bytes(), b"=[")?;
         push_bytes(text, label.value().as_bytes(), b"] ")?;
@@ -186,7 +187,7 @@ fn many_labels_are_read(rt: &impl Abort, alloc: Global) -> Result<(), NoMemory> 
 fn read_alike(alloc: Global, text: &str, other: &str) -> Result<LikeBody, NoMemory> {
     let like = body_of(alloc, other.as_bytes()).map_err(|_| NoMemory)?;
     let bytes = Blob::from_slice(alloc, text.as_bytes())?;
-    read_like(alloc, bytes, &like).map_err(|_| NoMemory)
+    read_like(alloc, Form::Plain, bytes, &like).map_err(|_| NoMemory)
 }
 
 /// Its rows, and their places among those of the other, each with one more than it is.

@@ -45,19 +45,20 @@ fn is_told(rt: &impl Abort, alloc: Global, refusal: &Refusal, words: &str) -> Re
     Ok(())
 }
 
-/// Refusals, and the words that tell them.
-const REFUSALS: &[(&Refusal, &str)] = &[
-    (&Refusal::NotACommand, "control 12: not a command\n"),
-    (&Refusal::Absent, "control 12: absent\n"),
-    (&Refusal::TooLong, "control 12: too long\n"),
-    (&Refusal::NoJob, "control 12: no job\n"),
-    (&Refusal::NoFile, "control 12: no file\n"),
-];
+fn refusals_of_files_are_told(rt: &impl Abort, alloc: Global) -> Result<(), NoMemory> {
+    is_told(rt, alloc, &Refusal::Absent, "control 12: absent\n")?;
+    is_told(rt, alloc, &Refusal::TooLong, "control 12: too long\n")?;
+    is_told(rt, alloc, &Refusal::NoFile, "control 12: no file\n")
+}
 
-fn refusals_are_told(rt: &impl Abort, alloc: Global) -> Result<(), NoMemory> {
-    for &(refusal, words) in REFUSALS {
-        is_told(rt, alloc, refusal, words)?;
-    }
+fn other_refusals_are_told(rt: &impl Abort, alloc: Global) -> Result<(), NoMemory> {
+    is_told(
+        rt,
+        alloc,
+        &Refusal::NotACommand,
+        "control 12: not a command\n",
+    )?;
+    is_told(rt, alloc, &Refusal::NoJob, "control 12: no job\n")?;
     let many = Refusal::Refused(ConfFault::TooMany {
         place: Name::from_str(alloc, "/a")?,
         limit: 1000,
@@ -68,6 +69,7 @@ fn refusals_are_told(rt: &impl Abort, alloc: Global) -> Result<(), NoMemory> {
 #[test]
 fn lines_are_commands_and_refusals_told(rt: HostRuntime) -> Result<(), Fail> {
     lines_are_commands(&rt, rt.alloc())?;
-    refusals_are_told(&rt, rt.alloc())?;
+    refusals_of_files_are_told(&rt, rt.alloc())?;
+    other_refusals_are_told(&rt, rt.alloc())?;
     Ok(())
 }

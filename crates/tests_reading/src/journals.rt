@@ -1,7 +1,9 @@
-//! Journals, and the one text of a journal.
+//! Journals, and the text of a journal, one a version.
 
-use crate::shared::holds;
-use journal_text::{Event, Journal, ScriptCause, ScriptError, read_journal, write_journal};
+use crate::shared::{are_bytes, holds};
+use journal_text::{
+    Event, Journal, ScriptCause, ScriptError, Version, read_journal, write_journal, write_version,
+};
 use label_set::NoMemory;
 use outside::Reply;
 use std::alloc::{AllocError, Global};
@@ -18,6 +20,9 @@ const EACH_KIND: &[u8] =
 sweep 4503599627370495\nbody 0 0 100 0\n\nbody 4503599627370495 18446744073709551615 999 1\n\n\nlost 1 2\n\
 garbled 3 4\nunsent 5 6\noversize 7 8\nhalt 4503599627370495\nsweep 4503599627370495\n";
 
+/// A finish with a body whose names may stand in quotes, and one with an empty body.
+const QUOTED: &[u8] = b"scrape-journal 2\nquoted 1 2 200 4\nx 1\n\nbody 1 2 200 0\n\n";
+
 /// Where a text has its fault, and why; nothing for a journal's text.
 fn fault_of(rt: &impl Abort, alloc: Global, text: &[u8]) -> Option<(u64, ScriptCause)> {
     match read_journal(alloc, text) {
@@ -27,15 +32,30 @@ fn fault_of(rt: &impl Abort, alloc: Global, text: &[u8]) -> Option<(u64, ScriptC
     }
 }
 
-/// Ends the test where a journal is not written as its text was read.
-fn is_written_as_read(rt: &impl Abort, alloc: Global, script: &[u8]) {
-    let Ok(journal) = read_journal(alloc, script) else {
-        panic!(rt; "not read");
-    };
-    let Ok(text) = write_journal(alloc, &journal) else {
-        panic!(rt; "not written");
-    };
-    holds(rt, text.as_slice() == script, "the text of a journal");
+/// The journal of a text.
+fn journal_of(rt: &impl Abort, alloc: Global, script: &[u8]) -> Journal {
+    match read_journal(alloc, script) {
+        Ok(journal) => journal,
+        Err(_) => panic!(rt; "not read"),
+    }
+}
+
+/// Ends the test where a journal is not written, in a version, as its text was read.
+fn is_written_as_read(rt: &impl Abort, alloc: Global, version: Version, script: &[u8]) {
+    let journal = journal_of(rt, alloc, script);
+    match write_version(alloc, version, &journal) {
+        Ok(text) => are_bytes(rt, text.as_slice(), script),
+        Err(_) => panic!(rt; "not written"),
+    }
+}
+
+/// Ends the test where the journal of a text is not written as another one.
+fn is_written_as(rt: &impl Abort, alloc: Global, script: &[u8], wanted: &[u8]) {
+    let journal = journal_of(rt, alloc, script);
+    match write_journal(alloc, &journal) {
+        Ok(text) => are_bytes(rt, text.as_slice(), wanted),
+        Err(_) => panic!(rt; "not written"),
+    }
 }
 
 /// The fault of `ONE_LOAD` cut to its first bytes.
@@ -80,7 +100,7 @@ fn script_of(alloc: Global, line: &str) -> Result<Vec<u8>, AllocError> {
 
 /// Texts that are no journal's, where they have their faults, and why.
 const NO_JOURNALS: &[(&[u8], u64, ScriptCause)] = &[
-    (b"scrape-journal 2\n", 0, ScriptCause::Header),
+    (b"scrape-journal 3\n", 0, ScriptCause::Header),
     (
         b"scrape-journal 1\ntargets 0 1 1 0\n\xfff\n",
         17,
@@ -139,14 +159,43 @@ fn is_one_load(events: &[Event]) -> bool {
     }
 }
 
+/// Whether these are the events of `QUOTED`.
+fn is_quoted(events: &[Event]) -> bool {
+    match events {
+        [
+            Event::Finish {
+                ticket: 2,
+                took: 1,
+                reply: Reply::Quoted { status: 200, bytes },
+            },
+            Event::Finish {
+                ticket: 2,
+                took: 1,
+                reply: Reply::Body { status: 200, .. },
+            },
+        ] => bytes.as_slice() == b"x 1\n".as_slice(),
+        _ => false,
+    }
+}
+
 fn events_are_read(rt: &impl Abort, alloc: Global) {
-    match read_journal(alloc, ONE_LOAD) {
-        Ok(journal) => holds(rt, is_one_load(journal.events()), "one load"),
-        Err(_) => panic!(rt; "not read"),
-    }
+    let one = journal_of(rt, alloc, ONE_LOAD);
+    holds(rt, is_one_load(one.events()), "one load");
+    drop(one);
+    let quoted = journal_of(rt, alloc, QUOTED);
+    holds(rt, is_quoted(quoted.events()), "names in quotes");
+}
+
+fn events_are_written(rt: &impl Abort, alloc: Global) {
     for script in [ONE_LOAD, EACH_KIND, b"scrape-journal 1\n"] {
-        is_written_as_read(rt, alloc, script);
+        is_written_as_read(rt, alloc, Version::One, script);
     }
+    for script in [QUOTED, b"scrape-journal 2\n"] {
+        is_written_as_read(rt, alloc, Version::Two, script);
+    }
+    let anew = b"scrape-journal 2\nhalt 5\n";
+    is_written_as(rt, alloc, b"scrape-journal 1\nhalt 5\n", anew);
+    is_written_as(rt, alloc, anew, anew);
 }
 
 fn events_are_pushed(rt: &impl Abort, alloc: Global) -> Result<(), NoMemory> {
@@ -172,6 +221,7 @@ fn scripts_are_read_refused_and_written(rt: HostRuntime) -> Result<(), Fail> {
     lines_are_refused(&rt, rt.alloc())?;
     scripts_are_refused(&rt, rt.alloc());
     events_are_read(&rt, rt.alloc());
+    events_are_written(&rt, rt.alloc());
     events_are_pushed(&rt, rt.alloc())?;
     Ok(())
 }

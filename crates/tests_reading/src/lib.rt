@@ -7,11 +7,12 @@
 //! | `Lexer::{over, next}` | `tokens::tokens_have_kinds_and_spans` |
 //! | `expo_lexer::scan` | within `Lexer::next` |
 //! | `read_body`, `ReadBody::{len, row, rows, bytes, into_bytes}` | `bodies::a_body_is_read`; `scrape_cases::bodies` |
-//! | `read_like`, `LikeBody`, `RawTexts`, `NoTexts` | `bodies::a_body_like_another_is_read_as_alone` |
-//! | `SampleRow`, `LentLabel` | `bodies` |
-//! | `BodyReader::{new, feed, finish}` | `bodies::where_a_body_is_cut_makes_no_difference` |
+//! | `read_form`, `ReadBody::form` | `quoted::{lines_are_read_in_both_forms, a_body_knows_its_form}` |
+//! | `read_like`, `LikeBody`, `RawTexts`, `NoTexts` | `bodies::a_body_like_another_is_read_as_alone`, `quoted::texts_of_one_form_tell_of_the_other` |
+//! | `SampleRow`, `LentLabel`, `LentText` | `bodies`, `quoted` |
+//! | `BodyReader::{new, of, feed, finish}` | `bodies::where_a_body_is_cut_makes_no_difference`, `quoted::where_a_quoted_body_is_cut_makes_no_difference` |
 //! | `Unread`, `BodyCause` | `bodies::bytes_that_are_not_read_are_handed_back` |
-//! | `reads_the_format`, `has_one_reading`, `raw_texts_tell` | contract alone |
+//! | `reads_the_format`, `has_one_reading`, `plain_reads_quoted`, `raw_texts_tell` | contract alone |
 //! | `convert`, `OmError` | `openmetrics` |
 //! | `om_reader::{reads_the_format, has_one_reading, keeps_rows}` | contract alone |
 //! | `Pattern::{build, as_str, full_match, expand, filling, matching}` | `patterns` |
@@ -28,9 +29,10 @@
 //! | `JobConf::{compatible, same}` | `configurations::settings::settings_are_compared_after_defaults`; `reloads` |
 //! | `comparing_decides` | contract alone |
 //! | `command_in`, `is_name` | `control::lines_are_commands` |
-//! | `message_of` | `control::refusals_are_told` |
-//! | `faults::{fault_word, fault_place, push_fault}` | `control::refusals_are_told`; `fields` |
-//! | `read_journal`, `write_journal` | `journals`; `broken` |
+//! | `message_of` | `control::{refusals_of_files_are_told, other_refusals_are_told}` |
+//! | `faults::{fault_word, fault_place, push_fault}` | `control::{refusals_of_files_are_told, other_refusals_are_told}`; `fields` |
+//! | `read_journal` | `journals::{fronts_are_read_or_refused, events_are_read}`; `broken` |
+//! | `write_journal`, `write_version`, `Version` | `journals::events_are_written` |
 //! | `read_front` | `scrape_cli`'s test `cuts::script_cut_at_each_place`; `scrape_cases::cuts` |
 //! | `Journal::{new, reserve, push, events, into_events, len, is_empty, now}` | `journals::{events_are_read, events_are_pushed}` |
 //! | `texts_tell_apart` | contract alone |
@@ -52,6 +54,8 @@ mod openmetrics;
 mod patterns;
 #[cfg(test)]
 mod places;
+#[cfg(test)]
+mod quoted;
 #[cfg(test)]
 mod rules;
 #[cfg(test)]

@@ -5,9 +5,14 @@ ghost use Rattle.std.specs.Prelude.{◌≡◌, ◌<◌};
 ghost use Rattle.journal_text.specs.Events.{IsInLimits, MayFollow, now_of};
 ghost use Rattle.journal_text.specs.Lines.{IsMoment};
 
+use crate::shared::{holds, is_text};
 use journal_text::Event;
 use label_set::{Blob, Name, NoMemory, Steps};
 use outside::Reply;
+use readers::{
+    a_body_that_is_read_is_counted, a_core_says_what_is_due_and_what_is_asked,
+    room_is_kept_for_a_halt,
+};
 use scrape_core::{Answer, Core};
 use std::alloc::Global;
 use std::hash::{BuildHasher, Hasher, RandomState};
@@ -27,15 +32,10 @@ const PATTERN: &[u8] =
 /// A body with two samples.
 const BODY: &[u8] = b"x 1\ny 2\n";
 
-/// Ends the test where something doesn't hold.
-fn expect(rt: &impl Abort, holds: bool) {
-    assert!(rt; holds);
-}
-
 /// Ends the test where an answer isn't this one.
 fn is_said(rt: &impl Abort, alloc: Global, answer: &Answer, want: &str) -> Result<(), NoMemory> {
     let said = format!(in alloc; "{answer:?}")?;
-    assert_eq!(rt; said.as_str(), want);
+    is_text(rt, said.as_str(), want, "an answer");
     Ok(())
 }
 
@@ -239,10 +239,10 @@ fn refused_changes<L: Ledger>(
 /// How many entries the book has, and how many events the journal; and that rules were run for one listed target and
 /// two raw texts.
 fn has_kept(rt: &impl Abort, core: &Core, entries: usize, events: u64) {
-    expect(rt, core.runs() == 3);
-    expect(rt, core.book().len() == entries);
-    expect(rt, core.events() == events);
-    expect(rt, core.journal().len() as u64 == events);
+    holds(rt, core.runs() == 3, "runs of rules");
+    holds(rt, core.book().len() == entries, "entries");
+    holds(rt, core.events() == events, "events");
+    holds(rt, core.journal().len() as u64 == events, "the journal");
 }
 
 /// The answers of each kind of event.
@@ -266,32 +266,46 @@ fn answers<L: Ledger>(
     Ok(())
 }
 
-#[test]
-fn each_event_has_its_answer(rt: HostRuntime) -> Result<(), Fail> {
-    let mut core = Core::new(rt.alloc())?;
-    answers::<Brand>(&rt, rt.alloc(), &mut core, Blank::new(1))?;
-    expect(&rt, core.now() == 60_000);
-    Ok(())
+fn answers_are_given(rt: &impl Abort, alloc: Global) -> Result<(), NoMemory> {
+    let mut core = Core::new(alloc)?;
+    let done = answers::<Brand>(rt, alloc, &mut core, Blank::new(1));
+    holds(rt, core.now() == 60_000, "the last moment");
+    core.let_go();
+    done
 }
 
-/// What the hashes of a core's book begin with.
-fn first_hash(core: &Core) -> u64 {
-    core.book().hasher().finish()
+/// What the hashes of a core's book begin with. The core is let go.
+fn first_hash(core: Core) -> u64 {
+    let hash = core.book().hasher().finish();
+    core.let_go();
+    hash
 }
 
 fn hash_without_seed(alloc: Global) -> Result<u64, NoMemory> {
-    Ok(first_hash(&Core::new(alloc)?))
+    Ok(first_hash(Core::new(alloc)?))
 }
 
 fn hash_with_seed(alloc: Global, seed: RandomState) -> Result<u64, NoMemory> {
-    Ok(first_hash(&Core::seeded(alloc, seed)?))
+    Ok(first_hash(Core::seeded(alloc, seed)?))
+}
+
+fn a_core_hashes_with_its_seed(
+    rt: &impl Abort,
+    alloc: Global,
+    seed: RandomState,
+) -> Result<(), NoMemory> {
+    let first = seed.build_hasher().finish();
+    holds(rt, hash_with_seed(alloc, seed)? == first, "with a seed");
+    holds(rt, hash_without_seed(alloc)? != first, "without a seed");
+    Ok(())
 }
 
 #[test]
-fn a_core_hashes_with_its_seed(rt: HostRuntime) -> Result<(), Fail> {
-    let seed = RandomState::new(&rt)?;
-    let first = seed.build_hasher().finish();
-    expect(&rt, hash_with_seed(rt.alloc(), seed)? == first);
-    expect(&rt, hash_without_seed(rt.alloc())? != first);
+fn each_event_has_its_answer(rt: HostRuntime) -> Result<(), Fail> {
+    answers_are_given(&rt, rt.alloc())?;
+    a_core_hashes_with_its_seed(&rt, rt.alloc(), RandomState::new(&rt)?)?;
+    a_core_says_what_is_due_and_what_is_asked(&rt, rt.alloc())?;
+    room_is_kept_for_a_halt(&rt, rt.alloc())?;
+    a_body_that_is_read_is_counted(&rt, rt.alloc())?;
     Ok(())
 }

@@ -1,53 +1,40 @@
 //! The replies of targets: whole, in two pieces cut at each place, and from a link.
+
+mod quoted;
+
+use crate::shared::{holds, is_text, show};
 use http_fetch::receive::receive;
 use http_fetch::{Decoder, Fed, decode};
 use label_set::{Blob, NoMemory};
 use outside::{Reply, SureLink};
+use quoted::QUOTED;
 use std::alloc::Global;
 use std::process::Abort;
 use std::test::Fail;
 
-/// What a test writes of a reply.
-pub(crate) fn show(alloc: Global, reply: &Reply) -> Result<String, NoMemory> {
-    match reply {
-        Reply::Body { status, bytes } => {
-            let text = String::from_utf8_lossy(alloc, bytes.as_slice())?;
-            Ok(format!(in alloc; "{status} [{text}]")?)
-        }
-        Reply::Lost => Ok(format!(in alloc; "lost")?),
-        Reply::Garbled => Ok(format!(in alloc; "garbled")?),
-        Reply::Unsent => Ok(format!(in alloc; "unsent")?),
-        Reply::Oversize => Ok(format!(in alloc; "oversize")?),
-    }
+/// The reply of two pieces.
+fn reply_of_pieces(
+    alloc: Global,
+    first: &[u8],
+    second: &[u8],
+    limit: u64,
+) -> Result<Reply, NoMemory> {
+    let mut decoder = Decoder::new(alloc, limit)?;
+    decoder.feed(first)?;
+    decoder.feed(second)?;
+    decoder.end(alloc)
 }
 
+/// What is told of a reply that is cut in two at a place.
 fn cut(alloc: Global, text: &str, at: usize, limit: u64) -> Result<String, NoMemory> {
-    let mut decoder = Decoder::new(alloc, limit)?;
     let bytes = text.as_bytes();
-    let (front, rest) = bytes.split_at(at.min(bytes.len()));
-    decoder.feed(front)?;
-    decoder.feed(rest)?;
-    show(alloc, &decoder.end(alloc)?)
+    let (first, second) = bytes.split_at(at.min(bytes.len()));
+    show(alloc, &reply_of_pieces(alloc, first, second, limit)?)
 }
 
 /// What is told of a whole reply.
 fn whole(alloc: Global, text: &str, limit: u64) -> Result<String, NoMemory> {
     show(alloc, &decode(alloc, text.as_bytes(), limit)?)
-}
-
-/// The first place at which a reply is told otherwise where it comes in two pieces.
-fn told_otherwise(
-    alloc: Global,
-    text: &str,
-    limit: u64,
-    answer: &str,
-) -> Result<Option<usize>, NoMemory> {
-    for at in 0..text.len() {
-        if cut(alloc, text, at, limit)?.as_str() != answer {
-            return Ok(Some(at));
-        }
-    }
-    Ok(None)
 }
 
 /// What is told of a reply that is read from a link.
@@ -221,37 +208,81 @@ fn done_after(alloc: Global, text: &str, limit: u64) -> Result<Option<usize>, No
     Ok(None)
 }
 
-#[test]
-fn a_whole_reply_is_known_at_its_last_byte(rt: HostRuntime) -> Result<(), Fail> {
-    let alloc = rt.alloc();
-    assert!(rt; done_after(alloc, CHUNKED, 4)? == Some(CHUNKED.len() - 1));
-    assert!(rt; done_after(alloc, CHUNKED, 3)? == Some(CHUNKED.len() - 12));
-    let short = "HTTP/1.1 200 OK\r\nContent-Length: 2\r\n\r\nhi";
-    assert!(rt; done_after(alloc, short, 2)? == Some(short.len() - 1));
-    assert!(rt; done_after(alloc, "HTTP/1.1 200 OK\r\n\r\nhi", 2)? == None);
+/// A reply of two bytes whose length its head tells.
+const SHORT: &str = "HTTP/1.1 200 OK\r\nContent-Length: 2\r\n\r\nhi";
+
+/// Replies, their limits, and at which byte, counted from 0, each is whole; none where the end of the link has to be met. `CHUNKED` has
+/// 61 bytes and `SHORT` 40.
+const DONE: [(&str, u64, Option<usize>); 4] = [
+    (CHUNKED, 4, Some(60)),
+    (CHUNKED, 3, Some(49)),
+    (SHORT, 2, Some(39)),
+    ("HTTP/1.1 200 OK\r\n\r\nhi", 2, None),
+];
+
+fn a_whole_reply_is_known_at_its_last_byte(rt: &impl Abort, alloc: Global) -> Result<(), NoMemory> {
+    for (text, limit, count) in DONE {
+        holds(rt, done_after(alloc, text, limit)? == count, text);
+    }
+    Ok(())
+}
+
+/// Ends the test where a reply is told otherwise when it comes in two pieces.
+fn is_told_cut(
+    rt: &impl Abort,
+    alloc: Global,
+    text: &str,
+    limit: u64,
+    answer: &str,
+) -> Result<(), NoMemory> {
+    for at in 0..text.len() {
+        let told = cut(alloc, text, at, limit)?;
+        is_text(rt, told.as_str(), answer, text);
+    }
+    Ok(())
+}
+
+/// Ends the test where a whole reply is told otherwise.
+fn is_told_whole(
+    rt: &impl Abort,
+    alloc: Global,
+    text: &str,
+    limit: u64,
+    answer: &str,
+) -> Result<(), NoMemory> {
+    let told = whole(alloc, text, limit)?;
+    is_text(rt, told.as_str(), answer, text);
+    Ok(())
+}
+
+/// Ends the test where replies are told otherwise, whole or cut.
+fn are_told(rt: &impl Abort, alloc: Global, replies: &[(&str, u64, &str)]) -> Result<(), NoMemory> {
+    for &(text, limit, answer) in replies {
+        is_told_whole(rt, alloc, text, limit, answer)?;
+        is_told_cut(rt, alloc, text, limit, answer)?;
+    }
+    Ok(())
+}
+
+/// Ends the test where replies are told otherwise that are read from a link.
+fn are_received(
+    rt: &impl Abort,
+    alloc: Global,
+    replies: &[(&str, u64, &str)],
+) -> Result<(), NoMemory> {
+    for &(text, limit, answer) in replies {
+        let told = received(alloc, text, limit)?;
+        is_text(rt, told.as_str(), answer, text);
+    }
     Ok(())
 }
 
 #[test]
 fn replies_whole_and_cut_at_each_place(rt: HostRuntime) -> Result<(), Fail> {
-    {
-        for &(text, limit, answer) in REPLIES {
-            assert_eq!(rt; whole(rt.alloc(), text, limit)?.as_str(), answer, "{text}");
-            assert_eq!(rt;
-                told_otherwise(rt.alloc(), text, limit, answer)?,
-                None,
-                "{text}"
-            );
-        }
-    }
-    {
-        for &(text, limit, answer) in REPLIES {
-            assert_eq!(rt;
-                received(rt.alloc(), text, limit)?.as_str(),
-                answer,
-                "{text}"
-            );
-        }
-    }
+    a_whole_reply_is_known_at_its_last_byte(&rt, rt.alloc())?;
+    are_told(&rt, rt.alloc(), REPLIES)?;
+    are_told(&rt, rt.alloc(), QUOTED)?;
+    are_received(&rt, rt.alloc(), REPLIES)?;
+    are_received(&rt, rt.alloc(), QUOTED)?;
     Ok(())
 }

@@ -3,11 +3,13 @@ ghost use Rattle.std.specs.Prelude.{◌≡◌, ◌≤◌, [], IfSome};
 ghost use Rattle.std.specs.Vec.{vec_capacity};
 ghost use Rattle.turn_lock.specs.Passes.{number_of, made_of, IsIdle, IsPassOf};
 
+use crate::shared::holds;
 use std::alloc::Global;
+use std::process::Abort;
 use std::sync::Wait;
 use std::test::Fail;
 use std::thread::{Threads, join};
-use turn_lock::{Log, Pass, PassList, TurnLock};
+use turn_lock::{Entry, Log, Pass, PassList, TurnLock};
 
 /// How many turns each thread makes.
 const TURNS: u64 = 1_000;
@@ -92,6 +94,19 @@ fn open(alloc: Global) -> Option<Opened>
     })
 }
 
+/// Ends the test where the entries of each thread aren't all its numbers, in their order.
+fn are_of_both(rt: &impl Abort, entries: &[Entry<u64>]) {
+    holds(rt, entries.len() == 2_000, "2,000 entries");
+    let mut next = [0u64, 0u64];
+    for entry in entries {
+        let by = if entry.by == 0 { 0 } else { 1 };
+        holds(rt, entry.by < 2, "the number of a thread");
+        holds(rt, entry.item == next[by], "the number of an entry");
+        next[by] = next[by].wrapping_add(1);
+    }
+    holds(rt, next == [TURNS, TURNS], "1,000 of each");
+}
+
 #[test]
 fn two_threads_take_a_thousand_turns_each(rt: HostRuntime) -> Result<(), Fail> {
     let Some(opened) = open(rt.alloc()) else {
@@ -117,15 +132,9 @@ fn two_threads_take_a_thousand_turns_each(rt: HostRuntime) -> Result<(), Fail> {
     passes.push_reserved(one.0);
     passes.push_reserved(other.0);
     let log = lock.close(passes);
-    assert!(&rt; one.1 && other.1);
-    assert_eq!(&rt; log.entries.len(), 2_000);
-    let mut next = [0u64, 0u64];
-    for entry in log.entries.as_slice() {
-        let by = if entry.by == 0 { 0 } else { 1 };
-        assert!(&rt; entry.by < 2 && entry.item == next[by]);
-        next[by] = next[by].wrapping_add(1);
-    }
-    assert_eq!(&rt; next, [TURNS, TURNS]);
+    holds(&rt, one.1, "memory of the first");
+    holds(&rt, other.1, "memory of the second");
+    are_of_both(&rt, log.entries.as_slice());
     Ok(())
 }
 
@@ -154,7 +163,7 @@ fn a_thread_follows_another(rt: HostRuntime) -> Result<(), Fail> {
     passes.push_reserved(one.0);
     passes.push_reserved(other);
     let log = lock.close(passes);
-    assert!(&rt; one.1);
-    assert_eq!(&rt; log.entries.len(), 1_000);
+    holds(&rt, one.1, "memory");
+    holds(&rt, log.entries.len() == 1_000, "1,000 entries");
     Ok(())
 }

@@ -14,8 +14,8 @@ use label_set::{Blob, Name, NoMemory};
 use outside::{FileList, StoredFile, SureShelf};
 use scrape_cases::{
     bodies, broken, checked, conflicts, conversions, cuts, endings, fields, flags, instants,
-    limits, relabelling, reloads, scripts, selectors, synths, targets, texts, tracked, updates,
-    verdicts, words,
+    limits, quoted, relabelling, reloads, scripts, selectors, synths, targets, texts, tracked,
+    updates, verdicts, words,
 };
 use scrape_core::Means;
 use std::alloc::{AllocError, Global};
@@ -24,7 +24,8 @@ use std::str;
 use std::test::Fail;
 
 /// All cases, by subject.
-const TEXTS: [&str; 22] = [
+const TEXTS: [&str; 23] = [
+    quoted::CASES,
     words::CASES,
     flags::CASES,
     scripts::CASES,

@@ -77,7 +77,7 @@ impl Core {
         self.take(alloc, event, steps)
     }
 
-    /// Takes the finish of a ticket after so many milliseconds, by a reply with this status whose body is read already, as `step` takes it: with the
+    /// Takes the finish of a ticket after so many milliseconds, by a reply with this status whose body is read already, in its form, as `step` takes it: with the
     /// same answer, journal and book, without reading the body once more. A finish carries no moment, so it may always follow.
     /// After a refusal for want of memory the body is dropped and the core as before.
     pub fn finish_read<L: Ledger>(
@@ -89,25 +89,25 @@ impl Core {
         body: ReadBody,
         steps: &mut Steps<L>,
     ) -> Result<Answer, NoMemory>
-        requires { IsInLimits (finish_with ticket took status body.bytes) }
-        ensures answer { IfOk result (λ a. a ≡ spec.answer (spec.world_of self.old) (finish_with ticket took status body.bytes)) }
-        ensures joined { OnOk result (self.new ≡ self.old ++ finish_with ticket took status body.bytes ∷ []) }
+        requires { IsInLimits (finish_with ticket took body.form status body.bytes) }
+        ensures answer { IfOk result (λ a. a ≡ spec.answer (spec.world_of self.old) (finish_with ticket took body.form status body.bytes)) }
+        ensures joined { OnOk result (self.new ≡ self.old ++ finish_with ticket took body.form status body.bytes ∷ []) }
         ensures err { OnErr result (self.new ≡ self.old) }
         ensures markers { MarkerLaw self.new }
         ensures closed_runs { (n : ℕ) (x : List Pair) → ClosedRunsLaw self.new n x }
         ensures report_markers { ReportMarkerLaw self.new }
         ensures late { LateFronts self.new }
         ensures past { PastLaw self.new }
-        ensures nothing { NothingLaw (spec.world_of self.old) (finish_with ticket took status body.bytes) }
-        ensures undisturbed { UndisturbedLaw self.old (finish_with ticket took status body.bytes) }
-        ensures idle { IdleLaw self.old (finish_with ticket took status body.bytes) }
-        ensures refused { RefusedLaw self.old (finish_with ticket took status body.bytes) }
-        ensures apart { ApartLaw self.old (finish_with ticket took status body.bytes) }
+        ensures nothing { NothingLaw (spec.world_of self.old) (finish_with ticket took body.form status body.bytes) }
+        ensures undisturbed { UndisturbedLaw self.old (finish_with ticket took body.form status body.bytes) }
+        ensures idle { IdleLaw self.old (finish_with ticket took body.form status body.bytes) }
+        ensures refused { RefusedLaw self.old (finish_with ticket took body.form status body.bytes) }
+        ensures apart { ApartLaw self.old (finish_with ticket took body.form status body.bytes) }
         ensures runs { (other : List Event) → ApartRunsLaw self.new other }
-        ensures reload { ReloadLaw self.old (finish_with ticket took status body.bytes) }
-        ensures steps { OnOk result (steps.new ≡ steps.old + relabelling.runs (spec.world_of self.old) (finish_with ticket took status body.bytes)) }
+        ensures reload { ReloadLaw self.old (finish_with ticket took body.form status body.bytes) }
+        ensures steps { OnOk result (steps.new ≡ steps.old + relabelling.runs (spec.world_of self.old) (finish_with ticket took body.form status body.bytes)) }
         ensures at_least { steps.old ≤ steps.new }
-        ensures at_most { steps.new ≤ steps.old + relabelling.runs (spec.world_of self.old) (finish_with ticket took status body.bytes) }
+        ensures at_most { steps.new ≤ steps.old + relabelling.runs (spec.world_of self.old) (finish_with ticket took body.form status body.bytes) }
     {
         markers();
         closed_runs();

@@ -1,11 +1,11 @@
 //! The request of a kept target.
 
-use crate::shared::{conf_of, job_in, set_of};
+use crate::shared::{are_bytes, conf_of, job_in, set_of};
+use label_set::sets::LabelError;
 use label_set::{LabelSet, NoMemory};
 use outside::{Request, scheme_text};
 use std::alloc::{AllocError, Global};
 use std::process::Abort;
-use std::test::Fail;
 use target_set::request_of;
 
 /// Settings of a job beside its name, the labels of an identity, and the request: scheme, authority, host, port,
@@ -214,12 +214,19 @@ fn told(
     Ok(shown(alloc, &request)?)
 }
 
-#[test]
-fn requests_are_made_of_identities(rt: HostRuntime) -> Result<(), Fail> {
-    for &(fields, labels, want) in ROWS {
-        let identity = set_of(rt.alloc(), labels)?;
-        let text = told(&rt, rt.alloc(), fields, &identity)?;
-        assert_eq!(rt; text.as_str(), want, "{fields}");
+/// What the request of a row says.
+fn told_row(rt: &impl Abort, alloc: Global, row: Row) -> Result<String, LabelError> {
+    let identity = set_of(alloc, row.1)?;
+    Ok(told(rt, alloc, row.0, &identity)?)
+}
+
+pub(crate) fn requests_are_made_of_identities(
+    rt: &impl Abort,
+    alloc: Global,
+) -> Result<(), LabelError> {
+    for &row in ROWS {
+        let text = told_row(rt, alloc, row)?;
+        are_bytes(rt, text.as_bytes(), row.2.as_bytes());
     }
     Ok(())
 }

@@ -1,7 +1,8 @@
 //! What a core says between events, and bodies that are read before they are counted.
 ghost use Rattle.std.specs.Prelude.{◌≡◌, ◌<◌};
 
-use super::{BODY, CONF, expect, has_kept, is_said, loads, loses, starts, sweeps};
+use super::{BODY, CONF, has_kept, is_said, loads, loses, starts, sweeps};
+use crate::shared::holds;
 use expo_reader::read_body;
 use label_set::{Blob, NoMemory, Steps};
 use scrape_core::Core;
@@ -9,18 +10,20 @@ use std::alloc::Global;
 use std::marker::Brand;
 use std::process::Abort;
 use std::sync::ledger::{Blank, Ledger};
-use std::test::Fail;
 
 /// A target that is due from the load on.
 fn is_due(rt: &impl Abort, core: &Core) {
-    expect(rt, core.jobs().len() == 1);
-    expect(rt, core.wake() == Some(7) && core.due(7) && !core.due(6));
+    holds(rt, core.jobs().len() == 1, "one job");
+    holds(rt, core.wake() == Some(7), "when to wake");
+    holds(rt, core.due(7), "due");
+    holds(rt, !core.due(6), "not due before");
 }
 
 /// Its scrape is in flight.
 fn is_in_flight(rt: &impl Abort, core: &Core) {
-    expect(rt, core.started() == 1);
-    expect(rt, core.wake() == None && !core.due(60_007));
+    holds(rt, core.started() == 1, "one scrape");
+    holds(rt, core.wake() == None, "nothing to wake for");
+    holds(rt, !core.due(60_007), "not due in flight");
 }
 
 /// The authority of the request of the scrape with a ticket; none is empty.
@@ -35,7 +38,7 @@ fn asks(
         Some(request) => request.authority.as_str() == want,
         None => want.is_empty(),
     };
-    expect(rt, found);
+    holds(rt, found, "the authority");
     Ok(())
 }
 
@@ -70,21 +73,25 @@ fn readers<L: Ledger>(
     asks(rt, alloc, core, 0, "")
 }
 
-#[test]
-fn a_core_says_what_is_due_and_what_is_asked(rt: HostRuntime) -> Result<(), Fail> {
-    let mut core = Core::new(rt.alloc())?;
-    expect(&rt, core.wake() == None);
-    readers::<Brand>(&rt, rt.alloc(), &mut core, Blank::new(1))?;
-    expect(&rt, core.wake() == Some(60_007));
-    Ok(())
+pub(crate) fn a_core_says_what_is_due_and_what_is_asked(
+    rt: &impl Abort,
+    alloc: Global,
+) -> Result<(), NoMemory> {
+    let mut core = Core::new(alloc)?;
+    holds(rt, core.wake() == None, "nothing to wake for");
+    let done = readers::<Brand>(rt, alloc, &mut core, Blank::new(1));
+    holds(rt, core.wake() == Some(60_007), "when to wake again");
+    core.let_go();
+    done
 }
 
-#[test]
 #[tactic(auto, using(crate::proofs::FreshLemmas::fresh_live))]
-fn room_is_kept_for_a_halt(rt: HostRuntime) -> Result<(), Fail> {
-    let mut core = Core::new(rt.alloc())?;
+pub(crate) fn room_is_kept_for_a_halt(rt: &impl Abort, alloc: Global) -> Result<(), NoMemory> {
+    let mut core = Core::new(alloc)?;
     core.halt();
-    expect(&rt, core.events() == 1 && !core.due(0));
+    holds(rt, core.events() == 1, "the halt");
+    holds(rt, !core.due(0), "not due behind it");
+    core.let_go();
     Ok(())
 }
 
@@ -122,10 +129,13 @@ fn read_first<L: Ledger>(
     counts_read(rt, alloc, core, &mut steps)
 }
 
-#[test]
-fn a_body_that_is_read_is_counted(rt: HostRuntime) -> Result<(), Fail> {
-    let mut core = Core::new(rt.alloc())?;
-    read_first::<Brand>(&rt, rt.alloc(), &mut core, Blank::new(1))?;
-    has_kept(&rt, &core, 7, 3);
-    Ok(())
+pub(crate) fn a_body_that_is_read_is_counted(
+    rt: &impl Abort,
+    alloc: Global,
+) -> Result<(), NoMemory> {
+    let mut core = Core::new(alloc)?;
+    let done = read_first::<Brand>(rt, alloc, &mut core, Blank::new(1));
+    has_kept(rt, &core, 7, 3);
+    core.let_go();
+    done
 }

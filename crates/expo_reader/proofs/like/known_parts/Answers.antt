@@ -19,4 +19,4 @@ returns-in-Ok-clause-said c = λ number.
     let n = length raw in
     let front : take n text ≡ raw = sym c.front_of.ensures ∙ (bytes_eq-Decides c.front_of.result.now raw).0 (not-false (bytes_eq c.front_of.result.now raw) (sym c.if-ne.ensures)) in
     let whole : text ≡ raw ++ c.behind-rest.result.now = sym (take-append-drop n text) ∙ ap₂ (λ a b. a ++ b) front (sym c.behind-rest.ensures) in
-    known-said number text raw c.behind-rest.result.now c.requires.raw c.requires.bare whole c.if-rest-ne32.false c.in-Ok.parts c.in-Ok.ensures.parts)
+    known-said c.args.form number text raw c.behind-rest.result.now c.requires.raw c.requires.bare whole c.if-rest-ne32.false c.in-Ok.parts c.in-Ok.ensures.parts)

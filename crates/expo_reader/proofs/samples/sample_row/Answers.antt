@@ -19,7 +19,7 @@ invariant_of-result c =
     let text : c.part_of.result.now ≡ take r.len (drop r.start bytes) = c.part_of.ensures ∙ ap (λ b. take r.len (drop r.start b)) c.as_slice.ensures in
     let is = ap (λ t. row_at r.line t r.parts) text ∙ sym (row-seen-at bytes rows c.args.place r row c.requires.place c.span_at-row.ensures) in
     let count : c.args.place < length (rows_seen bytes rows) = omega (arith, c.requires.place, seen-length bytes rows) in
-    (inside, written-at bytes (rows_seen bytes rows) c.args.place row c.requires.read count is)
+    (inside, written-at c.args.form bytes (rows_seen bytes rows) c.args.place row c.requires.read count is)
 
 pub returns : goal.returns
 returns c =

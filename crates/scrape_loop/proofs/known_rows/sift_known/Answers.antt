@@ -22,7 +22,7 @@ show_row-requires-clause-right g c =
     let target : c.in_ok-lent.lent ≡ c.args.terms.now.target.now = c.in_ok-lent.ensures ∙ ap (map pair_of) c.as_slice.ensures.value ∙ c.in_ok-labels.ensures.labels in
     subst₂ (λ (rules : List RuleConf) (t : List Pair). IfSome (find row.raw c.loop-place.cache.texts) (λ (k : Known). k.set ≡ row_series honor rules t row))
     (sym c.loop-place.invariant.same) (sym target)
-    (right_at honor c.args.terms.now.metric.now c.args.terms.now.target.now c.args.body.now.bytes rows c.row-row.ensures.reading c.loop-place.place row
+    (right_at honor c.args.terms.now.metric.now c.args.terms.now.target.now c.args.body.now.form c.args.body.now.bytes rows c.row-row.ensures.reading c.loop-place.place row
     within c.row-row.ensures.row c.loop-place.cache.texts c.loop-place.invariant.right)
 
 pub returns-in_err-take-clause-undone : goal.returns-in_err-take-clause-undone
@@ -51,7 +51,7 @@ loop-place-preserved g c =
       cache = shown ∙ ap (λ (v : CacheView). shown_row rules metric labels v row) c.loop-place.invariant.cache
           ∙ sym (shown_more rules metric labels c.args.cache.now rows i row within c.row-row.ensures.row);
       right = subst (λ (v : CacheView). AreRight rules.honor_labels metric labels v.texts) (sym shown)
-          (shown_right rules metric labels c.args.body.now.bytes rows i row c.loop-place.cache c.row-row.ensures.reading within c.row-row.ensures.row c.loop-place.invariant.right);
+          (shown_right rules metric labels c.args.body.now.form c.args.body.now.bytes rows i row c.loop-place.cache c.row-row.ensures.reading within c.row-row.ensures.row c.loop-place.invariant.right);
       undone = c.show_row.ensures.undone ∙ c.loop-place.invariant.undone;
       steps = omega (arith, c.in_ok-series.ensures.steps, c.loop-place.invariant.steps);
       at_least = omega (arith, c.show_row.ensures.at_least, c.loop-place.invariant.at_least);

@@ -1,4 +1,4 @@
-use Rattle.std.proofs.Common.{◌≡◌, ◌++◌, codes}
+use Rattle.std.proofs.Common.{◌≡◌, ◌++◌}
 use Rattle.std.specs.List.{flat_map}
 use Rattle.synth.specs.Scripts.{upto, target_text}
 use Rattle.synth.specs.declared.pages.TheConstants.{CONF_HEAD}

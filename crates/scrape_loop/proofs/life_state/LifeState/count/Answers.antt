@@ -1,14 +1,15 @@
-use Rattle.std.proofs.Common.{SFits, rules, Option, ◌≡◌, ◌≤◌, ◌+◌, ◌++◌, ◌∙◌, List, length, is_some, ap, subst, sym, to_z, of_z, w64}
+use Rattle.std.proofs.Common.{SFits, rules, Bool, cond, ap₂, Option, ◌≡◌, ◌≤◌, ◌+◌, ◌++◌, ◌∙◌, List, length, is_some, ap, subst, sym, to_z, of_z, w64}
 use Rattle.std.proofs.lemmas.Int.{to_z-of_z}
+use Rattle.label_set.specs.declared.forms.Form.{Form}
 use Rattle.report_samples.specs.declared.entries.Entry.{Entry}
 use Rattle.report_samples.specs.declared.scrape_reports.ExtraCounts.{ExtraCounts}
-use Rattle.sample_rows.specs.Outcomes.{body_of}
+use Rattle.sample_rows.specs.Outcomes.{body_of, form_of}
 use Rattle.scrape_loop.specs.Entries.{entries_of, extra_for, extra_of, size_of}
 use Rattle.scrape_loop.specs.Fresh.{KnownLaw}
 use Rattle.scrape_loop.specs.Raw.{AreRaw}
 use Rattle.scrape_loop.specs.Texts.{AreRight, IsAtRest}
-use Rattle.scrape_loop.specs.Tracked.{LifeView, life_of, outcome_for}
-use Rattle.scrape_loop.proofs.CountLemmas.{reply_entries, reply_state}
+use Rattle.scrape_loop.specs.Tracked.{LifeView, is_good, life_of, outcome_for}
+use Rattle.scrape_loop.proofs.CountLemmas.{good_told, reply_entries, reply_state, reply_told}
 use Rattle.scrape_loop.proofs.FreshLemmas.{fresh_law, known_at}
 use Rattle.scrape_loop.proofs.RawLemmas.{reply_raw}
 use Rattle.scrape_loop.proofs.RightLemmas.{reply_right}
@@ -21,8 +22,8 @@ returns-in-Ok-clause-state g c =
     let took : to_z w64 (of_z w64 c.args.took) ≡ c.args.took = to_z-of_z w64 c.args.took c.ranges.took in
     let s = c.in_ok-scrape in
     reply_state p.life p.target c.set-target.result.now p.extra p.scraped c.self.inside.cache c.seed.new.cache c.shown_rows.new.cache c.args.rules.now c.args.metric.now c.args.reply.now
-    c.args.took (to_z w64 (of_z w64 c.args.took)) s.field-0.scrape c.args.self.now c.self.view_is c.set-target.ensures.value c.seed.ensures.same took s.ensures.outcome s.ensures.undone c.is_none.result
-    c.turn.new.self (sym (ap is_some c.fault_in-fault.ensures) ∙ c.is_none.ensures) s.ensures.shows s.ensures.cache c.turn.ensures.turned c.turn.ensures.was
+    c.args.took (to_z w64 (of_z w64 c.args.took)) s.field-0.scrape c.args.self.now c.self.view_is c.set-target.ensures.value c.seed.ensures.same took s.ensures.outcome s.ensures.undone c.is_none-good.result
+    c.turn.new.self (sym (ap is_some c.fault_in-fault.ensures) ∙ c.is_none-good.ensures) s.ensures.shows s.ensures.cache c.turn.ensures.turned c.turn.ensures.was
 
 law : (g : _) (c : goal.After-turn g) → KnownLaw c.args.self.now c.args.rules.now c.args.metric.now c.args.reply.now c.args.took
 law g c =
@@ -30,11 +31,23 @@ law g c =
     c.args.rules.now c.args.metric.now c.args.reply.now c.args.took
 
 pub invariant_of-self-in-Ok : goal.invariant_of-self-in-Ok
-invariant_of-self-in-Ok g c = (
-  subst IsAtRest (sym c.turn.ensures.turned) (turned_rests c.is_none.result c.shown_rows.new.cache),
-  subst (λ (v : LifeView). AreRaw v.cache) (sym (returns-in-Ok-clause-state g c))
-      (reply_raw c.args.self.now c.args.rules.now c.args.metric.now c.args.reply.now c.args.took (law g c) (subst (λ (v : LifeView). AreRaw v.cache) c.self.view_is c.self.invariant.1)),
-)
+invariant_of-self-in-Ok g c =
+    let p = c.self.inside.past in
+    let took : to_z w64 (of_z w64 c.args.took) ≡ c.args.took = to_z-of_z w64 c.args.took c.ranges.took in
+    let s = c.in_ok-scrape in
+    let good : c.is_none-good.result ≡ is_good (outcome_for c.args.self.now c.args.rules.now c.args.metric.now c.args.reply.now c.args.took) =
+    good_told s.field-0.scrape c.is_none-good.result (sym (ap is_some c.fault_in-fault.ensures) ∙ c.is_none-good.ensures)
+    ∙ ap is_good (reply_told p.life p.target c.set-target.result.now p.extra p.scraped c.self.inside.cache c.seed.new.cache c.shown_rows.new.cache c.args.rules.now c.args.metric.now c.args.reply.now
+    c.args.took (to_z w64 (of_z w64 c.args.took)) s.field-0.scrape c.args.self.now c.self.view_is c.set-target.ensures.value c.seed.ensures.same took s.ensures.outcome s.ensures.undone) in
+    let form : c.form_after-self-inside.result ≡ cond (is_good (outcome_for c.args.self.now c.args.rules.now c.args.metric.now c.args.reply.now c.args.took)) (form_of c.args.reply.now) c.self.inside.form =
+    c.form_after-self-inside.ensures ∙ ap₂ (λ (b : Bool) (f : Form). cond b f c.self.inside.form) good c.form.ensures in (
+      subst IsAtRest (sym c.turn.ensures.turned) (turned_rests c.is_none-good.result c.shown_rows.new.cache),
+      subst (λ (f : Form). AreRaw f c.turn.new.self) (sym form)
+          (subst (λ (v : LifeView). AreRaw (cond (is_good (outcome_for c.args.self.now c.args.rules.now c.args.metric.now c.args.reply.now c.args.took)) (form_of c.args.reply.now) c.self.inside.form) v.cache)
+          (sym (returns-in-Ok-clause-state g c))
+          (reply_raw c.args.self.now c.args.rules.now c.args.metric.now c.args.reply.now c.args.took (law g c) c.self.inside.form
+          (subst (λ (v : LifeView). AreRaw c.self.inside.form v.cache) c.self.view_is c.self.invariant.1))),
+    )
 
 entries : (g : _) (c : goal.After-turn g) →
     entries_of (life_of c.self.inside.past.life c.self.inside.past.target c.self.inside.past.extra c.shown_rows.new.cache c.self.inside.past.scraped) c.extra_in-extra.result c.in_ok-scrape.field-0.scrape (to_z w64 (of_z w64 c.args.moment))

@@ -11,7 +11,7 @@ use Rattle.scrape_loop.proofs.life_state.LifeState.force.Goals as goal
 pub invariant_of-self : goal.invariant_of-self
 invariant_of-self c = (
   subst IsAtRest (sym c.turn.ensures.turned) (turned_rests false c.self.inside.cache),
-  subst AreRaw (sym c.turn.ensures.turned) (forced_raw c.self.inside.cache c.self.invariant.0 c.self.invariant.1),
+  subst (AreRaw c.self.inside.form) (sym c.turn.ensures.turned) (forced_raw c.self.inside.form c.self.inside.cache c.self.invariant.0 c.self.invariant.1),
 )
 
 pub returns-clause-state : goal.returns-clause-state
