@@ -1,16 +1,19 @@
-//! What text can't show: outside objects that fail at a call, and texts at their limits. All else is a case in `crates/scrape_cases`.
+//! What text can't show: outside objects that fail at a call, and texts at their limits. All else is a case in
+//! `crates/scrape_cases`.
 mod cases;
 mod cuts;
 mod failing;
 mod limits;
 mod live;
+mod objects;
+mod puts;
+mod replaying;
 
 use crate::tool::tool_still;
 use label_set::{Blob, Name, NoMemory};
 use md5::{Digest, Md5};
 use outside::{
-    CallList, FileList, MemShelf, MemSink, Shelf, ShelfError, Sink, StoredFile, SureShelf,
-    SureSink, SureSource,
+    CallList, FileList, MemSink, Shelf, Sink, StoredFile, SureShelf, SureSink, SureSource,
 };
 use scrape_core::Means;
 use std::alloc::Global;
@@ -110,169 +113,39 @@ fn run_over<S: Shelf>(
     })
 }
 
-/// Runs a command on the file `s` where nothing outside fails.
-fn run_on(means: Means, command: &str, text: &[u8]) -> Result<Ran, Fail> {
-    let alloc = means.alloc;
-    let words = words_of(alloc, &[command, "s"])?;
-    let mut shelf = SureShelf::new(files(alloc, text)?)?;
-    Ok(run_over(means, words.as_slice(), &mut shelf, ROOM, &[])?)
+/// Runs the program on the file `s` where nothing outside fails.
+fn run_on(means: Means, words: &[&str], text: &[u8], room: usize) -> Result<Ran, Fail> {
+    let words = words_of(means.alloc, words)?;
+    let mut shelf = SureShelf::new(files(means.alloc, text)?)?;
+    Ok(run_over(means, words.as_slice(), &mut shelf, room, &[])?)
+}
+
+/// Ends the test where something doesn't hold, with what was looked at.
+fn holds(rt: &impl Abort, is_so: bool, what: &str) {
+    assert!(rt; is_so, "wrong at [{what}]");
+}
+
+/// Ends the test where a status is not the one that is wanted.
+fn is_status(rt: &impl Abort, found: u8, wanted: u8) {
+    assert_eq!(rt; found, wanted);
+}
+
+/// Ends the test where another number of calls failed.
+fn is_count(rt: &impl Abort, found: u64, wanted: u64) {
+    assert_eq!(rt; found, wanted);
 }
 
 /// It ended with this status, output and message.
 fn assert_left(rt: &impl Abort, ran: &Ran, status: u8, out: &[u8], err: &[u8]) {
-    assert_eq!(rt; ran.status, status);
-    assert!(rt; ran.out.bytes() == out);
-    assert!(rt; ran.err.bytes() == err);
-}
-
-/// A shelf whose files are all too long.
-#[derive(Drop)]
-struct LongShelf {
-    overs: u64,
-}
-
-impl Shelf for LongShelf {
-    ghost use Rattle.std.specs.Prelude.{None};
-
-    ghost seen = { λ s. record { files = None; misses = 0; overs = s.overs; faults = 0 } };
-
-    fn read_file(&mut self, _: Global, _: &str, _: usize) -> Result<Blob, ShelfError> {
-        self.overs = self.overs.saturating_add(1);
-        Err(ShelfError::TooLong)
-    }
-}
-
-/// A shelf that finds no memory for any file.
-#[derive(Drop)]
-struct FullShelf;
-
-impl Shelf for FullShelf {
-    ghost use Rattle.std.specs.Prelude.{None};
-
-    ghost seen = { λ s. record { files = None; misses = 0; overs = 0; faults = 0 } };
-
-    fn read_file(&mut self, _: Global, _: &str, _: usize) -> Result<Blob, ShelfError> {
-        Err(ShelfError::NoMemory)
-    }
-}
-
-/// A script whose only body has so many lines `x 1`.
-fn long_script(alloc: Global, lines: usize) -> Result<Vec<u8>, Fail> {
-    let mut script = Vec::from_slice(alloc, ONE_LOAD.as_bytes())?;
-    let length = format!(in alloc; "{}\n", lines.saturating_mul(4))?;
-    script.extend_from_slice(length.as_bytes())?;
-    for _ in 0..lines {
-        script.extend_from_slice(b"x 1\n")?;
-    }
-    script.push(b'\n')?;
-    Ok(script)
-}
-
-#[test]
-fn each_put_of_a_long_output_may_fail(rt: HostRuntime) -> Result<(), Fail> {
-    let means = means_of(&rt)?;
-    let alloc = means.alloc;
-    let script = long_script(alloc, 4000)?;
-    let words = words_of(alloc, &["replay", "s"])?;
-    let mut shelf = SureShelf::new(files(alloc, script.as_slice())?)?;
-    let whole = run_over(means, words.as_slice(), &mut shelf, ROOM, &[])?;
-    assert_eq!(rt; whole.status, 0);
-    let mut put = 0;
-    for call in 0..3 {
-        let ran = run_over(means, words.as_slice(), &mut shelf, ROOM, &[call])?;
-        assert_eq!(rt; ran.status, 7);
-        assert!(rt; whole.out.bytes().starts_with(ran.out.bytes()));
-        assert!(rt; ran.err.bytes() == b"scrape: write fault\n".as_slice());
-        assert!(rt; call == 0 || put < ran.out.bytes().len());
-        put = ran.out.bytes().len();
-    }
-    let short = whole.out.bytes().len().saturating_sub(1);
-    let ran = run_over(means, words.as_slice(), &mut shelf, short, &[])?;
-    assert_eq!(rt; ran.status, 7);
-    let ran = run_over(means, words.as_slice(), &mut shelf, ROOM, &[3])?;
-    assert_left(&rt, &ran, 0, whole.out.bytes(), b"");
-    Ok(())
-}
-
-#[test]
-fn calls_that_fail_have_their_status(rt: HostRuntime) -> Result<(), Fail> {
-    {
-        let means = means_of(&rt)?;
-        let alloc = means.alloc;
-        let commands = [
-            ["replay", "s"].as_slice(),
-            ["check", "s"].as_slice(),
-            ["at", "0", "x", "s"].as_slice(),
-        ];
-        for command in commands {
-            let words = words_of(alloc, command)?;
-            let mut failing = MemShelf::new(files(alloc, b"{}")?, fails(alloc, &[0])?)?;
-            let ran = run_over(means, words.as_slice(), &mut failing, ROOM, &[])?;
-            assert_left(&rt, &ran, 6, b"", b"scrape: read fault\n");
-            let mut long = LongShelf { overs: 0 };
-            let ran = run_over(means, words.as_slice(), &mut long, ROOM, &[])?;
-            assert_left(&rt, &ran, 9, b"", b"scrape: too long s\n");
-            let ran = run_over(means, words.as_slice(), &mut FullShelf, ROOM, &[])?;
-            assert_left(&rt, &ran, 8, b"", b"scrape: no memory\n");
-        }
-    }
-    {
-        let means = means_of(&rt)?;
-        let alloc = means.alloc;
-        let words = words_of(alloc, &["check", "s"])?;
-        let mut shelf = SureShelf::new(files(alloc, ONE_JOB.as_bytes())?)?;
-        for (room, calls) in [(ROOM, &[0].as_slice()), (4, &[].as_slice())] {
-            let ran = run_over(means, words.as_slice(), &mut shelf, room, calls)?;
-            assert_left(&rt, &ran, 7, b"", b"scrape: write fault\n");
-        }
-    }
-    {
-        let means = means_of(&rt)?;
-        let alloc = means.alloc;
-        let words = words_of(alloc, &["replay", "none"])?;
-        let mut shelf = SureShelf::new(files(alloc, b"")?)?;
-        let mut out = SureSink::new()?;
-        for call in 0..4 {
-            let mut err = MemSink::new(alloc, ROOM, fails(alloc, &[call])?)?;
-            let status = still(means, words.as_slice(), &mut shelf, &mut out, &mut err)?;
-            assert_eq!(rt; status, 3);
-            assert!(rt; b"scrape: absent none\n".starts_with(err.bytes()));
-        }
-    }
-    Ok(())
+    is_status(rt, ran.status, status);
+    holds(rt, ran.out.bytes() == out, "the output");
+    holds(rt, ran.err.bytes() == err, "the message");
 }
 
 /// Adds a word and a number as a line.
 fn push_number(alloc: Global, text: &mut Vec<u8>, word: &str, number: u64) -> Result<(), Fail> {
     let line = format!(in alloc; "{word} {number}\n")?;
     Ok(text.extend_from_slice(line.as_bytes())?)
-}
-
-/// The summary of a script of so many targets and scrapes, by counting in its journal, with the digest of its book. A page has 90 samples,
-/// of which each next one lacks ten; the reports of a scrape come each time; at the end each of the last series is marked. Rules are run for each
-/// target, and for each series that the scrape before lacked: as often as one is marked.
-fn summary_of(alloc: Global, targets: u64, scrapes: u64, book: &[u8]) -> Result<Vec<u8>, Fail> {
-    let all = targets.saturating_mul(scrapes);
-    let scraped = targets.saturating_mul(scrapes.min(1));
-    let samples = all.saturating_mul(90);
-    let stale = all
-        .saturating_mul(10)
-        .saturating_add(scraped.saturating_mul(80));
-    let reports = all.saturating_mul(5);
-    let ends = scraped.saturating_mul(5);
-    let mut text = Vec::new(alloc);
-    let events = all.saturating_add(scrapes).saturating_add(4);
-    push_number(alloc, &mut text, "events", events)?;
-    let entries = samples.saturating_add(stale).saturating_add(reports);
-    push_number(alloc, &mut text, "entries", entries.saturating_add(ends))?;
-    push_number(alloc, &mut text, "sample", samples)?;
-    push_number(alloc, &mut text, "stale", stale)?;
-    push_number(alloc, &mut text, "report", reports)?;
-    push_number(alloc, &mut text, "report-stale", ends)?;
-    let digest = hex::encode(alloc, Md5::digest(book))?;
-    text.extend_from_slice(format!(in alloc; "digest {digest}\n")?.as_bytes())?;
-    push_number(alloc, &mut text, "runs", targets.saturating_add(stale))?;
-    Ok(text)
 }
 
 /// The numbers of a script.
@@ -283,6 +156,97 @@ struct Numbers {
     scrapes: u64,
 }
 
+impl Numbers {
+    fn scrapes_of_all(&self) -> u64 {
+        self.targets.saturating_mul(self.scrapes)
+    }
+
+    /// How many targets are scraped at all.
+    fn scraped(&self) -> u64 {
+        self.targets.saturating_mul(self.scrapes.min(1))
+    }
+
+    /// How many series are marked: ten after each scrape, and at the end each of the last series.
+    fn stale(&self) -> u64 {
+        let left = self.scraped().saturating_mul(80);
+        self.scrapes_of_all()
+            .saturating_mul(10)
+            .saturating_add(left)
+    }
+
+    /// How many entries the book has but for the markers of reports.
+    fn unmarked(&self) -> u64 {
+        let of_scrapes = self.scrapes_of_all().saturating_mul(95);
+        of_scrapes.saturating_add(self.stale())
+    }
+
+    fn events(&self) -> u64 {
+        let all = self.scrapes_of_all();
+        all.saturating_add(self.scrapes).saturating_add(4)
+    }
+}
+
+/// What the summary of a script counts, in its order up to the digest. A page has 90 samples, of which each next one
+/// lacks ten; the five reports of a scrape come each time.
+fn counts_of(numbers: Numbers) -> [(&'static str, u64); 6] {
+    let all = numbers.scrapes_of_all();
+    let ends = numbers.scraped().saturating_mul(5);
+    [
+        ("events", numbers.events()),
+        ("entries", numbers.unmarked().saturating_add(ends)),
+        ("sample", all.saturating_mul(90)),
+        ("stale", numbers.stale()),
+        ("report", all.saturating_mul(5)),
+        ("report-stale", ends),
+    ]
+}
+
+/// Adds the line of the digest of a book.
+fn push_digest(alloc: Global, text: &mut Vec<u8>, book: &[u8]) -> Result<(), Fail> {
+    let digest = hex::encode(alloc, Md5::digest(book))?;
+    let line = format!(in alloc; "digest {digest}\n")?;
+    Ok(text.extend_from_slice(line.as_bytes())?)
+}
+
+/// The summary of a script, by counting in its journal, with the digest of its book. Rules are run for each target,
+/// and for each series that the scrape before lacked: as often as one is marked.
+fn summary_of(alloc: Global, numbers: Numbers, book: &[u8]) -> Result<Vec<u8>, Fail> {
+    let mut text = Vec::new(alloc);
+    for (word, number) in counts_of(numbers) {
+        push_number(alloc, &mut text, word, number)?;
+    }
+    push_digest(alloc, &mut text, book)?;
+    let runs = numbers.targets.saturating_add(numbers.stale());
+    push_number(alloc, &mut text, "runs", runs)?;
+    Ok(text)
+}
+
+/// The summary of the book which the replay of a script prints.
+fn summary_of_replay(
+    rt: &impl Abort,
+    means: Means,
+    script: &[u8],
+    numbers: Numbers,
+) -> Result<Vec<u8>, Fail> {
+    let book = run_on(means, &["replay", "s"], script, BOOK_ROOM)?;
+    is_status(rt, book.status, 0);
+    summary_of(means.alloc, numbers, book.out.bytes())
+}
+
+fn synth_words(alloc: Global, numbers: Numbers) -> Result<Vec<String>, Fail> {
+    let mut words = words_of(alloc, &["synth"])?;
+    for number in [numbers.seed, numbers.targets, numbers.scrapes] {
+        words.push(number.to_string(alloc)?)?;
+    }
+    Ok(words)
+}
+
+fn synth_of(means: Means, numbers: Numbers) -> Result<Ran, Fail> {
+    let words = synth_words(means.alloc, numbers)?;
+    let mut shelf = SureShelf::new(files(means.alloc, b"")?)?;
+    Ok(run_over(means, words.as_slice(), &mut shelf, ROOM, &[])?)
+}
+
 /// The summary of a script is that of the book which its replay prints.
 fn assert_summed(
     rt: &impl Abort,
@@ -290,51 +254,47 @@ fn assert_summed(
     script: &[u8],
     numbers: Numbers,
 ) -> Result<(), Fail> {
-    let alloc = means.alloc;
-    let replay = words_of(alloc, &["replay", "s"])?;
-    let mut shelf = SureShelf::new(files(alloc, script)?)?;
-    let book = run_over(means, replay.as_slice(), &mut shelf, BOOK_ROOM, &[])?;
-    assert_eq!(rt; book.status, 0);
-    let wanted = summary_of(alloc, numbers.targets, numbers.scrapes, book.out.bytes())?;
-    let seed = numbers.seed.to_string(alloc)?;
-    let targets = numbers.targets.to_string(alloc)?;
-    let scrapes = numbers.scrapes.to_string(alloc)?;
-    let words = words_of(alloc, &["synth", &seed, &targets, &scrapes])?;
-    let mut shelf = SureShelf::new(files(alloc, b"")?)?;
-    let ran = run_over(means, words.as_slice(), &mut shelf, ROOM, &[])?;
+    let wanted = summary_of_replay(rt, means, script, numbers)?;
+    let ran = synth_of(means, numbers)?;
     assert_left(rt, &ran, 0, wanted.as_slice(), b"");
     Ok(())
 }
 
+fn the_largest_seed(rt: &impl Abort, means: Means) -> Result<(), Fail> {
+    let script = make_script(means.alloc, 4294967295, 3, 4)?;
+    let numbers = Numbers {
+        seed: 4294967295,
+        targets: 3,
+        scrapes: 4,
+    };
+    assert_summed(rt, means, script.as_slice(), numbers)
+}
+
+fn no_scrapes(rt: &impl Abort, means: Means) -> Result<(), Fail> {
+    let script = make_script(means.alloc, 0, 1, 0)?;
+    let numbers = Numbers {
+        seed: 0,
+        targets: 1,
+        scrapes: 0,
+    };
+    assert_summed(rt, means, script.as_slice(), numbers)
+}
+
 /// A journal of 3,007 events with 400,000 entries.
+fn a_thousand_targets(rt: &impl Abort, means: Means) -> Result<(), Fail> {
+    let script = make_script(means.alloc, 7, 1000, 3)?;
+    let numbers = Numbers {
+        seed: 7,
+        targets: 1000,
+        scrapes: 3,
+    };
+    assert_summed(rt, means, script.as_slice(), numbers)
+}
+
 #[test]
 fn generated_journal(rt: HostRuntime) -> Result<(), Fail> {
-    {
-        let means = means_of(&rt)?;
-        let script = make_script(means.alloc, 4294967295, 3, 4)?;
-        let numbers = Numbers {
-            seed: 4294967295,
-            targets: 3,
-            scrapes: 4,
-        };
-        assert_summed(&rt, means, script.as_slice(), numbers)?;
-        let script = make_script(means.alloc, 0, 1, 0)?;
-        let numbers = Numbers {
-            seed: 0,
-            targets: 1,
-            scrapes: 0,
-        };
-        assert_summed(&rt, means, script.as_slice(), numbers)?;
-    }
-    {
-        let means = means_of(&rt)?;
-        let script = make_script(means.alloc, 7, 1000, 3)?;
-        let numbers = Numbers {
-            seed: 7,
-            targets: 1000,
-            scrapes: 3,
-        };
-        assert_summed(&rt, means, script.as_slice(), numbers)?;
-    }
-    Ok(())
+    let means = means_of(&rt)?;
+    the_largest_seed(&rt, means)?;
+    no_scrapes(&rt, means)?;
+    a_thousand_targets(&rt, means)
 }

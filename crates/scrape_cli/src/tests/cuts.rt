@@ -1,7 +1,7 @@
 //! Scripts that end anywhere: what `replay` says of them, and what it gives with `--cut`.
-use super::{ONE_LOAD, ROOM, Ran, files, means_of, run_over, words_of};
-use outside::SureShelf;
+use super::{ONE_LOAD, ROOM, Ran, assert_left, holds, is_status, means_of, run_on};
 use scrape_core::Means;
+use std::alloc::Global;
 use std::process::Abort;
 use std::test::Fail;
 
@@ -18,60 +18,90 @@ fn message_at(bytes: usize) -> &'static str {
     }
 }
 
-/// Replays a text with these flags.
-fn replay_of(means: Means, flags: &[&str], text: &[u8]) -> Result<Ran, Fail> {
-    let alloc = means.alloc;
-    let mut words = words_of(alloc, &["replay"])?;
-    for flag in flags {
-        words.push(String::from_str(alloc, flag)?)?;
-    }
-    words.push(String::from_str(alloc, "s")?)?;
-    let mut shelf = SureShelf::new(files(alloc, text)?)?;
-    Ok(run_over(means, words.as_slice(), &mut shelf, ROOM, &[])?)
+/// The script with one load, and what stands behind the word for its body's status.
+fn script_of(alloc: Global, rest: &[u8]) -> Result<Vec<u8>, Fail> {
+    let mut script = Vec::from_slice(alloc, ONE_LOAD.as_bytes())?;
+    script.extend_from_slice(rest)?;
+    Ok(script)
 }
 
-/// The script with one load cut to its first bytes: each of its 138 fronts, with `--cut` and without. Only the whole one prints anything.
-#[test]
-fn script_cut_at_each_place(rt: HostRuntime) -> Result<(), Fail> {
-    let means = means_of(&rt)?;
-    let mut script = Vec::from_slice(means.alloc, ONE_LOAD.as_bytes())?;
-    script.extend_from_slice(b"8\nx 1\ny 2\n\n")?;
-    assert_eq!(rt; script.len(), 137);
-    let whole = replay_of(means, &[], script.as_slice())?;
-    for bytes in 0..script.len() {
-        let front = &script[..bytes];
-        let message = message_at(bytes);
-        let plain = replay_of(means, &[], front)?;
-        assert_eq!(rt; plain.status, if message.is_empty() { 0 } else { 5 });
-        assert!(rt; plain.err.bytes() == message.as_bytes());
-        assert!(rt; plain.out.bytes().is_empty());
-        let cut = replay_of(means, &["--cut"], front)?;
-        assert_eq!(rt; cut.status, if bytes < 17 { 5 } else { 0 });
-        assert!(rt; cut.err.bytes() == message_at(bytes.min(17)).as_bytes());
-        assert!(rt; cut.out.bytes().is_empty());
-    }
-    let cut = replay_of(means, &["--cut"], script.as_slice())?;
-    assert_eq!(rt; cut.status, 0);
-    assert!(rt; cut.out.bytes() == whole.out.bytes());
+fn replay_of(means: Means, text: &[u8]) -> Result<Ran, Fail> {
+    run_on(means, &["replay", "s"], text, ROOM)
+}
+
+fn cut_of(means: Means, text: &[u8]) -> Result<Ran, Fail> {
+    run_on(means, &["replay", "--cut", "s"], text, ROOM)
+}
+
+/// A replay that prints nothing ends with this message, or well where it is empty.
+fn ends_so(rt: &impl Abort, ran: &Ran, message: &str) {
+    let status = if message.is_empty() { 0 } else { 5 };
+    assert_left(rt, ran, status, b"", message.as_bytes());
+}
+
+/// A front is replayed, with `--cut` and without.
+fn front_is_replayed(rt: &impl Abort, means: Means, front: &[u8]) -> Result<(), Fail> {
+    ends_so(rt, &replay_of(means, front)?, message_at(front.len()));
+    let message = message_at(front.len().min(17));
+    ends_so(rt, &cut_of(means, front)?, message);
     Ok(())
+}
+
+/// With `--cut` the whole script prints what it does without.
+fn whole_is_not_cut(rt: &impl Abort, means: Means, script: &[u8]) -> Result<(), Fail> {
+    let whole = replay_of(means, script)?;
+    let cut = cut_of(means, script)?;
+    is_status(rt, cut.status, 0);
+    holds(rt, cut.out.bytes() == whole.out.bytes(), "the whole");
+    Ok(())
+}
+
+/// The script with one load cut to its first bytes: each of its 138 fronts, with `--cut` and without. Only the whole
+/// one prints anything.
+fn script_cut_at_each_place(rt: &impl Abort, means: Means) -> Result<(), Fail> {
+    let script = script_of(means.alloc, b"8\nx 1\ny 2\n\n")?;
+    holds(rt, script.len() == 137, "the length of the script");
+    for bytes in 0..script.len() {
+        front_is_replayed(rt, means, &script[..bytes])?;
+    }
+    whole_is_not_cut(rt, means, script.as_slice())
+}
+
+/// What stands behind the first scrape: a second one, and a halt.
+const TWO_SCRAPES: &[u8] = b"8\nx 1\ny 2\n\nsweep 60000\nbody 15 1 200 4\nx 1\n\nhalt 60001\n";
+
+/// What is printed of a front is a front of the whole and has no fewer bytes than this; tells how many it has.
+fn front_printed(
+    rt: &impl Abort,
+    means: Means,
+    front: &[u8],
+    whole: &[u8],
+    bytes: usize,
+) -> Result<usize, Fail> {
+    let cut = run_on(means, &["replay", "--cut", "--kept", "s"], front, ROOM)?;
+    is_status(rt, cut.status, 0);
+    holds(rt, whole.starts_with(cut.out.bytes()), "a front");
+    holds(rt, cut.out.bytes().len() >= bytes, "no shorter front");
+    Ok(cut.out.bytes().len())
 }
 
 /// What is printed of each front of a script is the beginning of what is printed of all of it, verdicts too.
-#[test]
-fn front_of_a_script_prints_a_front(rt: HostRuntime) -> Result<(), Fail> {
-    let means = means_of(&rt)?;
-    let mut script = Vec::from_slice(means.alloc, ONE_LOAD.as_bytes())?;
-    script.extend_from_slice(b"8\nx 1\ny 2\n\nsweep 60000\nbody 15 1 200 4\nx 1\n\nhalt 60001\n")?;
-    let whole = replay_of(means, &["--kept"], script.as_slice())?;
-    assert_eq!(rt; whole.status, 0);
-    let mut lines = 0;
+fn front_of_a_script_prints_a_front(rt: &impl Abort, means: Means) -> Result<(), Fail> {
+    let script = script_of(means.alloc, TWO_SCRAPES)?;
+    let whole = run_on(means, &["replay", "--kept", "s"], script.as_slice(), ROOM)?;
+    is_status(rt, whole.status, 0);
+    let book = whole.out.bytes();
+    let mut printed = 0;
     for bytes in 17..=script.len() {
-        let cut = replay_of(means, &["--cut", "--kept"], &script[..bytes])?;
-        assert_eq!(rt; cut.status, 0);
-        assert!(rt; whole.out.bytes().starts_with(cut.out.bytes()));
-        assert!(rt; cut.out.bytes().len() >= lines);
-        lines = cut.out.bytes().len();
+        printed = front_printed(rt, means, &script[..bytes], book, printed)?;
     }
-    assert!(rt; lines == whole.out.bytes().len());
+    holds(rt, printed == book.len(), "the whole");
     Ok(())
+}
+
+#[test]
+fn scripts_may_end_anywhere(rt: HostRuntime) -> Result<(), Fail> {
+    let means = means_of(&rt)?;
+    script_cut_at_each_place(&rt, means)?;
+    front_of_a_script_prints_a_front(&rt, means)
 }
