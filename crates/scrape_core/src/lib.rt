@@ -11,6 +11,7 @@ mod events;
 mod finishes;
 pub mod machine;
 mod means;
+pub mod open_lives;
 pub mod read_events;
 mod readers;
 mod replays;
@@ -20,6 +21,7 @@ mod turns;
 
 pub use machine::Core;
 pub use means::Means;
+pub use open_lives::OpenLife;
 pub use read_events::ReadEvent;
 pub use replays::replay;
 pub use scrape_machine::Answer;

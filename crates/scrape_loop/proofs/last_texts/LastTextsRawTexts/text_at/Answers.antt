@@ -5,7 +5,7 @@ use Rattle.expo_reader.specs.Like.{IsRawText}
 use Rattle.series_cache.specs.Caches.{CacheView}
 use Rattle.scrape_loop.specs.Fresh.{texts_in}
 use Rattle.scrape_loop.proofs.RawLemmas.{raw_at}
-use Rattle.scrape_loop.proofs.life_state.LastTextsRawTexts.text_at.Goals as goal
+use Rattle.scrape_loop.proofs.last_texts.LastTextsRawTexts.text_at.Goals as goal
 
 pub returns-clause-text : goal.returns-clause-text
 returns-clause-text c = subst (λ (v : CacheView × Form). IfSome c.text_at.result (λ t. slice_get (texts_in v.0) c.args.place ≡ Some t.now)) c.self.view_is c.text_at.ensures
