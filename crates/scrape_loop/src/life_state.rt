@@ -14,7 +14,7 @@ ghost use Rattle.series_cache.specs.Caches.{turned};
 ghost use Rattle.series_cache.specs.Sets.{IsRising};
 
 use crate::health::Health;
-use crate::known_rows::{Settled, Terms, shown_rows};
+use crate::known_rows::{ScrapeRules, Settled, shown_rows};
 use crate::last_texts::{LastTexts, form_after};
 use crate::past::Past;
 use crate::read_reply::ReadReply;
@@ -263,7 +263,7 @@ impl LifeState {
     {
         seed(&mut self.cache, alloc, book.hasher());
         let target = self.past.target.set();
-        let terms = Terms {
+        let terms = ScrapeRules {
             rules,
             metric,
             target,
