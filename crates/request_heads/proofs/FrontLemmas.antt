@@ -1,10 +1,10 @@
 -- What is found at the front of some bytes.
-use Rattle.std.proofs.Common.{◌≡◌, ℕ, ◌+◌, ◌<◌, ◌≤◌, List, [], ◌∷◌, ◌++◌, length, take, drop, map, refl, sym, ap, ◌∙◌, arith, length-append}
+use Rattle.std.proofs.Common.{◌≡◌, ℕ, ◌<◌, ◌≤◌, List, [], ◌∷◌, ◌++◌, length, take, drop, map, refl, ap, arith}
 use Rattle.std.proofs.lemmas.List.{length-take-le, length-map}
 use Rattle.httparse.specs.Grammar.{RequestHead, Field, LineEnd, crlf, lf, print_end, print_section, print_request, ReadsRequest, HasNoRequest}
 use Rattle.httparse.specs.Spans.{RequestOverflows, name_and_value}
 use Rattle.httparse.proofs.GrammarLemmas.{request_unique, ReadsRequest-append}
-use Rattle.request_heads.specs.Fronts.{HeadAt, NoHead}
+use Rattle.request_heads.specs.Fronts.{NoHead}
 
 -- of two fronts of one text the shorter begins the longer
 front-of : (text more front rest : List ℕ) → text ++ more ≡ front ++ rest → length front ≤ length text → text ≡ front ++ drop (length front) text

@@ -1,4 +1,4 @@
-use Rattle.std.proofs.Common.{◌≡◌, ◌≤◌, ◌<◌, ◌+◌, ◌∙◌, refl, sym, ap, arith, length, length-drop, take, drop, Some}
+use Rattle.std.proofs.Common.{◌≡◌, ◌+◌, ◌∙◌, refl, sym, ap, arith, length, length-drop, take, Some}
 use Rattle.std.specs.Prelude.{option_map}
 use Rattle.request_heads.specs.Queries.{front_len, joined, part_gives, selectors, texts_of}
 use Rattle.request_heads.proofs.QueryLemmas.{part-last, part-refused, part-step, to-end}
