@@ -1,15 +1,14 @@
 //! Instant views: selectors with blanks, and what is seen of a book that grew after it was followed. The rest the cases
 //! show.
 
+use crate::books::{FIRST, LATER, append};
 use crate::shared::{are_bytes, holds, set_of};
 use appender_book::Book;
 use instant_view::{Selector, SelectorError, View, ViewRow, laws_of_views};
 use label_set::NoMemory;
-use report_samples::{Entry, Kind};
 use std::alloc::Global;
 use std::process::Abort;
 use std::test::Fail;
-use value_text::ValueText;
 
 /// Texts with blanks and line feeds that give no selector, and why.
 const REFUSED: &[(&str, SelectorError)] = &[
@@ -49,51 +48,6 @@ fn sets_are_selected(rt: &impl Abort, alloc: Global) -> Result<(), NoMemory> {
             panic!(rt; "no selector: {text}");
         };
         holds(rt, selector.selects(alloc, &set)? == selected, text);
-    }
-    Ok(())
-}
-
-/// A sample of a count, or a stale marker.
-fn entry(alloc: Global, labels: &str, moment: i64, count: Option<u64>) -> Result<Entry, NoMemory> {
-    let series = set_of(alloc, labels)?;
-    match count {
-        Some(count) => Ok(Entry {
-            life: 0,
-            kind: Kind::Scraped,
-            series,
-            moment,
-            value: Some(ValueText::of_count(alloc, count)?),
-        }),
-        None => Ok(Entry {
-            life: 0,
-            kind: Kind::Stale,
-            series,
-            moment,
-            value: None,
-        }),
-    }
-}
-
-/// The series of entries, their moments, and the counts of samples.
-type Row = (&'static str, i64, Option<u64>);
-
-/// Entries that are there when the book is followed first.
-const FIRST: &[Row] = &[("__name__=x", 0, Some(1)), ("__name__=y", 0, Some(2))];
-
-/// More behind them.
-const LATER: &[Row] = &[
-    ("__name__=x", 60_000, Some(3)),
-    ("__name__=y", 60_000, None),
-    ("__name__=x", 50_000, Some(4)),
-    ("__name__=x", 120_000, Some(5)),
-    ("__name__=w", i64::MIN, Some(6)),
-    ("__name__=w", i64::MAX, Some(7)),
-];
-
-fn append(alloc: Global, book: &mut Book, rows: &[Row]) -> Result<(), NoMemory> {
-    for &(labels, moment, count) in rows {
-        book.reserve(1)?;
-        book.append(entry(alloc, labels, moment, count)?);
     }
     Ok(())
 }

@@ -18,7 +18,7 @@
 //! | `Pattern::{build, as_str, full_match, expand}`, `Matching::expand` | `patterns::whole_texts_are_matched` |
 //! | `Pattern::{filling, matching}`, `Matching::{full_match, fill, fill_both}` | within `Runner::process`; `relabelling` |
 //! | `read_or_refused` | contract alone |
-//! | `Rules::process` | `patterns::rules_run_on_a_set` |
+//! | `Rules::process` | `rules` |
 //! | `Rules::{build, runner}`, `Runner::process` | `relabelling` |
 //! | `RuleConf::{copy, fault}` | within `Rules::build`; `fields`, `relabelling` |
 //! | `judge`, `too_many`, `body_limit`, `exceeds` | `scrape_cases::limits` |
@@ -52,6 +52,8 @@ mod journals;
 mod openmetrics;
 #[cfg(test)]
 mod patterns;
+#[cfg(test)]
+mod rules;
 #[cfg(test)]
 mod shared;
 #[cfg(test)]

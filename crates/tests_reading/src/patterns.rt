@@ -1,16 +1,11 @@
-//! Patterns and rules that are tried once. Those that are kept for many texts, as the program does, the cases show.
-ghost use Rattle.std.specs.Prelude.{◌≡◌, ◌<◌};
+//! Patterns that are tried once. Those that are kept for many texts, as the program does, the cases show.
 
+use crate::rules::rules_run_on_a_set;
 use crate::shared::{are_bytes, holds};
-use label_set::sets::LabelError;
-use label_set::{LabelSet, Name, NoMemory, Steps};
+use label_set::{Name, NoMemory};
 use pattern_rule::Pattern;
-use relabel::Rules;
-use scrape_config::{Conf, read_conf};
 use std::alloc::Global;
-use std::marker::Brand;
 use std::process::Abort;
-use std::sync::ledger::{Blank, Ledger};
 use std::test::Fail;
 
 /// Patterns, texts, templates, and what these write at the match of the whole text.
@@ -46,49 +41,6 @@ fn whole_texts_are_matched(rt: &impl Abort, alloc: Global) -> Result<(), NoMemor
             is_wanted(&built.expand(alloc, text, template)?, wanted),
             pattern,
         );
-    }
-    Ok(())
-}
-
-/// A job with two rules for samples.
-const JOB: &[u8] = br#"{"scrape_configs":[{"job_name":"j","metric_relabel_configs":[
-    {"source_labels":["a"],"target_label":"b"},{"regex":"a","action":"labeldrop"}]}]}"#;
-
-/// What rules leave of a set.
-fn left_counted<L: Ledger>(
-    alloc: Global,
-    blank: Blank,
-    rules: &Rules,
-    set: &LabelSet,
-) -> Result<Option<LabelSet>, NoMemory>
-    requires name { blank.name ≡ L.name }
-    requires parts { blank.parts ≡ L.parts }
-    requires some { 0 < blank.parts }
-{
-    let mut steps = Steps::<L>::open(blank);
-    rules.process(alloc, set, &mut steps)
-}
-
-/// What the rules of the job leave of a set with the label `a`.
-fn left_by(alloc: Global, conf: &Conf) -> Result<Option<LabelSet>, LabelError> {
-    let set = LabelSet::empty().with(alloc, "a", "x")?;
-    match conf.jobs.as_slice().first() {
-        Some(job) => Ok(left_counted::<Brand>(alloc, Blank::new(1), &job.metric_rules, &set)?),
-        None => Ok(None),
-    }
-}
-
-fn rules_run_on_a_set(rt: &impl Abort, alloc: Global) -> Result<(), LabelError> {
-    let Ok(conf) = read_conf(alloc, JOB) else {
-        panic!(rt; "a configuration");
-    };
-    match left_by(alloc, &conf)? {
-        Some(set) => holds(
-            rt,
-            set.len() == 1 && set.get("b") == Some("x"),
-            "what is left",
-        ),
-        None => panic!(rt; "a set is left"),
     }
     Ok(())
 }
