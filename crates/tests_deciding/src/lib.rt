@@ -12,9 +12,10 @@
 //! | `sample_rows::rows`, and within it `early_fault`, `judged`, `body_of`, `form_of` | `replies` |
 //! | `row_set` | `scrape_cases::limits`, `scripts` |
 //! | `SeriesCache::{new, hashed, hash_of}` | `scrapes` |
-//! | `SeriesCache::{put, look, show, stamp, turn, vanished, added, is_empty}` | within `LifeState::count`; `texts`, `tracked` |
+//! | `SeriesCache::{put, look, show, stamp, turn, is_empty}` | within `LifeState::count`; `texts`, `tracked` |
+//! | `SeriesCache::{vanished, added}` | the same |
 //! | `SeriesCache::undo` | the same; `texts`, `scrape_cases::limits` |
-//! | `SeriesCache::{put_count, tracked_list, clear}` | within `LifeState::{count, closing, release}`; `synths`, `endings` |
+//! | `SeriesCache::{put_count, tracked_list, clear}` | within `LifeState`; `synths`, `scrape_cases::endings` |
 //! | `reports` | `reports` |
 //! | `ReportSets::{of, reports, target, markers}`, `report_set`, `stale_entry` | `scripts`, `tracked`, `endings` |
 //! | `marker_at`, `due_at`, `ending_entries` | `endings` of the cases |
@@ -26,7 +27,7 @@
 //! | `Book::{series_at, series_count, entry_of, longest_value}` | within `book_text`'s calls; `texts` |
 //! | `Book::{seeded, hasher}`, `LifeState::hash_of` | `scrapes::texts_are_hashed_with_the_seed_of_the_book` |
 //! | `laws_of_verdicts` | contract alone |
-//! | `Selector::{read, selects}` | `instants::{texts_are_selectors, sets_are_selected}`; `selectors`, `scrape_cases::instants` |
+//! | `Selector::{read, selects}` | `instants::{texts_are_selectors, sets_are_selected}`; `selectors` |
 //! | `View::{new, follow, instant}` | `instants::is_followed`; `scrape_cases::instants` |
 //! | `has_one_reading` of selectors, `laws_of_views` | contract alone |
 //! | `LifeState::{new, count, scraped, force, release}` | `scrapes`; `scripts`, `texts`, `scrape_cases::limits` |

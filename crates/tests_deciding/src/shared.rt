@@ -1,5 +1,5 @@
-//! What several of the tests make, and what ends a test. A call of what ends one has no branch of its own, so a test with many of
-//! them is proved fast.
+//! What several of the tests make, and what ends a test. A call of what ends one has no branch of its own, so a test
+//! with many of them is proved fast.
 
 use label_set::{LabelSet, NoMemory};
 use scrape_config::{Conf, ConfError, Job, read_conf};

@@ -18,7 +18,8 @@ use target_set::{TargetList, listed_within, targets_of};
 /// The fields of a job `j`, and what becomes of the targets that it lists.
 const ROWS: &[(&str, &str)] = &[
     (
-        r#","static_configs":[{"targets":["/","a?","a#","u@a","a\\b",""," ","a[","[","a:99999",":1","[::1]:9","é","é"]}]"#,
+        r#","static_configs":[{"targets":["/","a?","a#","u@a","a\\b",""," ","a[","[","a:99999",":1","[::1]:9","é",
+        "é"]}]"#,
         "0 BadAddress; 1 BadAddress; 2 BadAddress; 3 BadAddress; 4 BadAddress; 5 NoAddress; 6 BadUrl; 7 BadUrl; \
         8 BadUrl; 9 BadUrl; 10 BadUrl; kept 2, dropped 0, false",
     ),

@@ -6,8 +6,9 @@
 //! |---|---|
 //! | `Lexer::{over, next}` | `tokens` |
 //! | `expo_lexer::scan` | within `Lexer::next` |
-//! | `read_body`, `ReadBody::{form, len, row, rows, bytes, into_bytes}` | `bodies::a_body_has_its_bytes_and_rows`; `scrape_cases::bodies` |
-//! | `read_form`, `read_like`, `LikeBody`, `RawTexts` | `bodies::a_body_like_another_is_read_as_alone`; `texts`, `scrape_cases::quoted` |
+//! | `read_body`, `ReadBody::{form, rows, bytes, into_bytes}` | `bodies::a_body_has_its_bytes_and_rows` |
+//! | `ReadBody::{len, row}` | `bodies`; `scrape_cases::bodies` |
+//! | `read_form`, `read_like`, `LikeBody`, `RawTexts` | `bodies::a_body_like_another_is_read_as_alone`; `texts` |
 //! | `NoTexts` | within `read_form` |
 //! | `SampleRow`, `LentLabel`, `LentText` | `bodies`; `scrape_cases::{bodies, quoted}` |
 //! | `BodyReader::{of, feed, finish}`, `Unread`, `BodyCause` | `bodies::where_a_body_is_cut_makes_no_difference` |
@@ -16,7 +17,7 @@
 //! | `convert`, `OmError` | `openmetrics`; `conversions` |
 //! | `om_reader::{reads_the_format, has_one_reading, keeps_rows}` | contract alone |
 //! | `Pattern::{build, as_str, full_match, expand}`, `Matching::expand` | `patterns::whole_texts_are_matched` |
-//! | `Pattern::{filling, matching}`, `Matching::{full_match, fill, fill_both}` | within `Runner::process`; `relabelling` |
+//! | `Pattern::{filling, matching}`, `Matching::{full_match, fill, fill_both}` | within `Runner::process` |
 //! | `read_or_refused` | contract alone |
 //! | `Rules::process` | `rules` |
 //! | `Rules::{build, runner}`, `Runner::process` | `relabelling` |
@@ -35,7 +36,8 @@
 //! | `read_journal` | `journals::texts_are_refused`; `broken` |
 //! | `write_version`, `Version` | `journals::is_written` |
 //! | `read_front` | `scrape_cli`'s test `cuts::script_cut_at_each_place`; `scrape_cases::cuts` |
-//! | `Journal::{new, reserve, push, into_events, len, is_empty, now}`, `write_journal` | `journals::events_are_pushed` |
+//! | `Journal::{new, reserve, push, into_events, len, is_empty, now}` | `journals::events_are_pushed` |
+//! | `write_journal` | the same |
 //! | `Journal::events` | within `write_version` |
 //! | `texts_tell_apart` | contract alone |
 #![tactic(auto)]
