@@ -769,4 +769,31 @@ x{
 0 0 report scrape_samples_post_metric_relabeling{instance="a:1",job="j"} 0
 0 0 report scrape_series_added{instance="a:1",job="j"} 0
 -- status 0
+
+== twenty_labels_and_one_of_them_twice
+$ at 59999 {job="j"} s
+-- file s
+scrape-journal 1
+load 0 82
+{"scrape_configs":[{"job_name":"j","static_configs":[{"targets":["a:1","b:1"]}]}]}
+sweep 0
+body 15 0 200 156
+x{l0="v",l1="v",l2="v",l3="v",l4="v",l5="v",l6="v",l7="v",l8="v",l9="v",l10="v",l11="v",l12="v",l13="v",l14="v",l15="v",l16="v",l17="v",l18="v",l19="v",} 1
+
+body 15 1 200 161
+x{l0="v",l1="v",l2="v",l3="v",l4="v",l5="v",l6="v",l7="v",l8="v",l9="v",l10="v",l11="v",l12="v",l13="v",l14="v",l15="v",l16="v",l17="v",l18="v",l19="v",l3=""} 1
+
+-- out
+0 scrape_duration_seconds{instance="a:1",job="j"} 0.015
+0 scrape_duration_seconds{instance="b:1",job="j"} 0.015
+0 scrape_samples_post_metric_relabeling{instance="a:1",job="j"} 1
+0 scrape_samples_post_metric_relabeling{instance="b:1",job="j"} 0
+0 scrape_samples_scraped{instance="a:1",job="j"} 1
+0 scrape_samples_scraped{instance="b:1",job="j"} 0
+0 scrape_series_added{instance="a:1",job="j"} 1
+0 scrape_series_added{instance="b:1",job="j"} 0
+0 up{instance="a:1",job="j"} 1
+0 up{instance="b:1",job="j"} 0
+0 x{instance="a:1",job="j",l0="v",l1="v",l10="v",l11="v",l12="v",l13="v",l14="v",l15="v",l16="v",l17="v",l18="v",l19="v",l2="v",l3="v",l4="v",l5="v",l6="v",l7="v",l8="v",l9="v"} 1
+-- status 0
 "#;

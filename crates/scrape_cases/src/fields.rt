@@ -648,4 +648,49 @@ $ check s
 -- err
 scrape: config Unknown /global/extra_scrape_metrics
 -- status 4
+
+== value_relabel_configs_action_2
+$ check s
+-- file s
+{"scrape_configs":[{"job_name":"j","relabel_configs":[{"action":"label_drop"}]}]}
+\
+-- err
+scrape: config Value /scrape_configs/0/relabel_configs/0/action
+-- status 4
+
+== value_relabel_configs_action_3
+$ check s
+-- file s
+{"scrape_configs":[{"job_name":"j","relabel_configs":[{"action":""}]}]}
+\
+-- err
+scrape: config Value /scrape_configs/0/relabel_configs/0/action
+-- status 4
+
+== shape_relabel_configs_action
+$ check s
+-- file s
+{"scrape_configs":[{"job_name":"j","relabel_configs":[{"action":1}]}]}
+\
+-- err
+scrape: config Shape /scrape_configs/0/relabel_configs/0/action
+-- status 4
+
+== value_relabel_configs_target_label_3
+$ check s
+-- file s
+{"scrape_configs":[{"job_name":"j","relabel_configs":[{"action":"HashMod","modulus":2,"target_label":"1"}]}]}
+\
+-- err
+scrape: config Value /scrape_configs/0/relabel_configs/0/target_label
+-- status 4
+
+== shape_of_the_eighteenth_target
+$ check s
+-- file s
+{"scrape_configs":[{"job_name":"j","static_configs":[{"targets":["","","","","","","","","","","","","","","","","",17]}]}]}
+\
+-- err
+scrape: config Shape /scrape_configs/0/static_configs/0/targets/17
+-- status 4
 "#;
