@@ -21,6 +21,27 @@ fn text_of(alloc: Global, set: &LabelSet) -> Result<Vec<u8>, NoMemory> {
     Ok(text)
 }
 
+/// Ends the test where a set has another text.
+fn is_printed(
+    rt: &impl Abort,
+    alloc: Global,
+    set: &LabelSet,
+    wanted: &str,
+) -> Result<(), NoMemory> {
+    let text = text_of(alloc, set)?;
+    holds(rt, text.as_slice() == wanted.as_bytes(), wanted);
+    Ok(())
+}
+
+/// The texts of the set, and of sets without the name of a metric, which no book has.
+fn are_printed(rt: &impl Abort, alloc: Global, set: &LabelSet) -> Result<(), LabelError> {
+    is_printed(rt, alloc, set, r#"{"a.b","c\"\\"="x"}"#)?;
+    let nameless = set.with_any(alloc, "__name__", "")?;
+    is_printed(rt, alloc, &nameless, r#"{"c\"\\"="x"}"#)?;
+    is_printed(rt, alloc, &LabelSet::empty(), "{}")?;
+    Ok(())
+}
+
 /// Ends the test where the set has other labels.
 fn has_its_labels(rt: &impl Abort, set: &LabelSet) {
     holds(rt, set.at(0) == Some(("__name__", "a.b")), "the name");
@@ -33,9 +54,7 @@ fn a_set_of_any_names_is_made(rt: HostRuntime) -> Result<(), Fail> {
     let set = set_of_any(rt.alloc())?;
     has_its_labels(&rt, &set);
     holds(&rt, set.copy()?.is_same(&set), "its copy");
-    let text = text_of(rt.alloc(), &set)?;
-    let is_so = text.as_slice() == br#"{"a.b","c\"\\"="x"}"#.as_slice();
-    holds(&rt, is_so, "its text");
+    are_printed(&rt, rt.alloc(), &set)?;
     let refused = set.with_any(rt.alloc(), "", "x").err();
     holds(&rt, refused == Some(LabelError::BadName), "no name");
     Ok(())
