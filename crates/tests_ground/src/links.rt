@@ -73,7 +73,7 @@ fn all_reads_together_keep_the_timeout(rt: HostRuntime) -> Result<(), Fail> {
     let clock = rt.clone()?;
     let (listener, port) = listening(&rt)?;
     let server = thread::spawn(&rt, move || drip(&clock, listener))?;
-    let mut link = TcpLink::new(&rt);
+    let mut link = TcpLink::new(rt.clone()?);
     is_cut_off(&rt, &mut link, port)?;
     let _ = server.join(&rt);
     is_refused(&rt, &mut link, port);
