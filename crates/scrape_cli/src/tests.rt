@@ -7,7 +7,7 @@ mod objects;
 
 use crate::tool::tool_still;
 use label_set::{Blob, Name, NoMemory};
-use outside::{CallList, FileList, MemSink, Shelf, Sink, StoredFile, SureSink, SureSource};
+use outside::{CallList, FileList, MemSink, StoredFile, SureShelf, SureSink, SureSource};
 use scrape_core::{Core, Means};
 use std::alloc::Global;
 use std::hash::{BuildHasher, Hasher, RandomState};
@@ -64,25 +64,24 @@ fn fails(alloc: Global, calls: &[u64]) -> Result<CallList, NoMemory> {
     Ok(CallList { items })
 }
 
-/// Runs a command that makes no run, which leaves its trail and control alone.
-fn still<S: Shelf, O: Sink, E: Sink>(
+/// Runs a command that makes no run, which leaves its trail and control alone, over a shelf.
+fn run_to(
     means: Means,
     words: &[String],
-    shelf: &mut S,
-    out: &mut O,
-    err: &mut E,
+    shelf: &mut SureShelf,
+    out: &mut MemSink,
+    err: &mut MemSink,
 ) -> Result<u8, NoMemory> {
     let mut trail = SureSink::new()?;
     let mut control = SureSource::new(Blob::from_slice(means.alloc, b"")?)?;
     Ok(tool_still(means, words, shelf, out, err, &mut trail, &mut control))
 }
 
-/// Runs the program over a shelf, with outputs that take all.
-fn run_over<S: Shelf>(means: Means, words: &[String], shelf: &mut S) -> Result<Ran, NoMemory> {
-    let alloc = means.alloc;
-    let mut out = MemSink::new(alloc, ROOM, fails(alloc, &[])?)?;
-    let mut err = MemSink::new(alloc, ROOM, fails(alloc, &[])?)?;
-    let status = still(means, words, shelf, &mut out, &mut err)?;
+/// Runs it with outputs that take all.
+fn run_over(means: Means, words: &[String], shelf: &mut SureShelf) -> Result<Ran, NoMemory> {
+    let mut out = MemSink::new(means.alloc, ROOM, fails(means.alloc, &[])?)?;
+    let mut err = MemSink::new(means.alloc, ROOM, fails(means.alloc, &[])?)?;
+    let status = run_to(means, words, shelf, &mut out, &mut err)?;
     Ok(Ran { status, out, err })
 }
 

@@ -1,5 +1,5 @@
-//! Cases as text: each block of the files in `crates/scrape_cases/src/` is one call of the program over objects in memory. `checks/cases` runs
-//! the same blocks on the built program.
+//! Cases as text: each block of the files in `crates/scrape_cases/src/` is one call of the program over objects in
+//! memory. `checks/cases` runs the same blocks on the built program, and tells in which line one differs.
 //!
 //!     == NAME           a case, up to the next such line
 //!     $ WORD WORD       its words, with one blank between them; '' is the empty word
@@ -7,11 +7,10 @@
 //!     -- out, -- err    what is printed, what is said, and then its lines; nothing where there is no such part
 //!     -- status N       the exit status, at the end of each case
 //!
-//! In a part a line `\ 0d ff` stands for the bytes that it names, with no line feed behind them; a line `\` alone takes the line feed
-//! before it away.
-use super::{Ran, means_of, run_over};
-use label_set::{Blob, Name, NoMemory};
-use outside::{FileList, StoredFile, SureShelf};
+//! In a part a line `\ 0d ff` stands for the bytes that it names, with no line feed behind them; a line `\` alone takes
+//! the line feed before it away.
+use super::{means_of, run_over, stored};
+use outside::{FileList, SureShelf};
 use scrape_cases::{
     bodies, broken, checked, conflicts, conversions, cuts, endings, fields, flags, instants,
     limits, quoted, relabelling, reloads, scripts, selectors, synths, targets, texts, tracked,
@@ -19,7 +18,6 @@ use scrape_cases::{
 };
 use scrape_core::Means;
 use std::alloc::Global;
-use std::process::Abort;
 use std::test::Fail;
 
 /// All cases, by subject.
@@ -115,21 +113,11 @@ fn take_text(case: &mut Case, part: Part, line: &str) -> Result<(), Fail> {
     }
 }
 
-fn add_file(alloc: Global, case: &mut Case, name: &str) -> Result<Part, Fail> {
-    let file = StoredFile {
-        name: Name::from_str(alloc, name)?,
-        bytes: Blob {
-            bytes: Vec::new(alloc),
-        },
-    };
-    case.files.items.push(file)?;
-    Ok(Part::File)
-}
-
 /// The part that a line begins, where it begins one.
 fn part_begun(alloc: Global, case: &mut Case, line: &str) -> Result<Part, Fail> {
     if let Some(name) = line.strip_prefix("file ") {
-        return add_file(alloc, case, name);
+        case.files.items.push(stored(alloc, name, b"")?)?;
+        return Ok(Part::File);
     }
     if let Some(number) = line.strip_prefix("status ") {
         case.status = number.parse::<u8>().ok();
@@ -180,30 +168,19 @@ fn case_of(alloc: Global, text: &str) -> Result<Case, Fail> {
     Ok(case)
 }
 
-/// What is wrong with what a case left, if anything is; `checks/cases` tells in which line.
-fn flaw_of(case: &Case, ran: &Ran) -> Option<&'static str> {
-    if case.status != Some(ran.status) {
-        return Some("another status");
-    }
-    if ran.out.bytes() != case.out.as_slice() {
-        return Some("another output");
-    }
-    if ran.err.bytes() != case.err.as_slice() {
-        return Some("another message");
-    }
-    None
-}
-
-/// Runs a case; says what is wrong, if anything is. One that is misread ends the test; `checks/cases` names it.
-fn judged(means: Means, text: &str) -> Result<Option<&'static str>, Fail> {
-    let mut case = case_of(means.alloc, text)?;
-    let none = FileList {
-        items: Vec::new(means.alloc),
-    };
-    let files = std::mem::replace(&mut case.files, none);
+/// Runs a case, and tells whether it ends as it says. One that is misread ends the test.
+fn is_so(means: Means, text: &str) -> Result<bool, Fail> {
+    let Case {
+        words,
+        files,
+        out,
+        err,
+        status,
+    } = case_of(means.alloc, text)?;
     let mut shelf = SureShelf::new(files)?;
-    let ran = run_over(means, case.words.as_slice(), &mut shelf)?;
-    Ok(flaw_of(&case, &ran))
+    let ran = run_over(means, words.as_slice(), &mut shelf)?;
+    let is_said = ran.err.bytes() == err.as_slice() && status == Some(ran.status);
+    Ok(is_said && ran.out.bytes() == out.as_slice())
 }
 
 #[test]
@@ -215,9 +192,9 @@ fn cases_end_as_they_say(rt: HostRuntime) -> Result<(), Fail> {
         for block in text.split("\n== ").skip(1) {
             let (name, rest) = block.split_once('\n').unwrap_or((block, ""));
             count = count.saturating_add(1);
-            if let Some(flaw) = judged(means, rest)? {
+            if !is_so(means, rest)? {
                 failed = failed.saturating_add(1);
-                println!(rt; "case {name}: {flaw}")?;
+                println!(rt; "case {name} ends otherwise")?;
             }
         }
     }

@@ -1,10 +1,10 @@
 //! Each call of each outside object of the program fails in turn: what is left then.
 //! docs/TESTED.md tells how many calls these are.
 use super::live::{LIMITED, TWO};
-use super::objects::{Failing, Object, Put, SOUND, made_ready, replayed, replays, run_ready};
-use super::{files_of, holds, is_number, means_of, run_over, words_of};
+use super::objects::{Failing, Object, Put, SOUND, made_ready, replayed, run_ready};
+use super::{holds, is_number, means_of};
 use label_set::{Blob, NoMemory};
-use outside::{MemClock, MemSource, MomentList, Shelf, ShelfError};
+use outside::{MemClock, MemSource, MomentList};
 use scrape_core::Means;
 use std::alloc::Global;
 use std::marker::Sync;
@@ -35,23 +35,16 @@ load 0 76
 sweep 0
 body 15 0 200 "#;
 
-/// A call of the program: its words, its files, its control lines, and what it says where nothing fails.
+/// A call of the program: its words, its files, and its control lines.
 #[derive(Clone, Copy)]
 struct Row<'a> {
     words: &'a [&'a str],
     files: &'a [(&'a str, &'a str)],
     lines: &'a str,
-    said: &'a str,
-}
-
-impl Row<'_> {
-    fn is_run(&self) -> bool {
-        self.words.first() == Some(&"run")
-    }
 }
 
 /// A run with control lines of each kind, and one with a reload of two targets with a limit of one.
-const LINES_OF_EACH_KIND: Row<'static> = Row {
+const EACH_KIND: Row<'static> = Row {
     words: &["run", "--turns", "3", "c.json"],
     files: &[
         ("c.json", LISTING),
@@ -59,39 +52,22 @@ const LINES_OF_EACH_KIND: Row<'static> = Row {
         ("bad.json", "{"),
     ],
     lines: LINES,
-    said: SAID,
 };
 
 const RELOAD: Row<'static> = Row {
     words: &["run", "--turns", "2", "c.json"],
     files: &[("c.json", TWO), ("d.json", LIMITED)],
     lines: "load d.json\n",
-    said: "",
 };
 
-/// A command that makes no run, of the file `s`.
-fn command<'a>(words: &'a [&'a str], files: &'a [(&'a str, &'a str)]) -> Row<'a> {
-    Row {
-        words,
-        files,
-        lines: "",
-        said: "",
-    }
-}
-
-/// What a call reads beside its files: control lines, and the time.
-#[derive(Drop)]
-struct Inputs {
-    control: MemSource,
-    clock: MemClock,
-}
-
-fn inputs_of(alloc: Global, lines: &str, failing: Failing) -> Result<Inputs, NoMemory> {
+fn control_of(alloc: Global, lines: &str, failing: Failing) -> Result<MemSource, NoMemory> {
     let lines = Blob::from_slice(alloc, lines.as_bytes())?;
-    let control = MemSource::new(lines, failing.of(alloc, Object::Control)?)?;
+    MemSource::new(lines, failing.of(alloc, Object::Control)?)
+}
+
+fn clock_of(alloc: Global) -> Result<MemClock, NoMemory> {
     let items = vec![in alloc; 0, 0, 60_000, 120_000]?;
-    let clock = MemClock::new(MomentList { items })?;
-    Ok(Inputs { control, clock })
+    MemClock::new(MomentList { items })
 }
 
 /// Makes a call of which an object fails.
@@ -102,45 +78,27 @@ fn call_failing<W: Threads + Wait + Sync>(
     failing: Failing,
 ) -> Result<Put, Fail> {
     let fetchers = failing.fetchers(means.alloc)?;
-    let Inputs { control, clock } = inputs_of(means.alloc, row.lines, failing)?;
+    let control = control_of(means.alloc, row.lines, failing)?;
+    let clock = clock_of(means.alloc)?;
     let ready = made_ready(means.alloc, row.words, row.files, failing)?;
     Ok(run_ready(rt, means, ready, control, clock, fetchers))
 }
 
-/// What is left where nothing fails: a run's trail replays to its book, and else all is printed.
-fn is_whole(
-    rt: &impl Abort,
-    means: Means,
-    row: Row<'_>,
-    put: &Put,
-    all: &[u8],
-) -> Result<(), Fail> {
-    holds(rt, put.err.bytes() == row.said.as_bytes(), row.said);
-    if row.is_run() {
-        return replays(rt, means, put);
-    }
-    holds(rt, put.out.bytes() == all, "all that is printed");
-    Ok(())
+/// What is printed is all, or where a put failed a front of it.
+fn is_front(rt: &impl Abort, put: &Put, all: &[u8]) {
+    let out = put.out.bytes();
+    holds(rt, all.starts_with(out), "a front");
+    holds(rt, put.status == 7 || all.len() == out.len(), "all of it");
 }
 
-/// A put of the output failed: a front of it is there, and of a run the whole trail.
-fn has_front(
-    rt: &impl Abort,
-    means: Means,
-    row: Row<'_>,
-    put: &Put,
-    all: &[u8],
-) -> Result<(), Fail> {
-    if row.is_run() {
-        let whole = replayed(rt, means, put.trail.bytes())?;
-        holds(
-            rt,
-            whole.out.bytes().starts_with(put.out.bytes()),
-            "a front of the book",
-        );
+/// A run prints what its trail replays to, another command what it prints where nothing fails.
+fn is_printed(rt: &impl Abort, means: Means, put: &Put, all: Option<&[u8]>) -> Result<(), Fail> {
+    if let Some(all) = all {
+        is_front(rt, put, all);
         return Ok(());
     }
-    holds(rt, all.starts_with(put.out.bytes()), "a front");
+    let replayed = replayed(rt, means, put.trail.bytes())?;
+    is_front(rt, put, replayed.out.bytes());
     Ok(())
 }
 
@@ -160,16 +118,14 @@ fn has_its_status(rt: &impl Abort, object: Object, put: &Put) {
 fn is_left(
     rt: &impl Abort,
     means: Means,
-    row: Row<'_>,
     failing: Failing,
     put: &Put,
-    all: &[u8],
+    all: Option<&[u8]>,
 ) -> Result<(), Fail> {
     has_its_status(rt, failing.object, put);
     match failing.object {
-        Object::Out => has_front(rt, means, row, put, all),
-        Object::Control => replays(rt, means, put),
-        Object::Shelf if failing.call > 0 => replays(rt, means, put),
+        Object::Out | Object::Control => is_printed(rt, means, put, all),
+        Object::Shelf if failing.call > 0 => is_printed(rt, means, put, all),
         _ => {
             holds(rt, put.trail.bytes().is_empty(), "no trail");
             holds(rt, put.out.bytes().is_empty(), "no output");
@@ -185,47 +141,55 @@ fn count_failing<W: Threads + Wait + Sync + Abort>(
     means: Means,
     row: Row<'_>,
     object: Object,
-    all: &[u8],
+    all: Option<&[u8]>,
 ) -> Result<u64, Fail> {
     let mut front = 0;
     for call in 0..MOST_CALLS {
         let failing = Failing { object, call };
         let put = call_failing(rt, means, row, failing)?;
         if put.status == 0 {
-            is_whole(rt, means, row, &put, all)?;
+            is_printed(rt, means, &put, all)?;
             return Ok(call);
         }
-        is_left(rt, means, row, failing, &put, all)?;
+        is_left(rt, means, failing, &put, all)?;
         let count = put.out.bytes().len();
-        holds(
-            rt,
-            object != Object::Out || call == 0 || front < count,
-            "a longer front",
-        );
+        let is_longer = object != Object::Out || call == 0 || front < count;
+        holds(rt, is_longer, "a longer front");
         front = count;
     }
     Ok(MOST_CALLS)
 }
 
-/// Fails the calls of each object of a row; so many are to fail.
+/// Of each object of a call so many calls are to fail.
 fn calls_fail<W: Threads + Wait + Sync + Abort>(
     rt: &W,
     means: Means,
     row: Row<'_>,
-    counts: [u64; 5],
+    counts: [(Object, u64); 5],
+    all: Option<&[u8]>,
 ) -> Result<(), Fail> {
-    let sound = call_failing(rt, means, row, SOUND)?;
-    let [shelf, out, err, trail, control] = counts;
-    for (object, count) in [
+    for (object, count) in counts {
+        let failed = count_failing(rt, means, row, object, all)?;
+        is_number(rt, failed, count, "calls that fail");
+    }
+    Ok(())
+}
+
+/// How many calls of the shelf, of `out`, of `err`, of the trail and of control there are.
+fn counts(shelf: u64, out: u64, err: u64, trail: u64, control: u64) -> [(Object, u64); 5] {
+    [
         (Object::Shelf, shelf),
         (Object::Out, out),
         (Object::Err, err),
         (Object::Trail, trail),
         (Object::Control, control),
-    ] {
-        let failed = count_failing(rt, means, row, object, sound.out.bytes())?;
-        is_number(rt, failed, count, "calls that fail");
-    }
+    ]
+}
+
+/// What is said of control lines.
+fn lines_are_told<W: Threads + Wait + Sync + Abort>(rt: &W, means: Means) -> Result<(), Fail> {
+    let put = call_failing(rt, means, EACH_KIND, SOUND)?;
+    holds(rt, put.err.bytes() == SAID.as_bytes(), "what is said");
     Ok(())
 }
 
@@ -235,7 +199,7 @@ fn fetches_fail<W: Threads + Wait + Sync + Abort>(rt: &W, means: Means) -> Resul
         let object = Object::Fetch;
         let put = call_failing(rt, means, RELOAD, Failing { object, call })?;
         is_number(rt, put.status as u64, 0, "a lost scrape");
-        replays(rt, means, &put)?;
+        is_printed(rt, means, &put, None)?;
     }
     Ok(())
 }
@@ -243,8 +207,9 @@ fn fetches_fail<W: Threads + Wait + Sync + Abort>(rt: &W, means: Means) -> Resul
 #[test]
 fn each_call_of_a_run_fails_in_turn(rt: HostRuntime) -> Result<(), Fail> {
     let means = means_of(&rt)?;
-    calls_fail(&rt, means, LINES_OF_EACH_KIND, [9, 1, 5, 1, 2])?;
-    calls_fail(&rt, means, RELOAD, [2, 1, 0, 1, 2])?;
+    lines_are_told(&rt, means)?;
+    calls_fail(&rt, means, EACH_KIND, counts(9, 1, 5, 1, 2), None)?;
+    calls_fail(&rt, means, RELOAD, counts(2, 1, 0, 1, 2), None)?;
     fetches_fail(&rt, means)
 }
 
@@ -259,77 +224,73 @@ fn long_script(alloc: Global) -> Result<String, Fail> {
     Ok(script)
 }
 
-/// A put of the message that a file isn't there fails: the status stays, and a front of the message is there.
-fn message_fails<W: Threads + Wait + Sync + Abort>(rt: &W, means: Means) -> Result<(), Fail> {
+/// A put of the message fails: the status stays, and a front of the message is there.
+fn message_fails<W: Threads + Wait + Sync + Abort>(
+    rt: &W,
+    means: Means,
+    none: Row<'_>,
+) -> Result<(), Fail> {
     for call in 0..4 {
         let object = Object::Err;
-        let none = command(&["replay", "none"], &[]);
         let put = call_failing(rt, means, none, Failing { object, call })?;
         is_number(rt, put.status as u64, 3, "no file");
-        let said = b"scrape: absent none\n".as_slice();
-        holds(
-            rt,
-            said.starts_with(put.err.bytes()),
-            "a front of the message",
-        );
+        let is_so = b"scrape: absent none\n"
+            .as_slice()
+            .starts_with(put.err.bytes());
+        holds(rt, is_so, "a front of the message");
     }
     Ok(())
 }
 
-/// A shelf that finds no memory for any file.
-#[derive(Drop)]
-struct FullShelf;
-
-impl Shelf for FullShelf {
-    ghost use Rattle.std.specs.Prelude.{None};
-
-    ghost seen = { λ s. record { files = None; misses = 0; overs = 0; faults = 0 } };
-
-    fn read_file(&mut self, _: Global, _: &str, _: usize) -> Result<Blob, ShelfError> {
-        Err(ShelfError::NoMemory)
-    }
+/// The read and each put of a command fail. Where nothing is wrong there is no message; trail and control are never
+/// touched.
+fn command_fails<W: Threads + Wait + Sync + Abort>(
+    rt: &W,
+    means: Means,
+    row: Row<'_>,
+    puts: u64,
+) -> Result<(), Fail> {
+    let sound = call_failing(rt, means, row, SOUND)?;
+    holds(rt, sound.err.bytes().is_empty(), "no message");
+    let all = Some(sound.out.bytes());
+    calls_fail(rt, means, row, counts(1, puts, 0, 0, 0), all)
 }
 
-/// There is no memory for the file of a command.
-fn no_memory(rt: &impl Abort, means: Means, words: &[&str]) -> Result<(), Fail> {
-    let words = words_of(means.alloc, words)?;
-    let ran = run_over(means, words.as_slice(), &mut FullShelf)?;
-    is_number(rt, ran.status as u64, 8, "no memory");
-    holds(
-        rt,
-        ran.err.bytes() == b"scrape: no memory\n".as_slice(),
-        "the message",
-    );
-    holds(rt, ran.out.bytes().is_empty(), "no output");
-    Ok(())
-}
-
-/// Commands, whether the file of each is the script, and how many puts each makes.
+/// Commands, and how many puts each makes of the long script, or of an empty configuration.
 const COMMANDS: [(&[&str], bool, u64); 3] = [
     (&["replay", "s"], true, 3),
     (&["at", "0", "x", "s"], true, 1),
     (&["check", "s"], false, 1),
 ];
 
-/// Where nothing is wrong no message is put, and neither trail nor control is touched.
-fn commands_fail<W: Threads + Wait + Sync + Abort>(
-    rt: &W,
-    means: Means,
-    script: &str,
-) -> Result<(), Fail> {
-    for (words, is_script, puts) in COMMANDS {
-        let text = if is_script { script } else { "{}" };
-        let files = [("s", text)];
-        calls_fail(rt, means, command(words, &files), [1, puts, 0, 0, 0])?;
-        no_memory(rt, means, words)?;
-    }
-    Ok(())
-}
-
 #[test]
 fn each_call_of_a_command_fails_in_turn(rt: HostRuntime) -> Result<(), Fail> {
     let means = means_of(&rt)?;
     let script = long_script(means.alloc)?;
-    commands_fail(&rt, means, script.as_str())?;
-    message_fails(&rt, means)
+    let (lines, none) = ("", ["replay", "none"].as_slice());
+    for (words, is_long, puts) in COMMANDS {
+        let text = if is_long { script.as_str() } else { "{}" };
+        let files = [("s", text)];
+        let files = files.as_slice();
+        command_fails(
+            &rt,
+            means,
+            Row {
+                words,
+                files,
+                lines,
+            },
+            puts,
+        )?;
+    }
+    let (words, files) = (none, [].as_slice());
+    message_fails(
+        &rt,
+        means,
+        Row {
+            words,
+            files,
+            lines,
+        },
+    )
 }

@@ -1,7 +1,7 @@
 //! A live run over objects in memory: a reload while two fetches are held.
 ghost use Rattle.std.specs.Prelude.{◌≡◌, vec_len, IfOk};
 
-use super::objects::{Put, SOUND, made_ready, replays, run_ready};
+use super::objects::{Put, SOUND, made_ready, replayed, run_ready};
 use super::{fails, holds, is_number, means_of};
 use label_set::{Blob, NoMemory};
 use outside::{
@@ -35,18 +35,11 @@ struct Stage {
 }
 
 impl Stage {
-    fn count(&self) -> (u64, u64) {
-        (
-            self.begun.load(Ordering::SeqCst),
-            self.reads.load(Ordering::SeqCst),
-        )
-    }
-
     /// Waits until so many fetches have begun and control was read so often, or gives up.
     fn hold(&self, begun: u64, reads: u64) {
         for _look in 0..MOST_LOOKS {
-            let (now_begun, now_reads) = self.count();
-            if now_begun >= begun && now_reads >= reads {
+            let has_begun = self.begun.load(Ordering::SeqCst) >= begun;
+            if has_begun && self.reads.load(Ordering::SeqCst) >= reads {
                 return;
             }
             yield_now();
@@ -198,12 +191,12 @@ fn run_with_held_fetches(rt: HostRuntime) -> Result<(), Fail> {
     let stage = new_stage(rt.alloc())?;
     let put = held_run(&rt, means, &stage)?;
     is_number(&rt, put.status as u64, 0, "a held run");
-    holds(
-        &rt,
-        stage.given_up.load(Ordering::SeqCst) == 0,
-        "no gate gave up",
-    );
+    let given_up = stage.given_up.load(Ordering::SeqCst);
+    is_number(&rt, given_up, 0, "gates that gave up");
     holds(&rt, put.err.bytes().is_empty(), "nothing is said");
     holds(&rt, put.out.bytes() == FORCED.as_bytes(), "both are forced");
-    replays(&rt, means, &put)
+    let replayed = replayed(&rt, means, put.trail.bytes())?;
+    let is_so = replayed.out.bytes() == put.out.bytes();
+    holds(&rt, is_so, "the trail replays to that");
+    Ok(())
 }

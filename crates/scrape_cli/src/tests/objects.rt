@@ -1,7 +1,7 @@
 //! What the program is run over: objects in memory, of which one may fail at a call.
 ghost use Rattle.std.specs.Prelude.{◌≡◌, vec_len, IfOk};
 
-use super::{ROOM, Ran, fails, files_of, holds, is_number, run_over, stored, words_of};
+use super::{ROOM, Ran, fails, files_of, is_number, run_over, stored, words_of};
 use crate::tool::{Finished, tool};
 use label_set::NoMemory;
 use outside::{
@@ -24,7 +24,6 @@ pub enum Object {
     Trail,
     Control,
     Fetch,
-    Nothing,
 }
 
 /// The call that fails: of which object, and its number.
@@ -64,8 +63,8 @@ impl Failing {
 
 /// No call fails.
 pub const SOUND: Failing = Failing {
-    object: Object::Nothing,
-    call: 0,
+    object: Object::Fetch,
+    call: u64::MAX,
 };
 
 /// What a run put to its outputs.
@@ -153,11 +152,4 @@ pub fn replayed(rt: &impl Abort, means: Means, trail: &[u8]) -> Result<Ran, Fail
     let ran = run_over(means, words.as_slice(), &mut shelf)?;
     is_number(rt, ran.status as u64, 0, "the replay of a trail");
     Ok(ran)
-}
-
-/// The trail of a run replays to what the run printed.
-pub fn replays(rt: &impl Abort, means: Means, put: &Put) -> Result<(), Fail> {
-    let ran = replayed(rt, means, put.trail.bytes())?;
-    holds(rt, ran.out.bytes() == put.out.bytes(), "a replayed trail");
-    Ok(())
 }
