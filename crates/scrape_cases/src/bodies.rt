@@ -795,6 +795,7 @@ x{l0="v",l1="v",l2="v",l3="v",l4="v",l5="v",l6="v",l7="v",l8="v",l9="v",l10="v",
 0 up{instance="a:1",job="j"} 1
 0 up{instance="b:1",job="j"} 0
 0 x{instance="a:1",job="j",l0="v",l1="v",l10="v",l11="v",l12="v",l13="v",l14="v",l15="v",l16="v",l17="v",l18="v",l19="v",l2="v",l3="v",l4="v",l5="v",l6="v",l7="v",l8="v",l9="v"} 1
+-- status 0
 
 == values_of_each_form
 $ replay s

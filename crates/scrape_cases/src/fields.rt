@@ -692,6 +692,7 @@ $ check s
 \
 -- err
 scrape: config Shape /scrape_configs/0/static_configs/0/targets/17
+-- status 4
 
 == durations_of_each_form
 $ check s
