@@ -1,9 +1,8 @@
 //! Books that grow: what `instants` sees of them. The verdicts of their entries the cases show.
 
 use crate::shared::set_of;
-use appender_book::Book;
 use label_set::NoMemory;
-use report_samples::{Entry, Kind};
+use report_samples::{Entry, EntryList, Kind};
 use std::alloc::Global;
 use value_text::ValueText;
 
@@ -44,10 +43,10 @@ pub(crate) const LATER: &[Row] = &[
     ("__name__=w", i64::MAX, Some(7)),
 ];
 
-pub(crate) fn append(alloc: Global, book: &mut Book, rows: &[Row]) -> Result<(), NoMemory> {
+pub(crate) fn entries_of(alloc: Global, rows: &[Row]) -> Result<EntryList, NoMemory> {
+    let mut items = Vec::new(alloc);
     for &(labels, moment, count) in rows {
-        book.reserve(1)?;
-        book.append(entry(alloc, labels, moment, count)?);
+        items.push(entry(alloc, labels, moment, count)?)?;
     }
-    Ok(())
+    Ok(EntryList { items })
 }

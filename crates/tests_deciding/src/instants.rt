@@ -1,7 +1,7 @@
 //! Instant views: selectors with blanks, and what is seen of a book that grew after it was followed. The rest the cases
 //! show.
 
-use crate::books::{FIRST, LATER, append};
+use crate::books::{FIRST, LATER, entries_of};
 use crate::shared::{are_bytes, holds, set_of};
 use appender_book::Book;
 use instant_view::{Selector, SelectorError, View, ViewRow, laws_of_views};
@@ -88,9 +88,9 @@ fn seen(alloc: Global, view: &mut View, text: &str, moment: i64) -> Result<Strin
 /// Appends entries to a book, while a view follows it, and asks the view.
 fn is_followed(rt: &impl Abort, alloc: Global, book: &mut Book) -> Result<(), NoMemory> {
     let mut view = View::new(alloc);
-    append(alloc, book, FIRST)?;
+    book.append_all(entries_of(alloc, FIRST)?)?;
     view.follow(alloc, book)?;
-    append(alloc, book, LATER)?;
+    book.append_all(entries_of(alloc, LATER)?)?;
     laws_of_views();
     view.follow(alloc, book)?;
     for &(text, moment, wanted) in SEEN {

@@ -22,8 +22,8 @@
 //! | `Endings::{new, reserve, add, due, entries, take}` | `endings::an_ending_is_taken_once` |
 //! | `Roll::{new, reserve, sync, begin, land, cancel, flight_of, lives, next_ticket}` | `rolls` |
 //! | `Schedule`, `JobNames`, `Seats`, `Wishes` | within `Roll`, and `scrape_core`; `reloads` |
-//! | `Book::{new, reserve, append}` | `books`; `verdicts` |
-//! | `Book::{append_all, verdict, entry, len}` | `verdicts`, `texts` |
+//! | `Book::{new, append_all}` | `instants::is_followed`, with `books`; `verdicts` |
+//! | `Book::{reserve, append, verdict, entry, len}` | within `append_all` and `View::follow`; `verdicts`, `texts` |
 //! | `Book::{series_at, series_count, entry_of, longest_value}` | within `book_text`'s calls; `texts` |
 //! | `Book::{seeded, hasher}`, `LifeState::hash_of` | `scrapes::texts_are_hashed_with_the_seed_of_the_book` |
 //! | `laws_of_verdicts` | contract alone |
