@@ -1,8 +1,8 @@
 //! Sets with names of any text, which the program makes by other calls.
 
 use crate::holds;
-use label_set::NoMemory;
 use label_set::sets::{LabelError, LabelSet};
+use label_set::{NoMemory, Pair};
 use std::alloc::Global;
 use std::process::Abort;
 use std::test::Fail;
@@ -42,6 +42,13 @@ fn are_printed(rt: &impl Abort, alloc: Global, set: &LabelSet) -> Result<(), Lab
     Ok(())
 }
 
+/// Whether the copy of a label is that label.
+fn is_copied(alloc: Global) -> Result<bool, NoMemory> {
+    let pair = Pair::from_strs(alloc, "a", "b")?;
+    let copy = pair.copy(alloc)?;
+    Ok(copy == pair)
+}
+
 /// Ends the test where the set has other labels.
 fn has_its_labels(rt: &impl Abort, set: &LabelSet) {
     holds(rt, set.at(0) == Some(("__name__", "a.b")), "the name");
@@ -55,6 +62,7 @@ fn a_set_of_any_names_is_made(rt: HostRuntime) -> Result<(), Fail> {
     has_its_labels(&rt, &set);
     holds(&rt, set.copy()?.is_same(&set), "its copy");
     are_printed(&rt, rt.alloc(), &set)?;
+    holds(&rt, is_copied(rt.alloc())?, "a copied label");
     let refused = set.with_any(rt.alloc(), "", "x").err();
     holds(&rt, refused == Some(LabelError::BadName), "no name");
     Ok(())

@@ -1,13 +1,14 @@
-//! Tests of the ground: `label_set`, `outside` and `os_streams`. What a case or a check shows on the built program isn't
-//! shown again here: what stays are calls that the program doesn't make, and what a signal or a slow server does to an
-//! input and a link. There is no code here. What shows each public call, by a test, by a file of cases in
+//! Tests of the ground: `label_set`, `outside` and `os_streams`. What a case or a check shows on the built program
+//! isn't shown again here: what stays are calls that the program doesn't make, and what a signal or a slow server does
+//! to an input and a link. There is no code here. What shows each public call, by a test, by a file of cases in
 //! `crates/scrape_cases`, or by a script of `checks`:
 //!
 //! | public call | test, cases or check |
 //! |---|---|
 //! | `Name::{from_str, copy, as_str}`, `NameList::as_slice` | `relabelling`, whose rules are copied |
 //! | `Blob::{from_slice, as_slice}`, `Blob::copy` | `scripts`; `checks/live`, whose bodies are copied |
-//! | `Pair::{from_strs, copy, label}`, `PairList::as_slice`, `lent` | `targets`; `Pair::copy` within `Name::copy` |
+//! | `Pair::{from_strs, label}`, `PairList::as_slice`, `lent` | `targets` |
+//! | `Pair::copy` | `label_sets::is_copied`, which a test calls |
 //! | `is_label_name`, `is_metric_name` | `fields`, `bodies` |
 //! | `LabelSet::{of, from_labels, labels, with_all, len, get}` | `targets`, `conflicts`, `relabelling` |
 //! | `LabelSet::{with, copy, eq, hash, cmp}`, `SetList::as_slice` | `scripts`, `instants`, `updates` |
@@ -20,8 +21,8 @@
 //! | `Steps::{open, tick}` | `synths`, which tell how often rules are run |
 //! | `Steps::of` | contract alone |
 //! | `ValueText::{check, keep, keep_checked, copy, bytes}` | `bodies`, `instants` |
-//! | `ValueText::{of_count, of_millis}`, `seconds_text` | `tracked`, `bodies` |
-//! | `write_seconds3` | `tests_running::fetches` |
+//! | `ValueText::{of_count, of_millis}`, `seconds_text` | `tracked`, `scripts` |
+//! | `write_seconds3` | `tests_running::fetches`; `checks/live` |
 //! | `read_millis`, `read_duration` | `bodies`, `fields` |
 //! | `to_number`, `number_of`, `digit_count`, `reads_the_values` | contract alone |
 //! | `MemShelf`, `SureShelf`, `MemSink`, `SureSink`, `MemSource`, `SureSource` | the tests of `scrape_cli` |

@@ -35,7 +35,7 @@
 //! | `faults::{fault_word, fault_place, push_fault}` | `configurations`; `fields` |
 //! | `read_journal` | `journals::texts_are_refused`; `broken` |
 //! | `write_version`, `Version` | `journals::is_written` |
-//! | `read_front` | `scrape_cli`'s test `cuts::script_cut_at_each_place`; `scrape_cases::cuts` |
+//! | `read_front` | `checks/ends`; `scrape_cases::cuts` |
 //! | `Journal::{new, reserve, push, into_events, len, is_empty, now}` | `journals::events_are_pushed` |
 //! | `write_journal` | the same |
 //! | `Journal::events` | within `write_version` |

@@ -11,12 +11,14 @@
 //! | `HttpFetch::{new, fetch}`, `exchange::exchange`, `requests::text_of` | `fetches`; `checks/live` |
 //! | `stages::{is_done, is_body, frame_step, body_step}` | within `Decoder::feed` |
 //! | `laws::{last_read, one_reply}` | contract alone |
-//! | `Core::{new, step, take, runs, book}`, `replay` | `scripts`, `updates`, `synths`; `checks/scripts` |
-//! | the answers of `Core::step` | `reloads`, `updates`; `scrape_cli`, by what is said of control lines |
-//! | `Core::{events, journal, now}` | `synths`; `checks/live`, whose trail replays to its book |
-//! | `Core::{due, wake, request, started, jobs, halt}` | `checks/live` |
-//! | `Core::{finish_read, take_read}`, `ReadEvent` | `checks/live` |
-//! | `Core::seeded` | `scrape_cli`, `a_core_hashes_with_its_seed` |
+//! | `Core::{take, runs, book, events}`, `replay` | `scripts`, `updates`, `synths`; `checks/scripts` |
+//! | the answers of `Core::take` | `reloads`, `updates`; `scrape_cli`, by what is said of control lines |
+//! | `Core::step`, `Core::finish_read` | contract alone: they are `take` and `take_read`, and cite laws |
+//! | `Core::{now, moment, due}` | contract alone |
+//! | `Core::{journal, wake, request, started, jobs, halt}` | `checks/live`, whose trail replays to its book |
+//! | `Core::take_read` | `checks/live` |
+//! | `ReadEvent` | within `Core::take` and `Core::take_read` |
+//! | `Core::{new, seeded}` | `scrape_cli`, `a_core_hashes_with_its_seed` |
 //! | `Core::let_go` | every case goes through it |
 //! | `TurnLock::{new, take, give, add, rest, close}` | `turns::two_threads_take_turns` |
 //! | `TurnLock::wake` | none: it only wakes |

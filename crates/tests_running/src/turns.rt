@@ -74,7 +74,8 @@ fn open(alloc: Global) -> Option<Opened>
     ensures own { IfSome result (λ o. IsPassOf o.lock o.first × IsPassOf o.lock o.second) }
     ensures idle { IfSome result (λ o. IsIdle o.first × IsIdle o.second) }
     ensures numbers { IfSome result (λ o. (number_of o.first ≡ 0) × (number_of o.second ≡ 1)) }
-    ensures all { IfSome result (λ o. (made_of o.lock ≡ 2) × (o.passes.items ≡ []) × (2 ≤ vec_capacity o.passes)) }
+    ensures made { IfSome result (λ o. made_of o.lock ≡ 2) }
+    ensures room { IfSome result (λ o. (o.passes.items ≡ []) × (2 ≤ vec_capacity o.passes)) }
 {
     let empty = Log {
         entries: Vec::new(alloc),
