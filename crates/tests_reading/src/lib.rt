@@ -1,4 +1,4 @@
-//! Tests of the readers: tokens and bodies, patterns and rules, configurations, control lines and journals.
+//! Tests of the readers: tokens and bodies, patterns and rules, configurations, control lines, journals and requests.
 //! They show that each call succeeds where there is memory, and what no case of `scrape_cases` shows; a file of cases
 //! stands here by its name. There is no code here. What shows each public call, a test or what a test calls:
 //!
@@ -40,6 +40,9 @@
 //! | `write_journal` | the same |
 //! | `Journal::events` | within `write_version` |
 //! | `texts_tell_apart` | contract alone |
+//! | `front_at` | `requests::requests_are_read` |
+//! | `selectors_of` | `requests::selectors_are_decoded` |
+//! | `request_heads::pages` | within `front_at` |
 #![tactic(auto)]
 
 #[cfg(test)]
@@ -54,6 +57,8 @@ mod journals;
 mod openmetrics;
 #[cfg(test)]
 mod patterns;
+#[cfg(test)]
+mod requests;
 #[cfg(test)]
 mod rules;
 #[cfg(test)]
