@@ -11,40 +11,35 @@
 //! the line feed before it away.
 use super::{means_of, run_over, stored};
 use outside::{FileList, SureShelf};
-use scrape_cases::{
-    bodies, broken, checked, conflicts, conversions, cuts, endings, fields, flags, instants,
-    limits, quoted, relabelling, reloads, scripts, selectors, synths, targets, texts, tracked,
-    updates, verdicts, words,
-};
 use scrape_core::Means;
 use std::alloc::Global;
 use std::test::Fail;
 
 /// All cases, by subject.
 const TEXTS: [&str; 23] = [
-    quoted::CASES,
-    words::CASES,
-    flags::CASES,
-    scripts::CASES,
-    synths::CASES,
-    broken::CASES,
-    cuts::CASES,
-    conversions::CASES,
-    instants::CASES,
-    selectors::CASES,
-    reloads::CASES,
-    updates::CASES,
-    endings::CASES,
-    verdicts::CASES,
-    bodies::CASES,
-    texts::CASES,
-    tracked::CASES,
-    targets::CASES,
-    conflicts::CASES,
-    relabelling::CASES,
-    limits::CASES,
-    checked::CASES,
-    fields::CASES,
+    scrape_cases::quoted::CASES,
+    scrape_cases::words::CASES,
+    scrape_cases::flags::CASES,
+    scrape_cases::scripts::CASES,
+    scrape_cases::synths::CASES,
+    scrape_cases::broken::CASES,
+    scrape_cases::cuts::CASES,
+    scrape_cases::conversions::CASES,
+    scrape_cases::instants::CASES,
+    scrape_cases::selectors::CASES,
+    scrape_cases::reloads::CASES,
+    scrape_cases::updates::CASES,
+    scrape_cases::endings::CASES,
+    scrape_cases::verdicts::CASES,
+    scrape_cases::bodies::CASES,
+    scrape_cases::texts::CASES,
+    scrape_cases::tracked::CASES,
+    scrape_cases::targets::CASES,
+    scrape_cases::conflicts::CASES,
+    scrape_cases::relabelling::CASES,
+    scrape_cases::limits::CASES,
+    scrape_cases::checked::CASES,
+    scrape_cases::fields::CASES,
 ];
 
 /// One call of the program: its words and files, and what it must leave.
