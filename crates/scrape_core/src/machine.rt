@@ -4,7 +4,7 @@ ghost use Rattle.journal_text.specs.declared.events.Event.{Event};
 ghost use Rattle.journal_text.specs.declared.events.Event.TheVariants.{Finish, Halt};
 ghost use Rattle.journal_text.specs.Events.{IsInLimits, IsJournal, MayFollow, now_of};
 ghost use Rattle.journal_text.specs.Lines.{IsMoment, number};
-ghost use Rattle.scrape_core.specs.OpenLives as open;
+ghost use Rattle.scrape_core.specs.OpenLives as opens;
 ghost use Rattle.scrape_core.specs.Readers.{IsWake, MayFetch, awaits, is_due, request};
 ghost use Rattle.scrape_core.specs.Records.{is_live, started_of};
 ghost use Rattle.scrape_machine.specs.Machine as spec;
@@ -12,8 +12,8 @@ ghost use Rattle.scrape_machine.specs.Runs as relabelling;
 
 use crate::events::take;
 use crate::finishes::life_of;
-use crate::read_events::ReadEvent;
 use crate::open_lives::{OpenLife, open_count_in, open_life_in};
+use crate::read_events::ReadEvent;
 use crate::readers::{due_in, request_in, wake_in};
 use crate::state::State;
 use appender_book::Book;
@@ -282,7 +282,7 @@ impl Core {
 
     /// How many targets are scraped: the open lives. It takes no memory.
     pub fn open_count(&self) -> usize
-        ensures { result ≡ open.open_count self.now }
+        ensures { result ≡ opens.open_count self.now }
     {
         open_count_in(&self.state)
     }
@@ -290,7 +290,7 @@ impl Core {
     /// The open life at a place, by rising number: that number, the labels of its target, and how the target is. There is none exactly where the
     /// place is at or past `open_count`. It takes no memory.
     pub fn open_life(&self, place: usize) -> Option<OpenLife<'_>>
-        ensures { option_map open.seen result ≡ open.open_life self.now place }
+        ensures { option_map opens.seen result ≡ opens.open_life self.now place }
     {
         open_life_in(&self.state, place)
     }

@@ -25,7 +25,8 @@ pub fn open_count_in(state: &State) -> usize
     requires { IsListed state.now }
     ensures { result ≡ length (filter is_open state.now.lives.items) }
 {
-    Lives::open(&state.lives, &state.open_lives).count()
+    let lives = Lives::open(&state.lives, &state.open_lives);
+    lives.count()
 }
 
 /// The open life at a place, by rising number.
