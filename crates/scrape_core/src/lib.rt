@@ -3,7 +3,7 @@
 //! It knows no file, clock, socket or thread: moments and bytes are handed in with the events.
 //! Contracts see a core as its journal, the list of the events that it took; `specs/Machine.antt` of the crate `scrape_machine` says what the answers and
 //! the book of a journal are.
-//! Tests: `tests_running::cores`; cases: `scrape_cases::{scripts, reloads, updates, endings}`.
+//! Cases: `scrape_cases::{scripts, reloads, updates, endings}`.
 #![tactic(auto)]
 
 mod changes;
