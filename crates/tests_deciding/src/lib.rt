@@ -32,7 +32,8 @@
 //! | `has_one_reading` of selectors, `laws_of_views` | contract alone |
 //! | `LifeState::{new, count, scraped, force, release}` | `scrapes`; `scripts`, `texts`, `scrape_cases::limits` |
 //! | `LifeState::{target, force_entries, closing}` | `scrape_cases::{limits, endings}` |
-//! | `ReadReply::{of, with, into_reply}`, `LifeState::read` | `tests_running::cores::readers`; `texts` |
+//! | `ReadReply::of` | `scrapes` |
+//! | `ReadReply::{with, into_reply}`, `LifeState::read` | within `Core::take`; `texts` |
 //!
 //! The core's own calls are shown by `tests_running`, with what runs over it.
 #![tactic(auto)]
