@@ -1,5 +1,6 @@
-//! What text can't show: outside objects that fail at a call, and fetches that are held. All else is a case in
-//! `crates/scrape_cases`, or a script in `checks`.
+//! What text can't show: outside objects that fail at a call, fetches that are held, and what a status server answers.
+//! All else is a case in `crates/scrape_cases`, or a script in `checks`.
+mod answers;
 mod cases;
 mod failing;
 mod live;
