@@ -28,13 +28,6 @@ targets j f.json\ntargets k f.json\ntargets j c.json";
 const SAID: &str = "control 2: refused NotJson\ncontrol 3: absent\ncontrol 4: not a command\n\
 control 6: no job\ncontrol 7: no file\n";
 
-/// What stands in a script before the length of its one body.
-const ONE_LOAD: &str = r#"scrape-journal 1
-load 0 76
-{"scrape_configs":[{"job_name":"j","static_configs":[{"targets":["a:1"]}]}]}
-sweep 0
-body 15 0 200 "#;
-
 /// A call of the program: its words, its files, and its control lines.
 #[derive(Clone, Copy)]
 struct Row<'a> {
@@ -213,17 +206,6 @@ fn each_call_of_a_run_fails_in_turn(rt: HostRuntime) -> Result<(), Fail> {
     fetches_fail(&rt, means)
 }
 
-/// A script whose only body has 4,000 lines `x 1`.
-fn long_script(alloc: Global) -> Result<String, Fail> {
-    let mut script = String::from_str(alloc, ONE_LOAD)?;
-    script.push_str("16000\n")?;
-    for _ in 0..4000 {
-        script.push_str("x 1\n")?;
-    }
-    script.push_str("\n")?;
-    Ok(script)
-}
-
 /// A put of the message fails: the status stays, and a front of the message is there.
 fn message_fails<W: Threads + Wait + Sync + Abort>(
     rt: &W,
@@ -256,41 +238,47 @@ fn command_fails<W: Threads + Wait + Sync + Abort>(
     calls_fail(rt, means, row, counts(1, puts, 0, 0, 0), all)
 }
 
-/// Commands, and how many puts each makes of the long script, or of an empty configuration.
-const COMMANDS: [(&[&str], bool, u64); 3] = [
-    (&["replay", "s"], true, 3),
-    (&["at", "0", "x", "s"], true, 1),
-    (&["check", "s"], false, 1),
-];
+/// A script with one scrape.
+const SCRIPT: &str = r#"scrape-journal 1
+load 0 76
+{"scrape_configs":[{"job_name":"j","static_configs":[{"targets":["a:1"]}]}]}
+sweep 0
+body 15 0 200 8
+x 1
+y 2
+
+"#;
+
+/// Commands, each of which makes one put; and one that names no file.
+const REPLAY: Row<'static> = Row {
+    words: &["replay", "s"],
+    files: &[("s", SCRIPT)],
+    lines: "",
+};
+
+const AT: Row<'static> = Row {
+    words: &["at", "0", "x", "s"],
+    files: &[("s", SCRIPT)],
+    lines: "",
+};
+
+const CHECK: Row<'static> = Row {
+    words: &["check", "s"],
+    files: &[("s", "{}")],
+    lines: "",
+};
+
+const NO_FILE: Row<'static> = Row {
+    words: &["replay", "none"],
+    files: &[],
+    lines: "",
+};
 
 #[test]
 fn each_call_of_a_command_fails_in_turn(rt: HostRuntime) -> Result<(), Fail> {
     let means = means_of(&rt)?;
-    let script = long_script(means.alloc)?;
-    let (lines, none) = ("", ["replay", "none"].as_slice());
-    for (words, is_long, puts) in COMMANDS {
-        let text = if is_long { script.as_str() } else { "{}" };
-        let files = [("s", text)];
-        let files = files.as_slice();
-        command_fails(
-            &rt,
-            means,
-            Row {
-                words,
-                files,
-                lines,
-            },
-            puts,
-        )?;
-    }
-    let (words, files) = (none, [].as_slice());
-    message_fails(
-        &rt,
-        means,
-        Row {
-            words,
-            files,
-            lines,
-        },
-    )
+    command_fails(&rt, means, REPLAY, 1)?;
+    command_fails(&rt, means, AT, 1)?;
+    command_fails(&rt, means, CHECK, 1)?;
+    message_fails(&rt, means, NO_FILE)
 }
