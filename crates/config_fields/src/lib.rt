@@ -3,7 +3,7 @@
 //! `place` says where a fault stands, and `fault` which of several is told.
 //! Contracts see JSON as its data, and a fault as itself with its place as a list of bytes. A walk is defined in `specs/` as the list of
 //! all faults in its order; its code keeps the first of the least number.
-//! Tests: `tests_reading::places`; cases: `scrape_cases::{fields, checked}`.
+//! Cases: `scrape_cases::{fields, checked}`.
 #![tactic(auto)]
 
 pub mod fault;

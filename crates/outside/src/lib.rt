@@ -5,7 +5,7 @@
 //! that tell all that they hold, and thin adapters over the real things, which tell nothing.
 //! Contracts see a reply as its variant, with the body as the list of its bytes; of an object they see what it holds, where it tells that,
 //! and its counts of faults, which never fall.
-//! Tests: `tests_ground::{files, inputs, links, fetches}`.
+//! Tests: `tests_ground::{inputs, links, fetches}`, those of `scrape_cli`, and `checks/ends` on the built program.
 #![tactic(auto)]
 
 pub mod adapters;

@@ -11,7 +11,7 @@ use Rattle.run_lock.specs.declared.marks.Entry.{Entry}
 use Rattle.run_lock.specs.declared.marks.Mark.TheVariants as mark
 use Rattle.run_lock.specs.declared.marks.Note.{Note}
 use Rattle.run_lock.specs.declared.marks.Note.TheVariants.{Took, Brought, Ended, Failed}
-use Rattle.run_lock.specs.declared.tasks.Order.{Order}
+use Rattle.run_lock.specs.declared.tasks.ControlOrder.{ControlOrder}
 use Rattle.run_lock.specs.Callers.{BeginsWith, IsOfCaller, jobs_by, jobs_known}
 use Rattle.run_lock.specs.Entries.{entry, entries_of, seats_in, own_by, brought_in, brought_by, begun_with, event_in, events_in}
 use Rattle.run_lock.specs.Held.{IsHeld, any_end, events_of, is_end, held, pending}
@@ -237,7 +237,7 @@ module _ (workers turns : ℕ) (start : List Event) where
   pub commanded_log : (k : Known) (e : Event) → IsRun workers turns start k → log_of (commanded k e) ≡ log_of k ++ entry 0 (Brought (now_of k.events) e) ∷ []
   commanded_log k e run = brought_log k 0 e run
 
-  pub run_ordered : (k : Known) (o : Order) → IsRun workers turns start k → IsRun workers turns start (commanded k (event_at (now_of k.events) o))
+  pub run_ordered : (k : Known) (o : ControlOrder) → IsRun workers turns start k → IsRun workers turns start (commanded k (event_at (now_of k.events) o))
   run_ordered k o run =
       let log = log_of k in
       let now = now_of k.events in
@@ -258,7 +258,7 @@ module _ (workers turns : ℕ) (start : List Event) where
         callers = callers_brought start log (log_of (commanded k e)) now e more run.callers;
       }
     where
-      unended : (now : ℕ) (o : Order) → is_end (Brought now (event_at now o)) ≡ false
+      unended : (now : ℕ) (o : ControlOrder) → is_end (Brought now (event_at now o)) ≡ false
       unended now o = refl
 
   -- at the end of all work

@@ -3,8 +3,8 @@ use Rattle.std.proofs.Common.{◌≡◌, ℕ, List, [], ◌∷◌, ◌++◌, len
 use Rattle.std.specs.Prelude.{Option, Some, None, OnSome}
 use Rattle.run_lock.specs.declared.marks.Entry.{Entry}
 use Rattle.run_lock.specs.declared.marks.Note.{Note}
-use Rattle.run_lock.specs.declared.tasks.Task.{Task}
-use Rattle.run_lock.specs.declared.tasks.Task.TheVariants.{Fetch, Wait, End, Fail}
+use Rattle.run_lock.specs.declared.tasks.WorkerTask.{WorkerTask}
+use Rattle.run_lock.specs.declared.tasks.WorkerTask.TheVariants.{Fetch, Wait, End, Fail}
 use Rattle.run_lock.specs.Entries.{entry, own_by, Adds}
 use Rattle.run_lock.specs.Tasks.{AfterTask}
 
@@ -31,7 +31,7 @@ adds_own log later own own' s x adds is = is ∙ ap (λ (xs : List Entry). own +
 pub same_own : (log later own own' : List Entry) → later ≡ log → own' ≡ own ++ drop (length log) later → own' ≡ own
 same_own log later own own' same is = is ∙ (ap (λ (xs : List Entry). own ++ xs) (ap (λ (xs : List Entry). drop (length log) xs) same ∙ drop_whole log) ∙ append-nil own)
 
-pub task_own : (place : ℕ) (t : Task) (log later own own' : List Entry) → AfterTask place t log later → own' ≡ own ++ drop (length log) later → AfterTask place t own own'
+pub task_own : (place : ℕ) (t : WorkerTask) (log later own own' : List Entry) → AfterTask place t log later → own' ≡ own ++ drop (length log) later → AfterTask place t own own'
 task_own place (Fetch k r) log later own own' h is = adds_own log later own own' _ _ h is
 task_own place Wait log later own own' h is = same_own log later own own' h is
 task_own place End log later own own' h is = adds_own log later own own' _ _ h is

@@ -13,11 +13,11 @@ use Rattle.scrape_machine.specs.declared.answers.Answer.TheVariants.{Loaded, Upd
 use Rattle.run_lock.specs.declared.marks.Entry.{Entry}
 use Rattle.run_lock.specs.Entries.{brought_in}
 use Rattle.run_lock.specs.Held.{events_of}
-use Rattle.run_lock.specs.declared.tasks.Order.{Order}
-use Rattle.run_lock.specs.declared.tasks.Order.TheVariants as order
+use Rattle.run_lock.specs.declared.tasks.ControlOrder.{ControlOrder}
+use Rattle.run_lock.specs.declared.tasks.ControlOrder.TheVariants as order
 
 -- the order that an event is, and the orders among events
-abbrev pub order_in : Event → List Order
+abbrev pub order_in : Event → List ControlOrder
 order_in (Load m text) = order.Load text ∷ []
 order_in (Targets m job file text) = order.Update job file text ∷ []
 order_in (Tick m k) = []
@@ -25,21 +25,21 @@ order_in (Sweep m) = []
 order_in (Finish k took r) = []
 order_in (Halt m) = []
 
-abbrev pub orders_in : List Event → List Order
+abbrev pub orders_in : List Event → List ControlOrder
 orders_in [] = []
 orders_in (e ∷ es) = order_in e ++ orders_in es
 
 -- the configuration in force after an order: another one where it is taken
-abbrev pub jobs_by : List InForce → Order → List InForce
+abbrev pub jobs_by : List InForce → ControlOrder → List InForce
 jobs_by jobs (order.Load text) = or_else (after_load (loaded jobs text)) jobs
 jobs_by jobs (order.Update job file text) = or_else (after_update jobs job file (updated jobs job file text)) jobs
 
-abbrev pub jobs_after : List InForce → List Order → List InForce
+abbrev pub jobs_after : List InForce → List ControlOrder → List InForce
 jobs_after jobs [] = jobs
 jobs_after jobs (o ∷ os) = jobs_after (jobs_by jobs o) os
 
 -- what the caller's entries tell: its orders, and the configuration in force by them
-abbrev pub ordered : List Entry → List Order
+abbrev pub ordered : List Entry → List ControlOrder
 ordered xs = orders_in (brought_in xs)
 
 abbrev pub jobs_known : List Event → List Entry → List InForce
@@ -61,7 +61,7 @@ UpdateAnswered (Err UnknownFile) a = a ≡ NoFile
 UpdateAnswered (Err (Faulty fault)) a = a ≡ Refused fault
 UpdateAnswered (Ok groups) a = (closed : ℕ) × (begun : ℕ) × (a ≡ Updated closed begun)
 
-abbrev pub IsAnswered : List InForce → Order → Answer → Type 0
+abbrev pub IsAnswered : List InForce → ControlOrder → Answer → Type 0
 IsAnswered jobs (order.Load text) a = LoadAnswered (loaded jobs text) a
 IsAnswered jobs (order.Update job file text) a = UpdateAnswered (updated jobs job file text) a
 

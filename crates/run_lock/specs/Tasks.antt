@@ -9,21 +9,21 @@ use Rattle.scrape_core.specs.Readers.{MayFetch, request}
 use Rattle.run_lock.specs.declared.marks.Entry.{Entry}
 use Rattle.run_lock.specs.declared.marks.Note.{Note}
 use Rattle.run_lock.specs.declared.marks.Note.TheVariants.{Took, Brought, Ended}
-use Rattle.run_lock.specs.declared.tasks.Order.{Order}
-use Rattle.run_lock.specs.declared.tasks.Order.TheVariants as order
-use Rattle.run_lock.specs.declared.tasks.Task.{Task}
-use Rattle.run_lock.specs.declared.tasks.Task.TheVariants.{Fetch, Wait, End, Fail}
+use Rattle.run_lock.specs.declared.tasks.ControlOrder.{ControlOrder}
+use Rattle.run_lock.specs.declared.tasks.ControlOrder.TheVariants as order
+use Rattle.run_lock.specs.declared.tasks.WorkerTask.{WorkerTask}
+use Rattle.run_lock.specs.declared.tasks.WorkerTask.TheVariants.{Fetch, Wait, End, Fail}
 use Rattle.run_lock.specs.Entries.{Adds}
 
 -- the entries after a worker was told what to do
-abbrev pub AfterTask : ℕ → Task → List Entry → List Entry → Type 0
+abbrev pub AfterTask : ℕ → WorkerTask → List Entry → List Entry → Type 0
 AfterTask place (Fetch k r) log later = Adds log (2 + place) (Took k) later
 AfterTask place Wait log later = later ≡ log
 AfterTask place End log later = Adds log (2 + place) Ended later
 AfterTask place Fail log later = Unit {0}
 
 -- the request of a task is that of its ticket by this journal, and may be fetched
-abbrev pub IsAsked : List Event → Task → Type 0
+abbrev pub IsAsked : List Event → WorkerTask → Type 0
 IsAsked es (Fetch k r) = (request es k ≡ Some r) × MayFetch r
 IsAsked es Wait = Unit {0}
 IsAsked es End = Unit {0}
@@ -42,20 +42,20 @@ abbrev pub sweep_brought : ℤ → ℕ → Note
 sweep_brought reading now = Brought now (Sweep (sweep_moment reading now))
 
 -- what the caller orders keeps the lengths of a journal
-abbrev pub IsFit : Order → Type 0
+abbrev pub IsFit : ControlOrder → Type 0
 IsFit (order.Load text) = IsTextLength (length text)
 IsFit (order.Update job file text) = IsNameLength (length job) × IsNameLength (length file) × IsTextLength (length text)
 
 -- its event, where the last moment is this one
-abbrev pub event_at : ℕ → Order → Event
+abbrev pub event_at : ℕ → ControlOrder → Event
 event_at now (order.Load text) = Load (pos now) text
 event_at now (order.Update job file text) = Targets (pos now) job file text
 
-abbrev pub order_brought : Order → ℕ → Note
+abbrev pub order_brought : ControlOrder → ℕ → Note
 order_brought o now = Brought now (event_at now o)
 
 -- the caller's entries after one more order, behind the last moment
-abbrev pub IsOrdered : Order → List Entry → List Entry → Type 0
+abbrev pub IsOrdered : ControlOrder → List Entry → List Entry → Type 0
 IsOrdered o log later = (now : ℕ) × Adds log 0 (order_brought o now) later
 
 -- an event of the caller: a load or an update

@@ -18,4 +18,4 @@ pub use listed::Listed;
 pub use marks::Mark;
 pub use seat::{RunLock, RunPass, Seat};
 pub use state::RunState;
-pub use tasks::Task;
+pub use tasks::WorkerTask;

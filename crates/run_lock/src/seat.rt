@@ -16,7 +16,7 @@ use crate::asked::Asked;
 use crate::listed::Listed;
 use crate::readings::read_copy;
 use crate::state::RunState;
-use crate::tasks::{Order, Task};
+use crate::tasks::{ControlOrder, WorkerTask};
 use label_set::NoMemory;
 use life_roll::Moment;
 use outside::Fetched;
@@ -55,7 +55,7 @@ impl<'r, L: Ledger, B: Asked, R: Wait> Seat<'r, L, B, R> {
     }
 
     /// What a worker that has no ticket out is to do: a task, or to wait.
-    fn take_task(&mut self, place: usize) -> Task
+    fn take_task(&mut self, place: usize) -> WorkerTask
         requires few { place < B.workers }
         requires seat { IsOwn self.old.lock.now (2 + place) self.old.pass }
         requires free { pending (own_of self.old.pass) ≡ None }
@@ -76,7 +76,7 @@ impl<'r, L: Ledger, B: Asked, R: Wait> Seat<'r, L, B, R> {
     }
 
     /// Rests until there is something to do for a worker that has no ticket out, and takes it.
-    pub fn next_task(&mut self, place: usize) -> Task
+    pub fn next_task(&mut self, place: usize) -> WorkerTask
         requires few { place < B.workers }
         requires seat { IsOwn self.old.lock.now (2 + place) self.old.pass }
         requires free { pending (own_of self.old.pass) ≡ None }
@@ -89,7 +89,7 @@ impl<'r, L: Ledger, B: Asked, R: Wait> Seat<'r, L, B, R> {
         for _ in self.rt.forever() {
             let task = self.take_task(place);
             match task {
-                Task::Wait => self.lock.rest(self.rt, &self.pass),
+                WorkerTask::Wait => self.lock.rest(self.rt, &self.pass),
                 _ => return task,
             }
         }
@@ -149,7 +149,7 @@ impl<'r, L: Ledger, B: Asked, R: Wait> Seat<'r, L, B, R> {
     }
 
     /// Carries out an order of the caller. None where memory runs out.
-    pub fn carry_out(&mut self, order: Order) -> Option<Answer>
+    pub fn carry_out(&mut self, order: ControlOrder) -> Option<Answer>
         requires order { IsFit order }
         requires seat { IsOwn self.old.lock.now 0 self.old.pass }
         ensures lock { self.new.lock ≡ self.old.lock }

@@ -16,7 +16,7 @@ use crate::asked::Asked;
 use crate::listed::{Listed, listed_in};
 use crate::marks::{Entry, Mark};
 use crate::readings::take_finish;
-use crate::tasks::{Order, Task, event_of, finish_event, request_for, sweep_at};
+use crate::tasks::{ControlOrder, WorkerTask, event_of, finish_event, request_for, sweep_at};
 use label_set::{NoMemory, Steps};
 use life_roll::Moment;
 use outside::Fetched;
@@ -99,7 +99,7 @@ impl<L: Ledger, B: Asked> RunState<L, B> {
     }
 
     /// Takes the least ready ticket, for a worker that has none out.
-    fn take_ready(&mut self, alloc: Global, place: usize) -> Task
+    fn take_ready(&mut self, alloc: Global, place: usize) -> WorkerTask
         requires ready { self.old.next < self.old.started }
         requires live { self.old.failed ≡ false }
         requires few { place < B.workers }
@@ -113,21 +113,21 @@ impl<L: Ledger, B: Asked> RunState<L, B> {
         let ticket = self.next;
         let Some(request) = request_for(alloc, &self.core, ticket) else {
             self.fail(seat);
-            return Task::Fail;
+            return WorkerTask::Fail;
         };
         if self.marks.reserve(2).is_err() {
             self.fail(seat);
-            return Task::Fail;
+            return WorkerTask::Fail;
         }
         self.marks.push_reserved(Mark::Took { seat, ticket });
         self.slots[place] = Some(ticket);
         self.out += 1;
         self.next += 1;
-        Task::Fetch { ticket, request }
+        WorkerTask::Fetch { ticket, request }
     }
 
     /// Marks that a worker saw the end of all work.
-    fn end(&mut self, place: usize) -> Task
+    fn end(&mut self, place: usize) -> WorkerTask
         requires over { (self.old.next ≡ self.old.started) × (self.old.out ≡ 0) × (self.old.sweeps_left ≡ 0) }
         requires live { self.old.failed ≡ false }
         requires few { place < B.workers }
@@ -140,15 +140,15 @@ impl<L: Ledger, B: Asked> RunState<L, B> {
         let seat = 2 + place as u32;
         if self.marks.reserve(2).is_err() {
             self.fail(seat);
-            return Task::Fail;
+            return WorkerTask::Fail;
         }
         self.marks.push_reserved(Mark::Ended { seat });
         self.ended = true;
-        Task::End
+        WorkerTask::End
     }
 
     /// Says what a worker that has no ticket out is to do. At the end of all work its entries show it.
-    pub fn take(&mut self, alloc: Global, place: usize) -> Task
+    pub fn take(&mut self, alloc: Global, place: usize) -> WorkerTask
         requires few { place < B.workers }
         requires free { pending (own_by (2 + place) (entries_of self.old.core self.old.marks.items)) ≡ None }
         ensures core { self.new.core ≡ self.old.core }
@@ -157,13 +157,13 @@ impl<L: Ledger, B: Asked> RunState<L, B> {
         ensures asked { IsAsked self.old.core result }
     {
         if self.failed {
-            return Task::Fail;
+            return WorkerTask::Fail;
         }
         if self.next < self.started {
             return self.take_ready(alloc, place);
         }
         if self.sweeps_left > 0 || self.out > 0 {
-            return Task::Wait;
+            return WorkerTask::Wait;
         }
         self.end(place)
     }
@@ -224,7 +224,7 @@ impl<L: Ledger, B: Asked> RunState<L, B> {
     }
 
     /// Carries out an order of the caller at the last moment. None where memory runs out.
-    pub fn carry_out(&mut self, alloc: Global, order: Order) -> Option<Answer>
+    pub fn carry_out(&mut self, alloc: Global, order: ControlOrder) -> Option<Answer>
         requires order { IsFit order }
         ensures goes { GoesOn 0 (entries_of self.old.core self.old.marks.items) (entries_of self.new.core self.new.marks.items) }
         ensures brought { OnSome result (Adds (entries_of self.old.core self.old.marks.items) 0

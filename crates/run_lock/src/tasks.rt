@@ -19,7 +19,7 @@ use std::alloc::Global;
 
 /// What a worker is to do.
 #[derive(Drop)]
-pub enum Task {
+pub enum WorkerTask {
     /// To fetch the request of the scrape with a ticket.
     Fetch { ticket: u64, request: Request },
     /// Nothing is ready yet.
@@ -32,7 +32,7 @@ pub enum Task {
 
 /// What the caller orders.
 #[derive(Drop)]
-pub enum Order {
+pub enum ControlOrder {
     /// To load a configuration.
     Load { text: Blob },
     /// To update the targets of a file of a job.
@@ -70,7 +70,7 @@ pub fn finish_event(ticket: u64, fetched: Fetched) -> Event
 }
 
 /// The event of an order, at the last moment.
-pub fn event_of(order: Order, last: Moment) -> Event
+pub fn event_of(order: ControlOrder, last: Moment) -> Event
     requires fit { IsFit order }
     ensures event { result ≡ event_at (number last) order }
     ensures limits { journal.IsInLimits result }
@@ -79,8 +79,8 @@ pub fn event_of(order: Order, last: Moment) -> Event
 {
     let moment = last.ms();
     match order {
-        Order::Load { text } => Event::Load { moment, text },
-        Order::Update { job, file, text } => Event::Targets {
+        ControlOrder::Load { text } => Event::Load { moment, text },
+        ControlOrder::Update { job, file, text } => Event::Targets {
             moment,
             job,
             file,

@@ -769,4 +769,256 @@ x{
 0 0 report scrape_samples_post_metric_relabeling{instance="a:1",job="j"} 0
 0 0 report scrape_series_added{instance="a:1",job="j"} 0
 -- status 0
+
+== twenty_labels_and_one_of_them_twice
+$ at 59999 {job="j"} s
+-- file s
+scrape-journal 1
+load 0 82
+{"scrape_configs":[{"job_name":"j","static_configs":[{"targets":["a:1","b:1"]}]}]}
+sweep 0
+body 15 0 200 156
+x{l0="v",l1="v",l2="v",l3="v",l4="v",l5="v",l6="v",l7="v",l8="v",l9="v",l10="v",l11="v",l12="v",l13="v",l14="v",l15="v",l16="v",l17="v",l18="v",l19="v",} 1
+
+body 15 1 200 161
+x{l0="v",l1="v",l2="v",l3="v",l4="v",l5="v",l6="v",l7="v",l8="v",l9="v",l10="v",l11="v",l12="v",l13="v",l14="v",l15="v",l16="v",l17="v",l18="v",l19="v",l3=""} 1
+
+-- out
+0 scrape_duration_seconds{instance="a:1",job="j"} 0.015
+0 scrape_duration_seconds{instance="b:1",job="j"} 0.015
+0 scrape_samples_post_metric_relabeling{instance="a:1",job="j"} 1
+0 scrape_samples_post_metric_relabeling{instance="b:1",job="j"} 0
+0 scrape_samples_scraped{instance="a:1",job="j"} 1
+0 scrape_samples_scraped{instance="b:1",job="j"} 0
+0 scrape_series_added{instance="a:1",job="j"} 1
+0 scrape_series_added{instance="b:1",job="j"} 0
+0 up{instance="a:1",job="j"} 1
+0 up{instance="b:1",job="j"} 0
+0 x{instance="a:1",job="j",l0="v",l1="v",l10="v",l11="v",l12="v",l13="v",l14="v",l15="v",l16="v",l17="v",l18="v",l19="v",l2="v",l3="v",l4="v",l5="v",l6="v",l7="v",l8="v",l9="v"} 1
+-- status 0
+
+== values_of_each_form
+$ replay s
+-- file s
+scrape-journal 1
+load 0 76
+{"scrape_configs":[{"job_name":"j","static_configs":[{"targets":["a:1"]}]}]}
+sweep 0
+body 15 0 200 211
+v0 0
+v1 1
+v2 +Inf
+v3 -infinity
+v4 NaN
+v5 .5e+3
+v6 1.458255915e9
+v7 7.
+v8 -1E-9
+v9 77777777777777777777777777777777777777777777777777777777777777777777777777777777777777777777777777777777777777777777777777777777
+
+-- out
+0 0 sample v0{instance="a:1",job="j"} 0
+0 0 sample v1{instance="a:1",job="j"} 1
+0 0 sample v2{instance="a:1",job="j"} +Inf
+0 0 sample v3{instance="a:1",job="j"} -infinity
+0 0 sample v4{instance="a:1",job="j"} NaN
+0 0 sample v5{instance="a:1",job="j"} .5e+3
+0 0 sample v6{instance="a:1",job="j"} 1.458255915e9
+0 0 sample v7{instance="a:1",job="j"} 7.
+0 0 sample v8{instance="a:1",job="j"} -1E-9
+0 0 sample v9{instance="a:1",job="j"} 77777777777777777777777777777777777777777777777777777777777777777777777777777777777777777777777777777777777777777777777777777777
+0 0 report up{instance="a:1",job="j"} 1
+0 0 report scrape_duration_seconds{instance="a:1",job="j"} 0.015
+0 0 report scrape_samples_scraped{instance="a:1",job="j"} 10
+0 0 report scrape_samples_post_metric_relabeling{instance="a:1",job="j"} 10
+0 0 report scrape_series_added{instance="a:1",job="j"} 10
+-- status 0
+
+== faulty_values
+$ at 0 up s
+-- file s
+scrape-journal 1
+load 0 130
+{"scrape_configs":[{"job_name":"j","static_configs":[{"targets":["a:1","b:1","c:1","d:1","e:1","f:1","g:1","h:1","i:1","j:1"]}]}]}
+sweep 0
+body 15 0 200 3
+x 
+
+body 15 1 200 7
+x -nan
+
+body 15 2 200 4
+x x
+
+body 15 3 200 5
+x 1e
+
+body 15 4 200 4
+x .
+
+body 15 5 200 6
+x 1_0
+
+body 15 6 200 6
+x --1
+
+body 15 7 200 10
+x infinit
+
+body 15 8 200 132
+x 777777777777777777777777777777777777777777777777777777777777777777777777777777777777777777777777777777777777777777777777777777777
+
+body 15 9 200 4
+x 1
+
+-- out
+0 up{instance="a:1",job="j"} 0
+0 up{instance="b:1",job="j"} 0
+0 up{instance="c:1",job="j"} 0
+0 up{instance="d:1",job="j"} 0
+0 up{instance="e:1",job="j"} 0
+0 up{instance="f:1",job="j"} 0
+0 up{instance="g:1",job="j"} 0
+0 up{instance="h:1",job="j"} 0
+0 up{instance="i:1",job="j"} 0
+0 up{instance="j:1",job="j"} 1
+-- status 0
+
+== timestamps_of_each_form
+$ replay s
+-- file s
+scrape-journal 1
+load 0 76
+{"scrape_configs":[{"job_name":"j","static_configs":[{"targets":["a:1"]}]}]}
+sweep 0
+body 15 0 200 134
+t0 1 0
+t1 1 +5
+t2 1 -3982045
+t3 1 1395066363000
+t4 1 9223372036854775807
+t5 1 -9223372036854775808
+t6 1 00000000000000000000000000007
+
+-- out
+0 0 sample t0{instance="a:1",job="j"} 1
+5 0 sample t1{instance="a:1",job="j"} 1
+-3982045 0 sample t2{instance="a:1",job="j"} 1
+1395066363000 0 sample t3{instance="a:1",job="j"} 1
+9223372036854775807 0 sample t4{instance="a:1",job="j"} 1
+-9223372036854775808 0 sample t5{instance="a:1",job="j"} 1
+7 0 sample t6{instance="a:1",job="j"} 1
+0 0 report up{instance="a:1",job="j"} 1
+0 0 report scrape_duration_seconds{instance="a:1",job="j"} 0.015
+0 0 report scrape_samples_scraped{instance="a:1",job="j"} 7
+0 0 report scrape_samples_post_metric_relabeling{instance="a:1",job="j"} 7
+0 0 report scrape_series_added{instance="a:1",job="j"} 7
+-- status 0
+
+== faulty_timestamps
+$ at 0 up s
+-- file s
+scrape-journal 1
+load 0 118
+{"scrape_configs":[{"job_name":"j","static_configs":[{"targets":["a:1","b:1","c:1","d:1","e:1","f:1","g:1","h:1"]}]}]}
+sweep 0
+body 15 0 200 6
+x 1 +
+
+body 15 1 200 6
+x 1 -
+
+body 15 2 200 8
+x 1 1.0
+
+body 15 3 200 8
+x 1 1e3
+
+body 15 4 200 24
+x 1 9223372036854775808
+
+body 15 5 200 25
+x 1 -9223372036854775809
+
+body 15 6 200 25
+x 1 18446744073709551616
+
+body 15 7 200 4
+x 1
+
+-- out
+0 up{instance="a:1",job="j"} 0
+0 up{instance="b:1",job="j"} 0
+0 up{instance="c:1",job="j"} 0
+0 up{instance="d:1",job="j"} 0
+0 up{instance="e:1",job="j"} 0
+0 up{instance="f:1",job="j"} 0
+0 up{instance="g:1",job="j"} 0
+0 up{instance="h:1",job="j"} 1
+-- status 0
+
+== names_of_each_form
+$ replay s
+-- file s
+scrape-journal 1
+load 0 76
+{"scrape_configs":[{"job_name":"j","static_configs":[{"targets":["a:1"]}]}]}
+sweep 0
+body 15 0 200 42
+_A9z 1
+: 2
+a:b{job_="x",_A9z="y",Z="z"} 3
+
+-- out
+0 0 sample _A9z{instance="a:1",job="j"} 1
+0 0 sample :{instance="a:1",job="j"} 2
+0 0 sample a:b{Z="z",_A9z="y",instance="a:1",job="j",job_="x"} 3
+0 0 report up{instance="a:1",job="j"} 1
+0 0 report scrape_duration_seconds{instance="a:1",job="j"} 0.015
+0 0 report scrape_samples_scraped{instance="a:1",job="j"} 3
+0 0 report scrape_samples_post_metric_relabeling{instance="a:1",job="j"} 3
+0 0 report scrape_series_added{instance="a:1",job="j"} 3
+-- status 0
+
+== faulty_names
+$ at 0 up s
+-- file s
+scrape-journal 1
+load 0 118
+{"scrape_configs":[{"job_name":"j","static_configs":[{"targets":["a:1","b:1","c:1","d:1","e:1","f:1","g:1","h:1"]}]}]}
+sweep 0
+body 15 0 200 5
+9a 1
+
+body 15 1 200 6
+a-b 1
+
+body 15 2 200 5
+é 1
+
+body 15 3 200 12
+x{9a="1"} 1
+
+body 15 4 200 13
+x{a-b="1"} 1
+
+body 15 5 200 12
+x{é="1"} 1
+
+body 15 6 200 11
+x{:="1"} 1
+
+body 15 7 200 4
+x 1
+
+-- out
+0 up{instance="a:1",job="j"} 0
+0 up{instance="b:1",job="j"} 0
+0 up{instance="c:1",job="j"} 0
+0 up{instance="d:1",job="j"} 0
+0 up{instance="e:1",job="j"} 0
+0 up{instance="f:1",job="j"} 0
+0 up{instance="g:1",job="j"} 0
+0 up{instance="h:1",job="j"} 1
+-- status 0
 "#;

@@ -304,4 +304,22 @@ x 1
 0 0 report scrape_samples_post_metric_relabeling{instance="a:1",job="j"} 1
 0 0 report scrape_series_added{instance="a:1",job="j"} 1
 -- status 0
+
+== forty_labels_in_conflict
+$ at 0 x s
+-- file s
+scrape-journal 1
+load 0 954
+{"scrape_configs":[{"job_name":"j","static_configs":[{"targets":["a:1"],"labels":{"a0":"v","a1":"v","a2":"v","a3":"v","a4":"v","a5":"v","a6":"v","a7":"v","a8":"v","a9":"v","a10":"v","a11":"v","a12":"v","a13":"v","a14":"v","a15":"v","a16":"v","a17":"v","a18":"v","a19":"v","a20":"v","a21":"v","a22":"v","a23":"v","a24":"v","a25":"v","a26":"v","a27":"v","a28":"v","a29":"v","a30":"v","a31":"v","a32":"v","a33":"v","a34":"v","a35":"v","a36":"v","a37":"v","a38":"v","a39":"v"}}]},{"job_name":"k","honor_labels":true,"static_configs":[{"targets":["a:1"],"labels":{"a0":"v","a1":"v","a2":"v","a3":"v","a4":"v","a5":"v","a6":"v","a7":"v","a8":"v","a9":"v","a10":"v","a11":"v","a12":"v","a13":"v","a14":"v","a15":"v","a16":"v","a17":"v","a18":"v","a19":"v","a20":"v","a21":"v","a22":"v","a23":"v","a24":"v","a25":"v","a26":"v","a27":"v","a28":"v","a29":"v","a30":"v","a31":"v","a32":"v","a33":"v","a34":"v","a35":"v","a36":"v","a37":"v","a38":"v","a39":"v"}}]}]}
+sweep 0
+body 15 0 200 315
+x{a0="v",a1="v",a2="v",a3="v",a4="v",a5="v",a6="v",a7="v",a8="v",a9="v",a10="v",a11="v",a12="v",a13="v",a14="v",a15="v",a16="v",a17="v",a18="v",a19="v",a20="v",a21="v",a22="v",a23="v",a24="v",a25="v",a26="v",a27="v",a28="v",a29="v",a30="v",a31="v",a32="v",a33="v",a34="v",a35="v",a36="v",a37="v",a38="v",a39="v"} 1
+
+body 15 1 200 315
+x{a0="v",a1="v",a2="v",a3="v",a4="v",a5="v",a6="v",a7="v",a8="v",a9="v",a10="v",a11="v",a12="v",a13="v",a14="v",a15="v",a16="v",a17="v",a18="v",a19="v",a20="v",a21="v",a22="v",a23="v",a24="v",a25="v",a26="v",a27="v",a28="v",a29="v",a30="v",a31="v",a32="v",a33="v",a34="v",a35="v",a36="v",a37="v",a38="v",a39="v"} 1
+
+-- out
+0 x{a0="v",a1="v",a10="v",a11="v",a12="v",a13="v",a14="v",a15="v",a16="v",a17="v",a18="v",a19="v",a2="v",a20="v",a21="v",a22="v",a23="v",a24="v",a25="v",a26="v",a27="v",a28="v",a29="v",a3="v",a30="v",a31="v",a32="v",a33="v",a34="v",a35="v",a36="v",a37="v",a38="v",a39="v",a4="v",a5="v",a6="v",a7="v",a8="v",a9="v",exported_a0="v",exported_a1="v",exported_a10="v",exported_a11="v",exported_a12="v",exported_a13="v",exported_a14="v",exported_a15="v",exported_a16="v",exported_a17="v",exported_a18="v",exported_a19="v",exported_a2="v",exported_a20="v",exported_a21="v",exported_a22="v",exported_a23="v",exported_a24="v",exported_a25="v",exported_a26="v",exported_a27="v",exported_a28="v",exported_a29="v",exported_a3="v",exported_a30="v",exported_a31="v",exported_a32="v",exported_a33="v",exported_a34="v",exported_a35="v",exported_a36="v",exported_a37="v",exported_a38="v",exported_a39="v",exported_a4="v",exported_a5="v",exported_a6="v",exported_a7="v",exported_a8="v",exported_a9="v",instance="a:1",job="j"} 1
+0 x{a0="v",a1="v",a10="v",a11="v",a12="v",a13="v",a14="v",a15="v",a16="v",a17="v",a18="v",a19="v",a2="v",a20="v",a21="v",a22="v",a23="v",a24="v",a25="v",a26="v",a27="v",a28="v",a29="v",a3="v",a30="v",a31="v",a32="v",a33="v",a34="v",a35="v",a36="v",a37="v",a38="v",a39="v",a4="v",a5="v",a6="v",a7="v",a8="v",a9="v",instance="a:1",job="k"} 1
+-- status 0
 "#;

@@ -648,4 +648,280 @@ $ check s
 -- err
 scrape: config Unknown /global/extra_scrape_metrics
 -- status 4
+
+== value_relabel_configs_action_2
+$ check s
+-- file s
+{"scrape_configs":[{"job_name":"j","relabel_configs":[{"action":"label_drop"}]}]}
+\
+-- err
+scrape: config Value /scrape_configs/0/relabel_configs/0/action
+-- status 4
+
+== value_relabel_configs_action_3
+$ check s
+-- file s
+{"scrape_configs":[{"job_name":"j","relabel_configs":[{"action":""}]}]}
+\
+-- err
+scrape: config Value /scrape_configs/0/relabel_configs/0/action
+-- status 4
+
+== shape_relabel_configs_action
+$ check s
+-- file s
+{"scrape_configs":[{"job_name":"j","relabel_configs":[{"action":1}]}]}
+\
+-- err
+scrape: config Shape /scrape_configs/0/relabel_configs/0/action
+-- status 4
+
+== value_relabel_configs_target_label_3
+$ check s
+-- file s
+{"scrape_configs":[{"job_name":"j","relabel_configs":[{"action":"HashMod","modulus":2,"target_label":"1"}]}]}
+\
+-- err
+scrape: config Value /scrape_configs/0/relabel_configs/0/target_label
+-- status 4
+
+== shape_of_the_eighteenth_target
+$ check s
+-- file s
+{"scrape_configs":[{"job_name":"j","static_configs":[{"targets":["","","","","","","","","","","","","","","","","",17]}]}]}
+\
+-- err
+scrape: config Shape /scrape_configs/0/static_configs/0/targets/17
+-- status 4
+
+== durations_of_each_form
+$ check s
+-- file s
+{"scrape_configs":[
+{"job_name":"0","scrape_interval":"1y","scrape_timeout":"31536000000ms"},
+{"job_name":"1","scrape_interval":"31536000000ms","scrape_timeout":"1y"},
+{"job_name":"2","scrape_interval":"1w","scrape_timeout":"604800000ms"},
+{"job_name":"3","scrape_interval":"604800000ms","scrape_timeout":"1w"},
+{"job_name":"4","scrape_interval":"1d","scrape_timeout":"86400000ms"},
+{"job_name":"5","scrape_interval":"86400000ms","scrape_timeout":"1d"},
+{"job_name":"6","scrape_interval":"1h30m","scrape_timeout":"5400000ms"},
+{"job_name":"7","scrape_interval":"5400000ms","scrape_timeout":"1h30m"},
+{"job_name":"8","scrape_interval":"1m1ms","scrape_timeout":"60001ms"},
+{"job_name":"9","scrape_interval":"60001ms","scrape_timeout":"1m1ms"},
+{"job_name":"10","scrape_interval":"00005s","scrape_timeout":"5000ms"},
+{"job_name":"11","scrape_interval":"5000ms","scrape_timeout":"00005s"},
+{"job_name":"12","scrape_interval":"5ms","scrape_timeout":"5ms"},
+{"job_name":"13","scrape_interval":"5ms","scrape_timeout":"5ms"},
+{"job_name":"14","scrape_interval":"1y2w3d4h5m6s7ms","scrape_timeout":"33019506007ms"},
+{"job_name":"15","scrape_interval":"33019506007ms","scrape_timeout":"1y2w3d4h5m6s7ms"},
+{"job_name":"16","scrape_interval":"00000000000000000000000000000000000000001s","scrape_timeout":"1000ms"},
+{"job_name":"17","scrape_interval":"1000ms","scrape_timeout":"00000000000000000000000000000000000000001s"},
+{"job_name":"18","scrape_interval":"34y315d","scrape_timeout":"1099440000000ms"},
+{"job_name":"19","scrape_interval":"1099440000000ms","scrape_timeout":"34y315d"},
+{"job_name":"20","scrape_interval":"1099511627776ms","scrape_timeout":"1099511627776ms"},
+{"job_name":"21","scrape_interval":"1099511627776ms","scrape_timeout":"1099511627776ms"},
+{"job_name":"22","scrape_interval":"0","scrape_timeout":"60000ms"},
+{"job_name":"24","scrape_interval":"0s","scrape_timeout":"60000ms"}]}
+\
+-- out
+ok 24
+-- status 0
+
+== value_of_no_duration_1
+$ check s
+-- file s
+{"scrape_configs":[{"job_name":"j","scrape_interval":""}]}
+\
+-- err
+scrape: config Value /scrape_configs/0/scrape_interval
+-- status 4
+
+== value_of_no_duration_2
+$ check s
+-- file s
+{"scrape_configs":[{"job_name":"j","scrape_interval":"5"}]}
+\
+-- err
+scrape: config Value /scrape_configs/0/scrape_interval
+-- status 4
+
+== value_of_no_duration_3
+$ check s
+-- file s
+{"scrape_configs":[{"job_name":"j","scrape_interval":"00"}]}
+\
+-- err
+scrape: config Value /scrape_configs/0/scrape_interval
+-- status 4
+
+== value_of_no_duration_4
+$ check s
+-- file s
+{"scrape_configs":[{"job_name":"j","scrape_interval":"s"}]}
+\
+-- err
+scrape: config Value /scrape_configs/0/scrape_interval
+-- status 4
+
+== value_of_no_duration_5
+$ check s
+-- file s
+{"scrape_configs":[{"job_name":"j","scrape_interval":"1s1s"}]}
+\
+-- err
+scrape: config Value /scrape_configs/0/scrape_interval
+-- status 4
+
+== value_of_no_duration_6
+$ check s
+-- file s
+{"scrape_configs":[{"job_name":"j","scrape_interval":"1ms1m"}]}
+\
+-- err
+scrape: config Value /scrape_configs/0/scrape_interval
+-- status 4
+
+== value_of_no_duration_7
+$ check s
+-- file s
+{"scrape_configs":[{"job_name":"j","scrape_interval":"-1s"}]}
+\
+-- err
+scrape: config Value /scrape_configs/0/scrape_interval
+-- status 4
+
+== value_of_no_duration_8
+$ check s
+-- file s
+{"scrape_configs":[{"job_name":"j","scrape_interval":"1.5s"}]}
+\
+-- err
+scrape: config Value /scrape_configs/0/scrape_interval
+-- status 4
+
+== value_of_no_duration_9
+$ check s
+-- file s
+{"scrape_configs":[{"job_name":"j","scrape_interval":" 1s"}]}
+\
+-- err
+scrape: config Value /scrape_configs/0/scrape_interval
+-- status 4
+
+== value_of_no_duration_10
+$ check s
+-- file s
+{"scrape_configs":[{"job_name":"j","scrape_interval":"1s "}]}
+\
+-- err
+scrape: config Value /scrape_configs/0/scrape_interval
+-- status 4
+
+== value_of_no_duration_11
+$ check s
+-- file s
+{"scrape_configs":[{"job_name":"j","scrape_interval":"1S"}]}
+\
+-- err
+scrape: config Value /scrape_configs/0/scrape_interval
+-- status 4
+
+== value_of_no_duration_12
+$ check s
+-- file s
+{"scrape_configs":[{"job_name":"j","scrape_interval":"1mss"}]}
+\
+-- err
+scrape: config Value /scrape_configs/0/scrape_interval
+-- status 4
+
+== value_of_no_duration_13
+$ check s
+-- file s
+{"scrape_configs":[{"job_name":"j","scrape_interval":"1é"}]}
+\
+-- err
+scrape: config Value /scrape_configs/0/scrape_interval
+-- status 4
+
+== value_of_no_duration_14
+$ check s
+-- file s
+{"scrape_configs":[{"job_name":"j","scrape_interval":"34y320d"}]}
+\
+-- err
+scrape: config Value /scrape_configs/0/scrape_interval
+-- status 4
+
+== value_of_no_duration_15
+$ check s
+-- file s
+{"scrape_configs":[{"job_name":"j","scrape_interval":"36893488147419103232ms"}]}
+\
+-- err
+scrape: config Value /scrape_configs/0/scrape_interval
+-- status 4
+
+== value_of_no_duration_16
+$ check s
+-- file s
+{"scrape_configs":[{"job_name":"j","scrape_interval":"584942418y"}]}
+\
+-- err
+scrape: config Value /scrape_configs/0/scrape_interval
+-- status 4
+
+== value_of_no_duration_17
+$ check s
+-- file s
+{"scrape_configs":[{"job_name":"j","scrape_interval":"9999999999999999999999999999999999999999s"}]}
+\
+-- err
+scrape: config Value /scrape_configs/0/scrape_interval
+-- status 4
+
+== value_of_no_label_name_1
+$ check s
+-- file s
+{"scrape_configs":[{"job_name":"j","static_configs":[{"labels":{"":"x"}}]}]}
+\
+-- err
+scrape: config Value /scrape_configs/0/static_configs/0/labels
+-- status 4
+
+== value_of_no_label_name_2
+$ check s
+-- file s
+{"scrape_configs":[{"job_name":"j","static_configs":[{"labels":{"9a":"x"}}]}]}
+\
+-- err
+scrape: config Value /scrape_configs/0/static_configs/0/labels
+-- status 4
+
+== value_of_no_label_name_3
+$ check s
+-- file s
+{"scrape_configs":[{"job_name":"j","static_configs":[{"labels":{"a-b":"x"}}]}]}
+\
+-- err
+scrape: config Value /scrape_configs/0/static_configs/0/labels
+-- status 4
+
+== value_of_no_label_name_4
+$ check s
+-- file s
+{"scrape_configs":[{"job_name":"j","static_configs":[{"labels":{"é":"x"}}]}]}
+\
+-- err
+scrape: config Value /scrape_configs/0/static_configs/0/labels
+-- status 4
+
+== value_of_no_label_name_5
+$ check s
+-- file s
+{"scrape_configs":[{"job_name":"j","static_configs":[{"labels":{":":"x"}}]}]}
+\
+-- err
+scrape: config Value /scrape_configs/0/static_configs/0/labels
+-- status 4
 "#;

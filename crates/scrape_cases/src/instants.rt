@@ -525,4 +525,23 @@ x{p="a\"b\\c\nd"} 1
 -- out
 0 x{instance="a:1",job="j",p="a\"b\\c\nd"} 1
 -- status 0
+
+== instant_matchers_of_one_label
+$ at 0 {p!="ü",p=~"a.b.*",__name__=~"x|y",p!~"c",z="",p!="",} s
+-- file s
+scrape-journal 1
+load 0 76
+{"scrape_configs":[{"job_name":"j","static_configs":[{"targets":["a:1"]}]}]}
+sweep 0
+body 15 0 200 78
+x{p="a\nb\q"} 1
+y{p="a\nc"} 2
+y{p="ü"} 3
+y{p="aab",z="1"} 4
+y 5
+z{p="aab"} 6
+
+-- out
+0 x{instance="a:1",job="j",p="a\nb\\q"} 1
+-- status 0
 "##;

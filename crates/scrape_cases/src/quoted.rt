@@ -477,4 +477,135 @@ kept 60000 0 report scrape_samples_scraped{instance="a:1",job="j"} 1
 kept 60000 0 report scrape_samples_post_metric_relabeling{instance="a:1",job="j"} 1
 kept 60000 0 report scrape_series_added{instance="a:1",job="j"} 0
 -- status 0
+
+== quoted_names_of_other_kinds
+$ replay s
+-- file s
+scrape-journal 2
+load 0 76
+{"scrape_configs":[{"job_name":"j","static_configs":[{"targets":["a:1"]}]}]}
+sweep 0
+quoted 15 0 200 96
+{"a"}1
+x{"c.d"="y"} 2
+{"a",b="x"} 3
+{"\\\"\n\q","\\"="\n"} 4
+{"ä"} 5
+{"__name__"} 6
+{"a b",} 7
+
+-- out
+0 0 sample a{instance="a:1",job="j"} 1
+0 0 sample x{"c.d"="y",instance="a:1",job="j"} 2
+0 0 sample a{b="x",instance="a:1",job="j"} 3
+0 0 sample {"\\\"\n\\q","\\"="\n",instance="a:1",job="j"} 4
+0 0 sample {"ä",instance="a:1",job="j"} 5
+0 0 sample __name__{instance="a:1",job="j"} 6
+0 0 sample {"a b",instance="a:1",job="j"} 7
+0 0 report up{instance="a:1",job="j"} 1
+0 0 report scrape_duration_seconds{instance="a:1",job="j"} 0.015
+0 0 report scrape_samples_scraped{instance="a:1",job="j"} 7
+0 0 report scrape_samples_post_metric_relabeling{instance="a:1",job="j"} 7
+0 0 report scrape_series_added{instance="a:1",job="j"} 7
+-- status 0
+
+== faulty_lines_of_quoted_bodies
+$ at 0 up s
+-- file s
+scrape-journal 2
+load 0 138
+{"scrape_configs":[{"job_name":"j","static_configs":[{"targets":["a","b","c","d","e","f","g","h","i","j","k","l","m","n","o","p","q"]}]}]}
+sweep 0
+quoted 15 0 200 5
+{} 1
+
+quoted 15 1 200 10
+{c="x"} 1
+
+quoted 15 2 200 9
+x{"a"} 1
+
+quoted 15 3 200 7
+{""} 1
+
+quoted 15 4 200 19
+x{a="1","a"="2"} 1
+
+quoted 15 5 200 23
+{"a","__name__"="x"} 1
+
+quoted 15 6 200 20
+x{"__name__"="x"} 1
+
+quoted 15 7 200 12
+x{""="x"} 1
+
+quoted 15 8 200 27
+x{"a\\b"="1","a\\b"="2"} 1
+
+quoted 15 9 200 13
+\ 78 7b 22 ff 22 3d 22 31 22 7d 20 31 0a
+
+quoted 15 10 200 12
+{"a" "b"} 1
+
+quoted 15 11 200 9
+{,"a"} 1
+
+quoted 15 12 200 10
+{"a",,} 1
+
+quoted 15 13 200 14
+{b="x","a"} 1
+
+quoted 15 14 200 12
+{"a"="x"} 1
+
+quoted 15 15 200 12
+{"a","b"} 1
+
+quoted 15 16 200 7
+{"a} 1
+
+-- out
+0 up{instance="a",job="j"} 0
+0 up{instance="b",job="j"} 0
+0 up{instance="c",job="j"} 0
+0 up{instance="d",job="j"} 0
+0 up{instance="e",job="j"} 0
+0 up{instance="f",job="j"} 0
+0 up{instance="g",job="j"} 0
+0 up{instance="h",job="j"} 0
+0 up{instance="i",job="j"} 0
+0 up{instance="j",job="j"} 0
+0 up{instance="k",job="j"} 0
+0 up{instance="l",job="j"} 0
+0 up{instance="m",job="j"} 0
+0 up{instance="n",job="j"} 0
+0 up{instance="o",job="j"} 0
+0 up{instance="p",job="j"} 0
+0 up{instance="q",job="j"} 0
+-- status 0
+
+== lines_with_quoted_names_are_faulty_in_plain_bodies
+$ at 0 up s
+-- file s
+scrape-journal 2
+load 0 82
+{"scrape_configs":[{"job_name":"j","static_configs":[{"targets":["a","b","c"]}]}]}
+sweep 0
+body 15 0 200 7
+{"a"}1
+
+body 15 1 200 15
+x{"c.d"="y"} 2
+
+body 15 2 200 11
+{"a b",} 7
+
+-- out
+0 up{instance="a",job="j"} 0
+0 up{instance="b",job="j"} 0
+0 up{instance="c",job="j"} 0
+-- status 0
 "#;

@@ -210,101 +210,6 @@ m{a="1/v"} 1
 0 0 report scrape_series_added{instance="a:1",job="j"} 1
 -- status 0
 
-== replace_12
-$ replay s
--- file s
-scrape-journal 1
-load 0 213
-{"scrape_configs":[{"job_name":"j","metric_relabel_configs":[{"regex":"instance|job","action":"labeldrop"},{"source_labels":["a"],"target_label":"t","replacement":"$1a-"}],"static_configs":[{"targets":["a:1"]}]}]}
-sweep 0
-body 15 0 200 11
-m{a="x"} 1
-
--- out
-0 0 sample m{a="x",t="-"} 1
-0 0 report up{instance="a:1",job="j"} 1
-0 0 report scrape_duration_seconds{instance="a:1",job="j"} 0.015
-0 0 report scrape_samples_scraped{instance="a:1",job="j"} 1
-0 0 report scrape_samples_post_metric_relabeling{instance="a:1",job="j"} 1
-0 0 report scrape_series_added{instance="a:1",job="j"} 1
--- status 0
-
-== replace_13
-$ replay s
--- file s
-scrape-journal 1
-load 0 212
-{"scrape_configs":[{"job_name":"j","metric_relabel_configs":[{"regex":"instance|job","action":"labeldrop"},{"source_labels":["a"],"target_label":"t","replacement":"$$1"}],"static_configs":[{"targets":["a:1"]}]}]}
-sweep 0
-body 15 0 200 11
-m{a="x"} 1
-
--- out
-0 0 sample m{a="x",t="$1"} 1
-0 0 report up{instance="a:1",job="j"} 1
-0 0 report scrape_duration_seconds{instance="a:1",job="j"} 0.015
-0 0 report scrape_samples_scraped{instance="a:1",job="j"} 1
-0 0 report scrape_samples_post_metric_relabeling{instance="a:1",job="j"} 1
-0 0 report scrape_series_added{instance="a:1",job="j"} 1
--- status 0
-
-== replace_14
-$ replay s
--- file s
-scrape-journal 1
-load 0 215
-{"scrape_configs":[{"job_name":"j","metric_relabel_configs":[{"regex":"instance|job","action":"labeldrop"},{"source_labels":["a"],"target_label":"t","replacement":"x${9}y"}],"static_configs":[{"targets":["a:1"]}]}]}
-sweep 0
-body 15 0 200 11
-m{a="x"} 1
-
--- out
-0 0 sample m{a="x",t="xy"} 1
-0 0 report up{instance="a:1",job="j"} 1
-0 0 report scrape_duration_seconds{instance="a:1",job="j"} 0.015
-0 0 report scrape_samples_scraped{instance="a:1",job="j"} 1
-0 0 report scrape_samples_post_metric_relabeling{instance="a:1",job="j"} 1
-0 0 report scrape_series_added{instance="a:1",job="j"} 1
--- status 0
-
-== replace_15
-$ replay s
--- file s
-scrape-journal 1
-load 0 234
-{"scrape_configs":[{"job_name":"j","metric_relabel_configs":[{"regex":"instance|job","action":"labeldrop"},{"source_labels":["a"],"regex":"(?P<n>.*)","target_label":"t","replacement":"${n}!"}],"static_configs":[{"targets":["a:1"]}]}]}
-sweep 0
-body 15 0 200 11
-m{a="x"} 1
-
--- out
-0 0 sample m{a="x",t="x!"} 1
-0 0 report up{instance="a:1",job="j"} 1
-0 0 report scrape_duration_seconds{instance="a:1",job="j"} 0.015
-0 0 report scrape_samples_scraped{instance="a:1",job="j"} 1
-0 0 report scrape_samples_post_metric_relabeling{instance="a:1",job="j"} 1
-0 0 report scrape_series_added{instance="a:1",job="j"} 1
--- status 0
-
-== replace_16
-$ replay s
--- file s
-scrape-journal 1
-load 0 230
-{"scrape_configs":[{"job_name":"j","metric_relabel_configs":[{"regex":"instance|job","action":"labeldrop"},{"source_labels":["a"],"regex":"(?i)ABC","target_label":"t","replacement":"yes"}],"static_configs":[{"targets":["a:1"]}]}]}
-sweep 0
-body 15 0 200 13
-m{a="abc"} 1
-
--- out
-0 0 sample m{a="abc",t="yes"} 1
-0 0 report up{instance="a:1",job="j"} 1
-0 0 report scrape_duration_seconds{instance="a:1",job="j"} 0.015
-0 0 report scrape_samples_scraped{instance="a:1",job="j"} 1
-0 0 report scrape_samples_post_metric_relabeling{instance="a:1",job="j"} 1
-0 0 report scrape_series_added{instance="a:1",job="j"} 1
--- status 0
-
 == replace_17
 $ replay s
 -- file s
@@ -1015,5 +920,38 @@ x 1
 0 0 report scrape_samples_scraped{instance="a:1",job="j"} 1
 0 0 report scrape_samples_post_metric_relabeling{instance="a:1",job="j"} 0
 0 0 report scrape_series_added{instance="a:1",job="j"} 0
+-- status 0
+
+== templates_at_the_match_of_a_whole_text
+$ at 0 m s
+-- file s
+scrape-journal 1
+load 0 2253
+{"scrape_configs":[{"job_name":"j","metric_relabel_configs":[{"regex":"instance|job","action":"labeldrop"},{"source_labels":["abc"],"regex":"a(.)c","target_label":"t00","replacement":"$1-${1}"},{"source_labels":["abc"],"regex":"b","target_label":"t01","replacement":"x"},{"source_labels":["abc"],"regex":"ab","target_label":"t02","replacement":"x"},{"source_labels":["abc"],"regex":"(.*)","target_label":"t03","replacement":"$1"},{"source_labels":["e"],"regex":"(.*)","target_label":"t04","replacement":"$1"},{"source_labels":["none"],"regex":"(.*)","target_label":"t05","replacement":"<$1>"},{"source_labels":["abc"],"regex":"(.*)","target_label":"t06","replacement":"<$2>"},{"source_labels":["abc"],"regex":"(.*)","target_label":"t07","replacement":"x${9}y"},{"source_labels":["abc"],"regex":"(.*)","target_label":"t08","replacement":"$1$1"},{"source_labels":["nl"],"regex":"a.c","target_label":"t09","replacement":"x"},{"source_labels":["e"],"regex":".","target_label":"t10","replacement":"x"},{"source_labels":["abc"],"regex":"^abc$","target_label":"t11","replacement":"x"},{"source_labels":["b"],"regex":"a|b","target_label":"t12","replacement":"x"},{"source_labels":["ab"],"regex":"a|b","target_label":"t13","replacement":"x"},{"source_labels":["b"],"regex":"(a)|(b)","target_label":"t14","replacement":"<$1$2>"},{"source_labels":["a"],"regex":"(a)","target_label":"t15","replacement":"$1a-"},{"source_labels":["a"],"regex":"(a)","target_label":"t16","replacement":"${1}a"},{"source_labels":["a"],"regex":"(a)","target_label":"t17","replacement":"$$1"},{"source_labels":["aab"],"regex":"(?<n>a+)b","target_label":"t18","replacement":"$n"},{"source_labels":["abc"],"regex":"(?P<n>.*)","target_label":"t19","replacement":"${n}!"},{"source_labels":["none"],"regex":"","target_label":"t20","replacement":"x"},{"source_labels":["big"],"regex":"(?i)a","target_label":"t21","replacement":"$0"},{"source_labels":["host"],"regex":"node-1:a","target_label":"t22","replacement":"$0"},{"source_labels":["n12"],"regex":"node-1","target_label":"t23","replacement":"x"},{"source_labels":["n1"],"regex":"node-1","target_label":"t24","replacement":"y"},{"regex":"abc|b|ab|a|aab|big|nl|e|host|n12|n1","action":"LabelDrop"}],"static_configs":[{"targets":["a:1"]}]}]}
+sweep 0
+body 15 0 200 114
+m{abc="abc",b="b",ab="ab",a="a",aab="aab",big="A",nl="a\nc",e="é\n",host="node-1:a",n12="node-12",n1="node-1"} 1
+
+-- out
+0 m{t00="b-b",t03="abc",t04="é\n",t05="<>",t06="<>",t07="xy",t08="abcabc",t09="x",t11="x",t12="x",t14="<b>",t15="-",t16="aa",t17="$1",t18="aa",t19="abc!",t20="x",t21="A",t22="node-1:a",t24="y"} 1
+-- status 0
+
+== rules_one_after_another
+$ at 0 {__name__=~"m.|gone"} s
+-- file s
+scrape-journal 1
+load 0 541
+{"scrape_configs":[{"job_name":"j","metric_relabel_configs":[{"regex":"instance|job","action":"labeldrop"},{"regex":"[xy]_(.*)","action":"LabelMap"},{"regex":"(.*)","replacement":"1$1","action":"labelmap"},{"regex":"(.*)","action":"labelmap"},{"regex":"__.*a","action":"labeldrop"},{"source_labels":["p"],"regex":"x(.)y","target_label":"q"},{"regex":"p","action":"labeldrop"},{"source_labels":["q"],"regex":"(\n)","target_label":"r"},{"source_labels":["__name__","p"],"regex":"m.;","action":"KEEP"}],"static_configs":[{"targets":["a:1"]}]}]}
+sweep 0
+body 15 0 200 77
+m1{x_a="1",y_a="2"} 1
+m2{b="1",__is_a="2"} 2
+m3{p="x\ny"} 3
+gone{p="x\ny"} 4
+
+-- out
+0 m1{a="2",x_a="1",y_a="2"} 1
+0 m2{b="1"} 2
+0 m3{q="\n",r="\n"} 3
 -- status 0
 "#;

@@ -252,4 +252,22 @@ x 1
 0 0 report scrape_samples_post_metric_relabeling{instance="a:1",job="j"} 1
 0 0 report scrape_series_added{instance="a:1",job="j"} 1
 -- status 0
+
+== lengths_of_fetches
+$ at 0 scrape_duration_seconds s
+-- file s
+scrape-journal 1
+load 0 94
+{"scrape_configs":[{"job_name":"j","static_configs":[{"targets":["a:1","b:1","c:1","d:1"]}]}]}
+sweep 0
+lost 15 0
+lost 10000 1
+lost 0 2
+lost 3982045 3
+-- out
+0 scrape_duration_seconds{instance="a:1",job="j"} 0.015
+0 scrape_duration_seconds{instance="b:1",job="j"} 10.000
+0 scrape_duration_seconds{instance="c:1",job="j"} 0.000
+0 scrape_duration_seconds{instance="d:1",job="j"} 3982.045
+-- status 0
 "#;

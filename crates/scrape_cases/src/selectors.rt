@@ -18,227 +18,188 @@ scrape: selector Bare
 
 == selector_refused_1
 $ at 0 {a=""} s
--- file s
-scrape-journal 1
-load 0 76
-{"scrape_configs":[{"job_name":"j","static_configs":[{"targets":["a:1"]}]}]}
-sweep 0
-body 15 0 200 8
-x 1
-y 2
-
 -- err
 scrape: selector Bare
 -- status 12
 
 == selector_refused_2
 $ at 0 {a=~".*"} s
--- file s
-scrape-journal 1
-load 0 76
-{"scrape_configs":[{"job_name":"j","static_configs":[{"targets":["a:1"]}]}]}
-sweep 0
-body 15 0 200 8
-x 1
-y 2
-
 -- err
 scrape: selector Bare
 -- status 12
 
 == selector_refused_3
 $ at 0 {a!="x"} s
--- file s
-scrape-journal 1
-load 0 76
-{"scrape_configs":[{"job_name":"j","static_configs":[{"targets":["a:1"]}]}]}
-sweep 0
-body 15 0 200 8
-x 1
-y 2
-
 -- err
 scrape: selector Bare
 -- status 12
 
 == selector_refused_4
 $ at 0 x{ s
--- file s
-scrape-journal 1
-load 0 76
-{"scrape_configs":[{"job_name":"j","static_configs":[{"targets":["a:1"]}]}]}
-sweep 0
-body 15 0 200 8
-x 1
-y 2
-
 -- err
 scrape: selector Syntax
 -- status 12
 
 == selector_refused_5
 $ at 0 '' s
--- file s
-scrape-journal 1
-load 0 76
-{"scrape_configs":[{"job_name":"j","static_configs":[{"targets":["a:1"]}]}]}
-sweep 0
-body 15 0 200 8
-x 1
-y 2
-
 -- err
 scrape: selector Syntax
 -- status 12
 
 == selector_refused_6
 $ at 0 {,} s
--- file s
-scrape-journal 1
-load 0 76
-{"scrape_configs":[{"job_name":"j","static_configs":[{"targets":["a:1"]}]}]}
-sweep 0
-body 15 0 200 8
-x 1
-y 2
-
 -- err
 scrape: selector Syntax
 -- status 12
 
 == selector_refused_7
 $ at 0 x{__name__="x"} s
--- file s
-scrape-journal 1
-load 0 76
-{"scrape_configs":[{"job_name":"j","static_configs":[{"targets":["a:1"]}]}]}
-sweep 0
-body 15 0 200 8
-x 1
-y 2
-
 -- err
 scrape: selector Syntax
 -- status 12
 
 == selector_refused_8
 $ at 0 x{a="b"}y s
--- file s
-scrape-journal 1
-load 0 76
-{"scrape_configs":[{"job_name":"j","static_configs":[{"targets":["a:1"]}]}]}
-sweep 0
-body 15 0 200 8
-x 1
-y 2
-
 -- err
 scrape: selector Syntax
 -- status 12
 
 == selector_refused_9
 $ at 0 x{a="b} s
--- file s
-scrape-journal 1
-load 0 76
-{"scrape_configs":[{"job_name":"j","static_configs":[{"targets":["a:1"]}]}]}
-sweep 0
-body 15 0 200 8
-x 1
-y 2
-
 -- err
 scrape: selector Syntax
 -- status 12
 
 == selector_refused_10
 $ at 0 x{a="b",,} s
--- file s
-scrape-journal 1
-load 0 76
-{"scrape_configs":[{"job_name":"j","static_configs":[{"targets":["a:1"]}]}]}
-sweep 0
-body 15 0 200 8
-x 1
-y 2
-
 -- err
 scrape: selector Syntax
 -- status 12
 
 == selector_refused_11
 $ at 0 1x s
--- file s
-scrape-journal 1
-load 0 76
-{"scrape_configs":[{"job_name":"j","static_configs":[{"targets":["a:1"]}]}]}
-sweep 0
-body 15 0 200 8
-x 1
-y 2
-
 -- err
 scrape: selector Syntax
 -- status 12
 
 == selector_refused_12
 $ at 0 x{a~"b"} s
--- file s
-scrape-journal 1
-load 0 76
-{"scrape_configs":[{"job_name":"j","static_configs":[{"targets":["a:1"]}]}]}
-sweep 0
-body 15 0 200 8
-x 1
-y 2
-
 -- err
 scrape: selector Syntax
 -- status 12
 
 == selector_refused_13
 $ at 0 x{a=~"("} s
--- file s
-scrape-journal 1
-load 0 76
-{"scrape_configs":[{"job_name":"j","static_configs":[{"targets":["a:1"]}]}]}
-sweep 0
-body 15 0 200 8
-x 1
-y 2
-
 -- err
 scrape: selector Pattern
 -- status 12
 
 == selector_refused_14
 $ at 0 {a=~"(",b=""} s
--- file s
-scrape-journal 1
-load 0 76
-{"scrape_configs":[{"job_name":"j","static_configs":[{"targets":["a:1"]}]}]}
-sweep 0
-body 15 0 200 8
-x 1
-y 2
-
 -- err
 scrape: selector Pattern
 -- status 12
 
 == selector_refused_15
 $ at 0 {a=~"(" s
--- file s
-scrape-journal 1
-load 0 76
-{"scrape_configs":[{"job_name":"j","static_configs":[{"targets":["a:1"]}]}]}
-sweep 0
-body 15 0 200 8
-x 1
-y 2
-
 -- err
 scrape: selector Syntax
+-- status 12
+
+== selector_refused_16
+$ at 0 x{}} s
+-- err
+scrape: selector Syntax
+-- status 12
+
+== selector_refused_17
+$ at 0 x{,} s
+-- err
+scrape: selector Syntax
+-- status 12
+
+== selector_refused_18
+$ at 0 x{a=b} s
+-- err
+scrape: selector Syntax
+-- status 12
+
+== selector_refused_19
+$ at 0 x{a=="b"} s
+-- err
+scrape: selector Syntax
+-- status 12
+
+== selector_refused_20
+$ at 0 x{a~="b"} s
+-- err
+scrape: selector Syntax
+-- status 12
+
+== selector_refused_21
+$ at 0 x{a!"b"} s
+-- err
+scrape: selector Syntax
+-- status 12
+
+== selector_refused_22
+$ at 0 x{a} s
+-- err
+scrape: selector Syntax
+-- status 12
+
+== selector_refused_23
+$ at 0 x{a=} s
+-- err
+scrape: selector Syntax
+-- status 12
+
+== selector_refused_24
+$ at 0 x{a="b\"} s
+-- err
+scrape: selector Syntax
+-- status 12
+
+== selector_refused_25
+$ at 0 x{a:b="c"} s
+-- err
+scrape: selector Syntax
+-- status 12
+
+== selector_refused_26
+$ at 0 x{1a="c"} s
+-- err
+scrape: selector Syntax
+-- status 12
+
+== selector_refused_27
+$ at 0 x{a=~"(",}{ s
+-- err
+scrape: selector Syntax
+-- status 12
+
+== selector_refused_28
+$ at 0 {a!~"("} s
+-- err
+scrape: selector Pattern
+-- status 12
+
+== selector_refused_29
+$ at 0 {a!="b",} s
+-- err
+scrape: selector Bare
+-- status 12
+
+== selector_refused_30
+$ at 0 {a=~".*",b!~"c"} s
+-- err
+scrape: selector Bare
+-- status 12
+
+== selector_refused_31
+$ at 0 {__name__=~"x?"} s
+-- err
+scrape: selector Bare
 -- status 12
 
 == selector_looked_for_before_the_file

@@ -328,4 +328,20 @@ lost 5 2
 0 1 report scrape_samples_post_metric_relabeling{instance="a",job="j"} 0
 0 1 report scrape_series_added{instance="a",job="j"} 0
 -- status 0
+
+== hidden_labels_that_rules_see
+$ at 0 up s
+-- file s
+scrape-journal 1
+load 0 620
+{"scrape_configs":[{"job_name":"d","relabel_configs":[{"source_labels":["__scheme__","__address__","__metrics_path__","__x"],"target_label":"p"}],"static_configs":[{"targets":["a:1"]}]},{"job_name":"s","relabel_configs":[{"source_labels":["__scheme__","__address__","__metrics_path__","__x"],"target_label":"p"}],"scheme":"https","metrics_path":"/m?x","static_configs":[{"targets":["a"]}]},{"job_name":"g","relabel_configs":[{"source_labels":["__scheme__","__address__","__metrics_path__","__x"],"target_label":"p"}],"static_configs":[{"targets":["a:1"],"labels":{"__x":"1","__address__":"z:9","__scheme__":"https"}}]}]}
+sweep 0
+lost 5 0
+lost 5 1
+lost 5 2
+-- out
+0 up{instance="a",job="s",p="https;a;/m?x;"} 0
+0 up{instance="a:1",job="d",p="http;a:1;/metrics;"} 0
+0 up{instance="a:1",job="g",p="https;a:1;/metrics;1"} 0
+-- status 0
 "#;

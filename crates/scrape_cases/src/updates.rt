@@ -360,4 +360,42 @@ x 3
 180001 0 report scrape_samples_post_metric_relabeling{instance="a:1",job="j"} 1
 180001 0 report scrape_series_added{instance="a:1",job="j"} 0
 -- status 0
+
+== files_in_the_order_in_which_they_are_named
+$ replay s
+-- file s
+scrape-journal 1
+load 0 259
+{"scrape_configs":[{"job_name":"j","target_limit":3,"file_sd_configs":[{"files":["y.json","x.json","y.json"]},{"files":["x.json","z.json"]}],"static_configs":[{"targets":["d:1"]}],"relabel_configs":[{"source_labels":["__meta_filepath"],"target_label":"f"}]}]}
+targets 1 1 6 47
+jz.json[{"targets":["c:1"],"labels":{"instance":"i"}}]
+targets 1 1 6 24
+jx.json[{"targets":["b:1"]},{}]
+targets 1 1 6 25
+jy.json[{"targets":["a:1","/"]}]
+load 2 279
+{"scrape_configs":[{"job_name":"j","target_limit":3,"honor_labels":true,"file_sd_configs":[{"files":["y.json","x.json","y.json"]},{"files":["x.json","z.json"]}],"static_configs":[{"targets":["d:1"]}],"relabel_configs":[{"source_labels":["__meta_filepath"],"target_label":"f"}]}]}
+sweep 2
+-- out
+2 4 report up{instance="d:1",job="j"} 0
+2 4 report scrape_duration_seconds{instance="d:1",job="j"} 0.000
+2 4 report scrape_samples_scraped{instance="d:1",job="j"} 0
+2 4 report scrape_samples_post_metric_relabeling{instance="d:1",job="j"} 0
+2 4 report scrape_series_added{instance="d:1",job="j"} 0
+2 5 report up{f="y.json",instance="a:1",job="j"} 0
+2 5 report scrape_duration_seconds{f="y.json",instance="a:1",job="j"} 0.000
+2 5 report scrape_samples_scraped{f="y.json",instance="a:1",job="j"} 0
+2 5 report scrape_samples_post_metric_relabeling{f="y.json",instance="a:1",job="j"} 0
+2 5 report scrape_series_added{f="y.json",instance="a:1",job="j"} 0
+2 6 report up{f="x.json",instance="b:1",job="j"} 0
+2 6 report scrape_duration_seconds{f="x.json",instance="b:1",job="j"} 0.000
+2 6 report scrape_samples_scraped{f="x.json",instance="b:1",job="j"} 0
+2 6 report scrape_samples_post_metric_relabeling{f="x.json",instance="b:1",job="j"} 0
+2 6 report scrape_series_added{f="x.json",instance="b:1",job="j"} 0
+2 7 report up{f="z.json",instance="i",job="j"} 0
+2 7 report scrape_duration_seconds{f="z.json",instance="i",job="j"} 0.000
+2 7 report scrape_samples_scraped{f="z.json",instance="i",job="j"} 0
+2 7 report scrape_samples_post_metric_relabeling{f="z.json",instance="i",job="j"} 0
+2 7 report scrape_series_added{f="z.json",instance="i",job="j"} 0
+-- status 0
 "#;

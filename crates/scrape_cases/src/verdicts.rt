@@ -123,4 +123,65 @@ $ replay --kept s
 -- file s
 scrape-journal 1
 -- status 0
+
+== verdicts_of_markers
+$ replay --kept s
+-- file s
+scrape-journal 1
+load 0 278
+{"scrape_configs":[{"job_name":"j","metric_relabel_configs":[{"regex":"instance|job","action":"labeldrop"}],"static_configs":[{"targets":["a:1"]}]},{"job_name":"k","metric_relabel_configs":[{"regex":"instance|job","action":"labeldrop"}],"static_configs":[{"targets":["a:1"]}]}]}
+sweep 0
+body 15 0 200 12
+x 1
+y 1
+z 1
+
+body 15 1 200 4
+x 1
+
+sweep 60000
+body 15 2 200 40
+y 2 60000
+z 3 70000
+z 4 69999
+z 5 70001
+
+body 15 3 200 10
+x 5 60000
+
+-- out
+kept 0 0 sample x 1
+kept 0 0 sample y 1
+kept 0 0 sample z 1
+kept 0 0 report up{instance="a:1",job="j"} 1
+kept 0 0 report scrape_duration_seconds{instance="a:1",job="j"} 0.015
+kept 0 0 report scrape_samples_scraped{instance="a:1",job="j"} 3
+kept 0 0 report scrape_samples_post_metric_relabeling{instance="a:1",job="j"} 3
+kept 0 0 report scrape_series_added{instance="a:1",job="j"} 3
+same 0 1 sample x 1
+kept 0 1 report up{instance="a:1",job="k"} 1
+kept 0 1 report scrape_duration_seconds{instance="a:1",job="k"} 0.015
+kept 0 1 report scrape_samples_scraped{instance="a:1",job="k"} 1
+kept 0 1 report scrape_samples_post_metric_relabeling{instance="a:1",job="k"} 1
+kept 0 1 report scrape_series_added{instance="a:1",job="k"} 1
+kept 60000 0 sample y 2
+kept 70000 0 sample z 3
+outoforder 69999 0 sample z 4
+kept 70001 0 sample z 5
+kept 60000 0 stale x
+duplicate 60000 0 stale y
+outoforder 60000 0 stale z
+kept 60000 0 report up{instance="a:1",job="j"} 1
+kept 60000 0 report scrape_duration_seconds{instance="a:1",job="j"} 0.015
+kept 60000 0 report scrape_samples_scraped{instance="a:1",job="j"} 4
+kept 60000 0 report scrape_samples_post_metric_relabeling{instance="a:1",job="j"} 4
+kept 60000 0 report scrape_series_added{instance="a:1",job="j"} 0
+duplicate 60000 1 sample x 5
+same 60000 1 stale x
+kept 60000 1 report up{instance="a:1",job="k"} 1
+kept 60000 1 report scrape_duration_seconds{instance="a:1",job="k"} 0.015
+kept 60000 1 report scrape_samples_scraped{instance="a:1",job="k"} 1
+kept 60000 1 report scrape_samples_post_metric_relabeling{instance="a:1",job="k"} 1
+kept 60000 1 report scrape_series_added{instance="a:1",job="k"} 0
+-- status 0
 "#;

@@ -16,7 +16,7 @@ use Rattle.target_set.specs.Outcomes.{cause_of}
 use Rattle.target_set.specs.Requests.{base_of, request_at, request_of}
 use Rattle.target_set.proofs.RequestLemmas.{none_by_cause}
 use Rattle.scrape_machine.specs.declared.lives.Life.{Life}
-use Rattle.scrape_machine.specs.declared.lives.Start.{Start}
+use Rattle.scrape_machine.specs.declared.lives.StartedScrape.{StartedScrape}
 use Rattle.scrape_machine.specs.Machine.{world_of}
 use Rattle.scrape_laws.proofs.AskedLemmas.{MayBeAsked}
 use Rattle.scrape_laws.proofs.RequestLemmas.{HasAsked, HasLife, askable}
@@ -58,7 +58,7 @@ life_there conf [] k h lt = absurd (omega arith)
 life_there conf (l ∷ ls) zero h lt = of_life conf l.identity (All-head HasAsked l ls h)
 life_there conf (l ∷ ls) (suc k) h lt = life_there conf ls k (All-tail HasAsked l ls h) (omega (arith, lt))
 
-start_there : (ls : List Life) (ss : List Start) (k : ℕ) → All HasAsked ls → All (HasLife (length ls)) ss →
+start_there : (ls : List Life) (ss : List StartedScrape) (k : ℕ) → All HasAsked ls → All (HasLife (length ls)) ss →
     is_some (start_request ls (slice_get ss k)) ≡ is_unfinished (slice_get ss k)
 start_there ls [] k h within = refl
 start_there ls (s ∷ ss) zero h within = by s.finished

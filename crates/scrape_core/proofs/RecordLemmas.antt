@@ -18,9 +18,9 @@ use Rattle.outside.specs.declared.replies.Reply.{Reply}
 use Rattle.scrape_config.specs.declared.conf.Group.{Group}
 use Rattle.scrape_laws.specs.Flights.{is_finish_of}
 use Rattle.scrape_machine.specs.declared.answers.Answer.TheVariants.{Halted, NoLife, Busy, NotDue, Forced, Started}
-use Rattle.scrape_machine.specs.declared.lives.Found.TheVariants.{NotStarted, Cancelled, Counts}
+use Rattle.scrape_machine.specs.declared.lives.TicketState.TheVariants.{NotStarted, Cancelled, Counts}
 use Rattle.scrape_machine.specs.declared.lives.Life.{Life}
-use Rattle.scrape_machine.specs.declared.lives.Start.{Start}
+use Rattle.scrape_machine.specs.declared.lives.StartedScrape.{StartedScrape}
 use Rattle.scrape_machine.specs.Lives.{is_open}
 use Rattle.scrape_machine.specs.Machine.{World, beginning, world_of, run, step, answer, live_step, live_answer, started_after, starts_from, started_by, starts_in, is_over, tick_answer, is_halt, found_start, found_life, found_flight, finish_answer, finished, load_answer, update_answer, closed_count, begun_count}
 use Rattle.scrape_machine.proofs.StepLemmas.{world_push}
@@ -102,12 +102,12 @@ update_found w m name file text = of (updated w.jobs name file text)
     of (Err (Faulty fault)) = refl
 
 -- the scrapes that a sweep starts had no finish
-landed_end : (ss more : List Start) (k : ℕ) → ((j : ℕ) → landed j more ≡ 0) → landed k (ss ++ more) ≡ landed k ss
+landed_end : (ss more : List StartedScrape) (k : ℕ) → ((j : ℕ) → landed j more ≡ 0) → landed k (ss ++ more) ≡ landed k ss
 landed_end [] more k none = none k
 landed_end (s ∷ ss) more zero none = refl
 landed_end (s ∷ ss) more (suc k) none = landed_end ss more k none
 
-started_none : (one : Bool) (n : ℕ) (l : Life) (more : List Start) (k : ℕ) → ((j : ℕ) → landed j more ≡ 0) → landed k (started_by one n l ++ more) ≡ 0
+started_none : (one : Bool) (n : ℕ) (l : Life) (more : List StartedScrape) (k : ℕ) → ((j : ℕ) → landed j more ≡ 0) → landed k (started_by one n l ++ more) ≡ 0
 started_none true n l more zero none = refl
 started_none true n l more (suc k) none = none k
 started_none false n l more k none = none k
@@ -123,10 +123,10 @@ pub swept_more : (w : World) (m : ℤ) → length w.started ≤ length (started_
 swept_more w m = omega (arith, length-append w.started (starts_from w.jobs (number m) 0 w.lives))
 
 -- the finish of a started scrape that had none: it is recorded, and isn't of no ticket
-abbrev pub IsOpen : ℕ → List Start → Type 0
+abbrev pub IsOpen : ℕ → List StartedScrape → Type 0
 IsOpen k ss = (k < length ss) × (landed k ss ≡ 0)
 
-open_start : (ss : List Start) (k : ℕ) → IsOpen k ss → (s : Start) × (slice_get ss k ≡ Some s) × (s.finished ≡ false)
+open_start : (ss : List StartedScrape) (k : ℕ) → IsOpen k ss → (s : StartedScrape) × (slice_get ss k ≡ Some s) × (s.finished ≡ false)
 open_start [] k h = absurd (omega (arith, h.0))
 open_start (s ∷ ss) zero h = (s, refl, of s.finished h.1)
   where
@@ -138,11 +138,11 @@ open_start (s ∷ ss) (suc k) h = open_start ss k (omega (arith, h.0), h.1)
 is_same : (k j : ℕ) → (suc k == suc j) ≡ (k == j)
 is_same k j = grind (arith, nat_tests)
 
-one_set : (ss : List Start) (k j : ℕ) (s : Start) → slice_get ss k ≡ Some s → s.finished ≡ false → landed j (slice_set ss k (record s { finished = true })) ≡ landed j ss + cond {A = ℕ} (k == j) 1 0
+one_set : (ss : List StartedScrape) (k j : ℕ) (s : StartedScrape) → slice_get ss k ≡ Some s → s.finished ≡ false → landed j (slice_set ss k (record s { finished = true })) ≡ landed j ss + cond {A = ℕ} (k == j) 1 0
 one_set [] k j s at unended = cc
 one_set (x ∷ ss) zero zero s at unended =
     let same : x ≡ s = cc in
-    let none : landed 0 (x ∷ ss) ≡ 0 = ap (λ (y : Start). cond {A = ℕ} y.finished 1 0) same ∙ ap (λ (b : Bool). cond {A = ℕ} b 1 0) unended in
+    let none : landed 0 (x ∷ ss) ≡ 0 = ap (λ (y : StartedScrape). cond {A = ℕ} y.finished 1 0) same ∙ ap (λ (b : Bool). cond {A = ℕ} b 1 0) unended in
     omega (arith, none)
 one_set (x ∷ ss) zero (suc j) s at unended = grind (arith, nat_tests)
 one_set (x ∷ ss) (suc k) zero s at unended = grind (arith, nat_tests)
@@ -155,7 +155,7 @@ finish_landed w k j took r h =
 pub finish_length : (w : World) (k : ℕ) (took : ℤ) (r : Reply) → length (started_after w (Finish k took r)) ≡ length w.started
 finish_length w k took r = of (slice_get w.started k)
   where
-    of : (o : Option Start) → length (finished o w.started k) ≡ length w.started
+    of : (o : Option StartedScrape) → length (finished o w.started k) ≡ length w.started
     of None = refl
     of (Some s) = length-set w.started k (record s { finished = true })
 
@@ -190,7 +190,7 @@ started_is_length es = refl
 -- an event that starts and finishes nothing
 module _ (es js : List Event) (e : Event) (live : is_live es ≡ true) (now : js ≡ es ++ e ∷ []) (quiet : started_after (world_of es) e ≡ (world_of es).started) where
   pub same_started : started_of es ≡ started_of js
-  same_started = started_is_length es ∙ sym (started_push es js e live now ∙ ap (λ (ss : List Start). length ss) quiet)
+  same_started = started_is_length es ∙ sym (started_push es js e live now ∙ ap (λ (ss : List StartedScrape). length ss) quiet)
 
   pub same_landed : (k : ℕ) → landed_in k js ≡ landed_in k es
   same_landed k = landed_push es js e live now k ∙ (ap (landed k) quiet ∙ landed_is es k)
@@ -252,7 +252,7 @@ pub none_lost : (es : List Event) → list_any is_finish es ≡ false → has_lo
 unfolding has_lost
 none_lost es h = none_lost_from beginning es h
 
-empty_landed : (ss : List Start) (k : ℕ) → length ss ≡ 0 → landed k ss ≡ 0
+empty_landed : (ss : List StartedScrape) (k : ℕ) → length ss ≡ 0 → landed k ss ≡ 0
 empty_landed [] k h = refl
 empty_landed (s ∷ ss) k h = absurd (omega (arith, h))
 

@@ -15,7 +15,7 @@ use Rattle.journal_text.specs.declared.events.Event.TheVariants.{Load, Targets, 
 use Rattle.report_samples.specs.declared.entries.Entry.{Entry}
 use Rattle.scrape_machine.specs.declared.answers.Answer.TheVariants.{Halted}
 use Rattle.scrape_machine.specs.declared.lives.Life.{Life}
-use Rattle.scrape_machine.specs.declared.lives.Start.{Start}
+use Rattle.scrape_machine.specs.declared.lives.StartedScrape.{StartedScrape}
 use Rattle.scrape_machine.specs.Machine.{World, world, tick_answer, finished, answer, step, gives}
 use Rattle.scrape_steps.specs.Scans.{is_open_life}
 use Rattle.scrape_steps.proofs.EventLemmas.{load_silent, update_silent}
@@ -42,7 +42,7 @@ module _ (js ks : List InForce) (name n file f : List ℕ) (groups : List Group)
       subst (λ (fs : List Filed). All IsFew fs) (ap₂ (λ x y. filed_by_update js x y groups) (sym en) (sym ef)) (updated_few js name file text groups h)
 
 -- what is worked out of jobs, lives and started scrapes
-pub same_world : {X : Type 0} (f : List InForce → List Life → List Start → X) (js ks : List InForce) (ls zs : List Life) (ss ts : List Start) →
+pub same_world : {X : Type 0} (f : List InForce → List Life → List StartedScrape → X) (js ks : List InForce) (ls zs : List Life) (ss ts : List StartedScrape) →
     js ≡ ks → ls ≡ zs → ss ≡ ts → f js ls ss ≡ f ks zs ts
 same_world f js ks ls zs ss ts e g h = ap (λ x. f x ls ss) e ∙ ap₂ (λ x y. f ks x y) g h
 
@@ -64,7 +64,7 @@ get_or_at [] k d e lt = absurd (omega arith)
 get_or_at (y ∷ ys) zero d e lt = refl
 get_or_at (y ∷ ys) (suc k) d e lt = get_or_at ys k d e (omega arith)
 
-pub length-finished : (ss : List Start) (k : ℕ) (o : Option Start) → length (finished o ss k) ≡ length ss
+pub length-finished : (ss : List StartedScrape) (k : ℕ) (o : Option StartedScrape) → length (finished o ss k) ≡ length ss
 length-finished ss k None = refl
 length-finished ss k (Some s) = length-set ss k (record s { finished = true })
 
@@ -89,7 +89,7 @@ on_ok (Ok x) P p = p
 on_ok (Err e) P p = tt
 
 -- events that give nothing, and a halt
-module _ (jobs : List InForce) (ls : List Life) (ss : List Start) (e : Event) where
+module _ (jobs : List InForce) (ls : List Life) (ss : List StartedScrape) (e : Event) where
   pub load_gives : (m : ℤ) (text : List ℕ) → e ≡ Load m text → gives (world jobs ls ss) e ≡ []
   load_gives m text is = ap (gives (world jobs ls ss)) is ∙ load_silent jobs ls ss m text
 

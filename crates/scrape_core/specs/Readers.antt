@@ -13,7 +13,7 @@ use Rattle.life_roll.specs.Schedules as schedule
 use Rattle.scrape_machine.specs.declared.answers.Answer.{Answer}
 use Rattle.scrape_machine.specs.declared.answers.Answer.TheVariants.{Loaded, Updated, Refused, NoJob, NoFile, Started, Forced, NotDue, Busy, NoLife, Swept, Counted, Late, NoTicket, Halted}
 use Rattle.scrape_machine.specs.declared.lives.Life.{Life}
-use Rattle.scrape_machine.specs.declared.lives.Start.{Start}
+use Rattle.scrape_machine.specs.declared.lives.StartedScrape.{StartedScrape}
 use Rattle.scrape_core.specs.declared.state.State.{State}
 use Rattle.scrape_core.specs.Wakes.{IsWakeBy}
 use Rattle.scrape_machine.specs.Lives.{ends}
@@ -59,12 +59,12 @@ life_request conf None = None
 life_request conf (Some l) = request_of conf l.identity
 
 -- the request of a scrape that had no finish so far
-abbrev pub start_request : List Life → Option Start → Option Request
+abbrev pub start_request : List Life → Option StartedScrape → Option Request
 start_request ls None = None
 start_request ls (Some s) = if s.finished then None else life_request s.settings.conf (slice_get ls s.life)
 
 -- a scrape was started, and had no finish so far
-abbrev pub is_unfinished : Option Start → Bool
+abbrev pub is_unfinished : Option StartedScrape → Bool
 is_unfinished None = false
 is_unfinished (Some s) = not s.finished
 

@@ -7,7 +7,7 @@ use Rattle.journal_text.specs.declared.events.Event.TheVariants.{Load, Targets, 
 use Rattle.scrape_laws.specs.Flights.{is_finish_of}
 use Rattle.scrape_machine.specs.declared.answers.Answer.{Answer}
 use Rattle.scrape_machine.specs.declared.answers.Answer.TheVariants.{Loaded, Updated, Refused, NoJob, NoFile, Started, Forced, NotDue, Busy, NoLife, Swept, Counted, Late, NoTicket, Halted}
-use Rattle.scrape_machine.specs.declared.lives.Start.{Start}
+use Rattle.scrape_machine.specs.declared.lives.StartedScrape.{StartedScrape}
 use Rattle.scrape_machine.specs.Machine.{World, beginning, world_of, answer, step}
 
 -- how many scrapes were started
@@ -15,11 +15,11 @@ unfoldable pub started_of : List Event → ℕ
 started_of es = length (world_of es).started
 
 -- the scrape with a ticket was started and had its finish, as a number
-abbrev pub one_if : Option Start → ℕ
+abbrev pub one_if : Option StartedScrape → ℕ
 one_if None = 0
 one_if (Some s) = if s.finished then 1 else 0
 
-abbrev pub landed : ℕ → List Start → ℕ
+abbrev pub landed : ℕ → List StartedScrape → ℕ
 landed k ss = one_if (slice_get ss k)
 
 -- whether the scrape with ticket k had its finish, as a number

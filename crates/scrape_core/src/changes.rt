@@ -24,7 +24,7 @@ use scrape_machine::lives::Life;
 use scrape_steps::acts::{Fate, meet_all};
 use scrape_steps::closings::push_endings;
 use scrape_steps::concerned::{Lives, drop_closed};
-use scrape_steps::reloads::{births_of, count_closed, fates_of, held_of, names_of, verdicts_of};
+use scrape_steps::reloads::{births_of, count_closed, differences_of, fates_of, held_of, names_of};
 use std::alloc::Global;
 use std::sync::ledger::Ledger;
 
@@ -53,11 +53,11 @@ fn fates_to(
     news: &[InForce],
     lives: &Lives<'_>,
 ) -> Result<Vec<Fate>, NoMemory>
-    ensures { IfOk result (λ v. v.items ≡ map (plan.fate_of names.now news.now (map (spec.verdict olds.now) news.now)) (concerned.concerned lives.now)) }
+    ensures { IfOk result (λ v. v.items ≡ map (plan.fate_of names.now news.now (map (spec.difference olds.now) news.now)) (concerned.concerned lives.now)) }
 {
     let old_names = names_of(alloc, olds)?;
-    let verdicts = verdicts_of(alloc, &old_names, olds, news)?;
-    fates_of(alloc, names, news, &verdicts, lives)
+    let differences = differences_of(alloc, &old_names, olds, news)?;
+    fates_of(alloc, names, news, &differences, lives)
 }
 
 /// What a change at a moment from some jobs to others comes to; nothing changes yet.

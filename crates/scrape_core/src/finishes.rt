@@ -2,7 +2,7 @@
 ghost use Rattle.std.specs.Prelude.{◌≡◌, ◌≤◌, ◌<◌, ◌+◌, ◌^◌, ◌++◌, [], length, IfOk, OnOk, OnErr};
 ghost use Rattle.journal_text.specs.declared.events.Event.TheVariants.{Finish};
 ghost use Rattle.journal_text.specs.Lines.{IsMoment};
-ghost use Rattle.scrape_machine.specs.declared.lives.Found.TheVariants.{Counts};
+ghost use Rattle.scrape_machine.specs.declared.lives.TicketState.TheVariants.{Counts};
 ghost use Rattle.scrape_machine.specs.Machine as spec;
 ghost use Rattle.scrape_machine.specs.Runs.{runs};
 ghost use Rattle.scrape_core.specs.Kept as kept;
@@ -15,7 +15,7 @@ use label_set::{NoMemory, Steps};
 use life_roll::Moment;
 use scrape_loop::{LifeState, ReadReply};
 use scrape_machine::Answer;
-use scrape_machine::lives::Found;
+use scrape_machine::lives::TicketState;
 use scrape_steps::finishes::{count, finish, found};
 use std::alloc::Global;
 use std::sync::ledger::Ledger;
@@ -26,8 +26,8 @@ pub fn life_of<'s>(state: &'s State, event: &Event) -> Option<&'s LifeState> {
         return None;
     };
     match found(&state.lives, &state.started, *ticket) {
-        Found::Counts { life, moment: _ } => Some(&state.lives[life as usize].state),
-        Found::NotStarted | Found::Cancelled => None,
+        TicketState::Counts { life, moment: _ } => Some(&state.lives[life as usize].state),
+        TicketState::NotStarted | TicketState::Cancelled => None,
     }
 }
 
@@ -98,15 +98,15 @@ pub fn take_finish<L: Ledger>(
     ensures err_book { OnErr result (book.new.entries ≡ book.old.entries) }
 {
     match found(&state.lives, &state.started, ticket) {
-        Found::NotStarted => {
+        TicketState::NotStarted => {
             finish(&mut state.started, ticket);
             Ok(without_runs(Answer::NoTicket))
         }
-        Found::Cancelled => {
+        TicketState::Cancelled => {
             finish(&mut state.started, ticket);
             Ok(without_runs(Answer::Late))
         }
-        Found::Counts { life, moment } => finish_counted(
+        TicketState::Counts { life, moment } => finish_counted(
             alloc, state, book, ticket, took, reply, life, moment, steps,
         ),
     }

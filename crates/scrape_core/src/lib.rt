@@ -3,7 +3,7 @@
 //! It knows no file, clock, socket or thread: moments and bytes are handed in with the events.
 //! Contracts see a core as its journal, the list of the events that it took; `specs/Machine.antt` of the crate `scrape_machine` says what the answers and
 //! the book of a journal are.
-//! Tests: `tests_running::cores`; cases: `scrape_cases::{scripts, reloads, updates, endings}`.
+//! Cases: `scrape_cases::{scripts, reloads, updates, endings}`.
 #![tactic(auto)]
 
 mod changes;
@@ -11,6 +11,7 @@ mod events;
 mod finishes;
 pub mod machine;
 mod means;
+pub mod open_lives;
 pub mod read_events;
 mod readers;
 mod replays;
@@ -20,6 +21,7 @@ mod turns;
 
 pub use machine::Core;
 pub use means::Means;
+pub use open_lives::OpenLife;
 pub use read_events::ReadEvent;
 pub use replays::replay;
 pub use scrape_machine::Answer;

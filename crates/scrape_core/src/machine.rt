@@ -1,9 +1,10 @@
 //! The core: what a scrape manager has taken so far, and the call that takes an event.
-ghost use Rattle.std.specs.Prelude.{◌≡◌, ◌+◌, ◌≤◌, ◌^◌, nat_lt, ◌++◌, [], ◌∷◌, length, pos, true, is_some, IfOk, IfSome, OnOk, OnErr};
+ghost use Rattle.std.specs.Prelude.{◌≡◌, ◌+◌, ◌≤◌, ◌^◌, nat_lt, ◌++◌, [], ◌∷◌, length, option_map, pos, true, is_some, IfOk, IfSome, OnOk, OnErr};
 ghost use Rattle.journal_text.specs.declared.events.Event.{Event};
 ghost use Rattle.journal_text.specs.declared.events.Event.TheVariants.{Finish, Halt};
 ghost use Rattle.journal_text.specs.Events.{IsInLimits, IsJournal, MayFollow, now_of};
 ghost use Rattle.journal_text.specs.Lines.{IsMoment, number};
+ghost use Rattle.scrape_core.specs.OpenLives as opens;
 ghost use Rattle.scrape_core.specs.Readers.{IsWake, MayFetch, awaits, is_due, request};
 ghost use Rattle.scrape_core.specs.Records.{is_live, started_of};
 ghost use Rattle.scrape_machine.specs.Machine as spec;
@@ -11,6 +12,7 @@ ghost use Rattle.scrape_machine.specs.Runs as relabelling;
 
 use crate::events::take;
 use crate::finishes::life_of;
+use crate::open_lives::{OpenLife, open_count_in, open_life_in};
 use crate::read_events::ReadEvent;
 use crate::readers::{due_in, request_in, wake_in};
 use crate::state::State;
@@ -276,6 +278,21 @@ impl Core {
         ensures { result ≡ started_of self.now }
     {
         self.state.started.len() as u64
+    }
+
+    /// How many targets are scraped: the open lives. It takes no memory.
+    pub fn open_count(&self) -> usize
+        ensures { result ≡ opens.open_count self.now }
+    {
+        open_count_in(&self.state)
+    }
+
+    /// The open life at a place, by rising number: that number, the labels of its target, and how the target is. There is none exactly where the
+    /// place is at or past `open_count`. It takes no memory.
+    pub fn open_life(&self, place: usize) -> Option<OpenLife<'_>>
+        ensures { option_map opens.seen result ≡ opens.open_life self.now place }
+    {
+        open_life_in(&self.state, place)
     }
 
     /// The configuration in force: its jobs, in the order in which they are written.

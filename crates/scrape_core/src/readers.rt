@@ -12,7 +12,7 @@ use end_of_run::due_at;
 use label_set::NoMemory;
 use life_roll::Moment;
 use outside::Request;
-use scrape_machine::lives::{Life, Start};
+use scrape_machine::lives::{Life, StartedScrape};
 use scrape_steps::acts::ends;
 use scrape_steps::concerned::Lives;
 use std::alloc::Global;
@@ -130,7 +130,7 @@ pub fn wake_in(state: &State, now: u64) -> Option<i64>
 /// The request of a scrape of a life, by the settings at its start.
 fn request_for(
     alloc: Global,
-    start: &Start,
+    start: &StartedScrape,
     life: Option<&Life>,
 ) -> Result<Option<Request>, NoMemory>
     ensures request { IfOk result (λ o. o ≡ spec.life_request start.now.settings.conf (option_copied life.entry)) }
@@ -153,7 +153,7 @@ fn life_at(lives: &[Life], life: u64) -> Option<&Life>
 }
 
 /// The started scrape with this ticket, if there is one.
-fn start_at(started: &[Start], ticket: u64) -> Option<&Start>
+fn start_at(started: &[StartedScrape], ticket: u64) -> Option<&StartedScrape>
     ensures { option_copied result ≡ slice_get started.now ticket }
 {
     started.get(ticket as usize)
@@ -163,7 +163,7 @@ fn start_at(started: &[Start], ticket: u64) -> Option<&Start>
 pub fn request_in(
     alloc: Global,
     lives: &[Life],
-    started: &[Start],
+    started: &[StartedScrape],
     ticket: u64,
 ) -> Result<Option<Request>, NoMemory>
     ensures request { IfOk result (λ o. o ≡ spec.start_request lives.now (slice_get started.now ticket)) }

@@ -1,6 +1,6 @@
 //! What a core keeps of the events that it took.
 use jobs_in_force::jobs::InForce;
-use scrape_machine::lives::{Life, Start};
+use scrape_machine::lives::{Life, StartedScrape};
 use scrape_steps::endings::Endings;
 
 /// What the events so far come to.
@@ -15,7 +15,7 @@ pub struct State {
     /// The endings of closed lives that weren't taken.
     pub endings: Endings,
     /// The started scrapes, by ticket.
-    pub started: Vec<Start>,
+    pub started: Vec<StartedScrape>,
     /// Whether a halt came.
     pub halted: bool,
 }

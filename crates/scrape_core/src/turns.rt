@@ -15,7 +15,7 @@ use label_set::NoMemory;
 use life_roll::{JobNames, Moment};
 use report_samples::EntryList;
 use scrape_machine::Answer;
-use scrape_machine::lives::{Life, Start};
+use scrape_machine::lives::{Life, StartedScrape};
 use scrape_steps::acts::{is_open, push_scan, scan};
 use scrape_steps::concerned::{Lives, swept_places};
 use scrape_steps::reloads::names_of;
@@ -26,7 +26,7 @@ use scrape_steps::scans::{
 use std::alloc::Global;
 
 /// Adds started scrapes, into room that was made before.
-fn push_starts(started: &mut Vec<Start>, begun: Vec<Start>)
+fn push_starts(started: &mut Vec<StartedScrape>, begun: Vec<StartedScrape>)
     requires { vec_len started.old + length begun.items ≤ vec_capacity started.old }
     ensures { started.new.items ≡ started.old.items ++ begun.items }
 {

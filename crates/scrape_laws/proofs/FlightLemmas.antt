@@ -14,21 +14,21 @@ use Rattle.life_roll.specs.declared.schedule.Schedule.{Schedule}
 use Rattle.jobs_in_force.specs.declared.jobs.InForce.{InForce}
 use Rattle.jobs_in_force.specs.Jobs.{job_named, has_target}
 use Rattle.scrape_machine.specs.declared.lives.Life.{Life}
-use Rattle.scrape_machine.specs.declared.lives.Start.{Start}
-use Rattle.scrape_machine.specs.declared.lives.Found.{Found}
-use Rattle.scrape_machine.specs.declared.lives.Found.TheVariants.{NotStarted, Cancelled, Counts}
+use Rattle.scrape_machine.specs.declared.lives.StartedScrape.{StartedScrape}
+use Rattle.scrape_machine.specs.declared.lives.TicketState.{TicketState}
+use Rattle.scrape_machine.specs.declared.lives.TicketState.TheVariants.{NotStarted, Cancelled, Counts}
 use Rattle.scrape_machine.specs.declared.lives.Local.{Local}
 use Rattle.scrape_machine.specs.declared.lives.Local.TheVariants.{Nothing, Scan, Answered, Change, Close}
-use Rattle.scrape_machine.specs.declared.lives.Verdict.{Verdict}
-use Rattle.scrape_machine.specs.declared.lives.Verdict.TheVariants.{Apart, Same, Other}
+use Rattle.scrape_machine.specs.declared.lives.Difference.{Difference}
+use Rattle.scrape_machine.specs.declared.lives.Difference.TheVariants.{Incompatible, Same, Changed}
 use Rattle.scrape_machine.specs.Lives.{is_open, born, forces, ends_at, scanned_life, with_ending, life_after}
-use Rattle.scrape_machine.specs.Machine.{World, new_jobs, job_name, verdict, verdict_local, job_local, reload_local, is_over, found_flight, found_life, found_start, found, finish_local, live_local, local, finished, started_after, live_step, step, run}
-use Rattle.scrape_laws.specs.Flights.{since, life_since, in_flight_since, is_finish_of, is_same_verdict, leaves_by, leaves, reload_touches, touches, ends_flight, stays, has_finish}
+use Rattle.scrape_machine.specs.Machine.{World, new_jobs, job_name, difference, difference_local, job_local, reload_local, is_over, found_flight, found_life, found_start, found, finish_local, live_local, local, finished, started_after, live_step, step, run}
+use Rattle.scrape_laws.specs.Flights.{since, life_since, in_flight_since, is_finish_of, is_unchanged, leaves_by, leaves, reload_touches, touches, ends_flight, stays, has_finish}
 use Rattle.scrape_laws.proofs.WorldLemmas.{found_flies, same_some, after_local, Stays, follows}
 use Rattle.scrape_laws.proofs.LateLemmas.{finished_other}
 
 -- a started scrape
-abbrev pub ticket : ℕ → Job → Bool → Start
+abbrev pub ticket : ℕ → Job → Bool → StartedScrape
 ticket n s b = record { life = n; settings = s; finished = b }
 
 or_no : (b : Bool) → b ≡ (b || false)
@@ -50,7 +50,7 @@ get_set (x ∷ xs) zero a b e = refl
 get_set (x ∷ xs) (suc k) a b e = get_set xs k a b e
 
 -- whether it had its finish
-finish_marks : (ss : List Start) (j k n : ℕ) (s : Job) (b q : Bool) → eqb j k ≡ q → slice_get ss k ≡ Some (ticket n s b) →
+finish_marks : (ss : List StartedScrape) (j k n : ℕ) (s : Job) (b q : Bool) → eqb j k ≡ q → slice_get ss k ≡ Some (ticket n s b) →
     slice_get (finished (slice_get ss j) ss j) k ≡ Some (ticket n s (b || q))
 finish_marks ss j k n s b true e h =
     let at : j ≡ k = eqb-true j k e in
@@ -126,17 +126,17 @@ act_since k (Change m s) l h = refl
 act_since k (Close m) l h = refl
 
 -- each event against the words of the law
-verdict_stops : (m : ℤ) (v : Verdict) → stops (verdict_local m v) ≡ not (is_same_verdict v)
-verdict_stops m Apart = refl
-verdict_stops m Same = refl
-verdict_stops m (Other s) = refl
+difference_stops : (m : ℤ) (v : Difference) → stops (difference_local m v) ≡ not (is_unchanged v)
+difference_stops m Incompatible = refl
+difference_stops m Same = refl
+difference_stops m (Changed s) = refl
 
 job_stops : (m : ℤ) (jobs : List InForce) (l : Life) (o : Option InForce) → stops (job_local m jobs l o) ≡ not (leaves_by jobs l o)
 job_stops m jobs l None = refl
 job_stops m jobs l (Some after) = by (has_target l.identity after)
   where
-    by : (b : Bool) → stops (cond b (verdict_local m (verdict jobs after)) (Close m)) ≡ not (b && is_same_verdict (verdict jobs after))
-    by true = verdict_stops m (verdict jobs after)
+    by : (b : Bool) → stops (cond b (difference_local m (difference jobs after)) (Close m)) ≡ not (b && is_unchanged (difference jobs after))
+    by true = difference_stops m (difference jobs after)
     by false = refl
 
 reload_stops : (m : ℤ) (jobs : List InForce) (o : Option (List InForce)) (l : Life) → stops (reload_local m jobs o l) ≡ reload_touches jobs o l
@@ -161,7 +161,7 @@ flying k (Some f) m e = by (eqb f.ticket k) refl e
     by false t e = absurd (false≢true (ap is_some e))
 
 -- what a finish finds, by since when its scrape is in flight
-abbrev pub found_since : ℕ → Option ℤ → Found
+abbrev pub found_since : ℕ → Option ℤ → TicketState
 found_since n None = Cancelled
 found_since n (Some m) = Counts n m
 
@@ -197,7 +197,7 @@ module _ (w : World) (n k : ℕ) (s : Job) (l : Life) (at : slice_get w.lives n 
           absurd (true≢false (sym (eq-eqb j k (sym g.ticket ∙ (ap (λ (z : InFlight). z.ticket) one ∙ f.2))) ∙ e))
       by_life i p false q h = refl
 
-      by : (z : Found) → found w j ≡ z → stops (finish_local n took r z) ≡ false
+      by : (z : TicketState) → found w j ≡ z → stops (finish_local n took r z) ≡ false
       by NotStarted h = refl
       by Cancelled h = refl
       by (Counts i p) h = by_life i p (eqb i n) refl h
@@ -211,17 +211,17 @@ module _ (w : World) (n k : ℕ) (s : Job) (l : Life) (at : slice_get w.lives n 
   live_stops (Finish j took r) m t f = finish_stops j took r m (eqb j k) refl t f ∙ or_no (eqb j k)
   live_stops (Halt p) m t f = refl
 
-verdict_later : (k : ℕ) (m : ℤ) (v : Verdict) → IsLater k (verdict_local m v)
-verdict_later k m Apart = tt
-verdict_later k m Same = tt
-verdict_later k m (Other s) = tt
+difference_later : (k : ℕ) (m : ℤ) (v : Difference) → IsLater k (difference_local m v)
+difference_later k m Incompatible = tt
+difference_later k m Same = tt
+difference_later k m (Changed s) = tt
 
 job_later : (k : ℕ) (m : ℤ) (jobs : List InForce) (l : Life) (o : Option InForce) → IsLater k (job_local m jobs l o)
 job_later k m jobs l None = tt
 job_later k m jobs l (Some after) = by (has_target l.identity after)
   where
-    by : (b : Bool) → IsLater k (cond b (verdict_local m (verdict jobs after)) (Close m))
-    by true = verdict_later k m (verdict jobs after)
+    by : (b : Bool) → IsLater k (cond b (difference_local m (difference jobs after)) (Close m))
+    by true = difference_later k m (difference jobs after)
     by false = tt
 
 reload_later : (k : ℕ) (m : ℤ) (jobs : List InForce) (o : Option (List InForce)) (l : Life) → IsLater k (reload_local m jobs o l)
@@ -236,7 +236,7 @@ tick_later : (k : ℕ) (m : ℤ) (t : ℕ) (over b : Bool) → k < t → IsLater
 tick_later k m t over true h = h
 tick_later k m t over false h = tt
 
-finish_later : (k n : ℕ) (took : ℤ) (r : Reply) (f : Found) → IsLater k (finish_local n took r f)
+finish_later : (k n : ℕ) (took : ℤ) (r : Reply) (f : TicketState) → IsLater k (finish_local n took r f)
 finish_later k n took r NotStarted = tt
 finish_later k n took r Cancelled = tt
 finish_later k n took r (Counts j m) = by (eqb j n)

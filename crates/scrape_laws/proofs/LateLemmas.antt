@@ -5,9 +5,9 @@ use Rattle.outside.specs.declared.replies.Reply.{Reply}
 use Rattle.journal_text.specs.declared.events.Event.TheVariants.{Finish}
 use Rattle.scrape_machine.specs.declared.answers.Answer.TheVariants.{Halted}
 use Rattle.scrape_machine.specs.declared.lives.Life.{Life}
-use Rattle.scrape_machine.specs.declared.lives.Start.{Start}
-use Rattle.scrape_machine.specs.declared.lives.Found.{Found}
-use Rattle.scrape_machine.specs.declared.lives.Found.TheVariants.{NotStarted, Cancelled, Counts}
+use Rattle.scrape_machine.specs.declared.lives.StartedScrape.{StartedScrape}
+use Rattle.scrape_machine.specs.declared.lives.TicketState.{TicketState}
+use Rattle.scrape_machine.specs.declared.lives.TicketState.TheVariants.{NotStarted, Cancelled, Counts}
 use Rattle.scrape_machine.specs.declared.lives.Local.TheVariants.{Nothing}
 use Rattle.scrape_machine.specs.Machine.{World, found, finish_local, finish_answer, finished, local, live_step, step, gives, live_answer, answer}
 use Rattle.scrape_machine.proofs.OneLemmas.{quiet_lives, quiet_gives}
@@ -21,12 +21,12 @@ set_other (y ∷ ys) zero (suc j) x ne = refl
 set_other (y ∷ ys) (suc k) zero x ne = refl
 set_other (y ∷ ys) (suc k) (suc j) x ne = set_other ys k j x (λ e. ne (ap (λ i. suc i) e))
 
-pub finished_other : (o : Option Start) (ss : List Start) (k j : ℕ) → (j ≡ k → ⊥) → slice_get (finished o ss k) j ≡ slice_get ss j
+pub finished_other : (o : Option StartedScrape) (ss : List StartedScrape) (k j : ℕ) → (j ≡ k → ⊥) → slice_get (finished o ss k) j ≡ slice_get ss j
 finished_other None ss k j ne = refl
 finished_other (Some s) ss k j ne = set_other ss k j (record s { finished = true }) ne
 
 module _ (w : World) (k : ℕ) (took : ℤ) (r : Reply) where
-  quiet : (f : Found) → is_counted (finish_answer w took r f) ≡ false → (n : ℕ) → finish_local n took r f ≡ Nothing
+  quiet : (f : TicketState) → is_counted (finish_answer w took r f) ≡ false → (n : ℕ) → finish_local n took r f ≡ Nothing
   quiet NotStarted h n = refl
   quiet Cancelled h n = refl
   quiet (Counts j m) h n = absurd (true≢false h)

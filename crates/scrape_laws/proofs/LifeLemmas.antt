@@ -21,10 +21,10 @@ use Rattle.scrape_machine.specs.declared.lives.Local.TheVariants.{Nothing, Scan,
 use Rattle.scrape_machine.specs.Lives.{is_open, forces, ends_at, closing_at, outcome_for, rules_of, scanned_life, with_ending, counted, changed, closed, life_after, scan_entries, counting_entries, life_gives}
 use Rattle.scrape_laws.specs.Scrapes.{LifeScrape, tracks}
 use Rattle.scrape_laws.specs.Markers.{told, is_of, ending_of, reports_at, is_report_marker_of}
-use Rattle.scrape_laws.specs.Past.{tracked_by, known_by}
+use Rattle.scrape_laws.specs.Past.{tracked_by, known_by, ends_with, was_good}
 use Rattle.scrape_laws.specs.Runs.{is_any}
 use Rattle.scrape_laws.proofs.SetLemmas.{copies, one_if, tracked_copies}
-use Rattle.scrape_laws.proofs.ToldLemmas.{ends_with, ends_with_push, any_push, tracked_push, known_push, told_more, told_ended}
+use Rattle.scrape_laws.proofs.ToldLemmas.{ends_with_push, any_push, tracked_push, known_push, told_more, told_ended}
 use Rattle.scrape_laws.proofs.EntryLemmas.{Skips, other_scrape, other_ending, own_scrape, own_ending, no_reports, own_reports}
 
 -- the report markers of a life by its state
@@ -63,6 +63,7 @@ pub record Knows (n : ℕ) (x : List Pair) (ss : List LifeScrape) (l : Life) : T
   pub before : l.ended ≡ false → l.state.tracked ≡ tracked_by [] ss
   pub known : l.ended ≡ false → l.state.known ≡ known_by [] ss
   pub scraped : l.state.scraped ≡ is_any ss
+  pub up : l.state.up ≡ ends_with was_good false ss
   pub quiet : is_open l ≡ false → l.schedule.flight ≡ None
   pub ended : is_open l ≡ true → l.ended ≡ false
 
@@ -137,6 +138,7 @@ module _ (n : ℕ) (x : List Pair) (ss : List LifeScrape) (l : Life) where
           before = λ h. ap (λ (z : LifeView). z.tracked) at ∙ w.before d;
           known = λ h. ap (λ (z : LifeView). z.known) at ∙ w.known d;
           scraped = ap (λ (z : LifeView). z.scraped) at ∙ w.scraped;
+          up = ap (λ (z : LifeView). z.up) at ∙ w.up;
           quiet = q;
           ended = λ h. en ∙ d;
         };
@@ -156,6 +158,7 @@ module _ (n : ℕ) (x : List Pair) (ss : List LifeScrape) (l : Life) where
           before = λ h. ap (λ (z : LifeView). z.tracked) at ∙ sym (tracked_push [] ss s);
           known = λ h. ap (λ (z : LifeView). z.known) at ∙ (ap (λ zs. known_after zs s.outcome) (w.known d) ∙ sym (known_push [] ss s));
           scraped = ap (λ (z : LifeView). z.scraped) at ∙ sym (any_push ss s);
+          up = ap (λ (z : LifeView). z.up) at ∙ sym (ends_with_push was_good false ss s);
           quiet = λ h. absurd (true≢false (sym p ∙ h));
           ended = λ h. en ∙ d;
         };
@@ -195,6 +198,7 @@ module _ (n : ℕ) (x : List Pair) (ss : List LifeScrape) (l : Life) where
           before = λ h. absurd (true≢false h);
           known = λ h. absurd (true≢false h);
           scraped = w.scraped;
+          up = w.up;
           quiet = w.quiet;
           ended = λ h. absurd (false≢true (sym (ap (λ z. not (is_some z)) o) ∙ h));
         };

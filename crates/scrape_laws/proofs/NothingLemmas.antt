@@ -13,13 +13,13 @@ use Rattle.jobs_in_force.specs.declared.jobs.InForce.{InForce}
 use Rattle.jobs_in_force.specs.Jobs.{is_named, job_named, has_target}
 use Rattle.jobs_in_force.specs.Settings.{settings_of}
 use Rattle.scrape_machine.specs.declared.lives.Life.{Life}
-use Rattle.scrape_machine.specs.declared.lives.Start.{Start}
-use Rattle.scrape_machine.specs.declared.lives.Found.TheVariants.{NotStarted, Cancelled, Counts}
+use Rattle.scrape_machine.specs.declared.lives.StartedScrape.{StartedScrape}
+use Rattle.scrape_machine.specs.declared.lives.TicketState.TheVariants.{NotStarted, Cancelled, Counts}
 use Rattle.scrape_machine.specs.declared.lives.Local.{Local}
 use Rattle.scrape_machine.specs.declared.lives.Local.TheVariants.{Nothing, Scan, Answered, Change, Close}
-use Rattle.scrape_machine.specs.declared.lives.Verdict.TheVariants.{Apart, Same, Other}
+use Rattle.scrape_machine.specs.declared.lives.Difference.TheVariants.{Incompatible, Same, Changed}
 use Rattle.scrape_machine.specs.Lives.{is_open}
-use Rattle.scrape_machine.specs.Machine.{World, new_jobs, job_name, verdict, verdict_on, compared, verdict_local, job_local, reload_local, is_over, found_flight, found_life, found_start, finish_local, live_local, local}
+use Rattle.scrape_machine.specs.Machine.{World, new_jobs, job_name, difference, difference_on, compared, difference_local, job_local, reload_local, is_over, found_flight, found_life, found_start, finish_local, live_local, local}
 use Rattle.scrape_laws.specs.Undisturbed.{has_same_settings, keeps_target, leaves_open, spares, is_awaited_of, live_is_nothing, is_nothing, NothingLaw}
 use Rattle.scrape_laws.proofs.WorldLemmas.{same_some}
 
@@ -53,24 +53,24 @@ unfolding is_same
 same_reaches a b h = and_left (is_compatible a b) _ h
 
 compared_none : (m : ℤ) (before after : InForce) (b q : Bool) → is_compatible before.job.conf after.job.conf ≡ b → is_same before.job.conf after.job.conf ≡ q →
-    is_none (verdict_local m (compared before after)) ≡ q
-compared_none m before after true true c s = ap₂ (λ y z. is_none (verdict_local m (cond y (cond z Same (Other (settings_of after.job))) Apart))) c s
-compared_none m before after true false c s = ap₂ (λ y z. is_none (verdict_local m (cond y (cond z Same (Other (settings_of after.job))) Apart))) c s
+    is_none (difference_local m (compared before after)) ≡ q
+compared_none m before after true true c s = ap₂ (λ y z. is_none (difference_local m (cond y (cond z Same (Changed (settings_of after.job))) Incompatible))) c s
+compared_none m before after true false c s = ap₂ (λ y z. is_none (difference_local m (cond y (cond z Same (Changed (settings_of after.job))) Incompatible))) c s
 compared_none m before after false true c s = absurd (false≢true (sym (same_reaches before.job.conf after.job.conf c) ∙ s))
-compared_none m before after false false c s = ap (λ y. is_none (verdict_local m (cond y (cond (is_same before.job.conf after.job.conf) Same (Other (settings_of after.job))) Apart))) c
+compared_none m before after false false c s = ap (λ y. is_none (difference_local m (cond y (cond (is_same before.job.conf after.job.conf) Same (Changed (settings_of after.job))) Incompatible))) c
 
-verdict_none : (m : ℤ) (o : Option InForce) (after : InForce) → is_none (verdict_local m (verdict_on after o)) ≡ has_same_settings o (Some after)
-verdict_none m None after = refl
-verdict_none m (Some before) after = compared_none m before after (is_compatible before.job.conf after.job.conf) (is_same before.job.conf after.job.conf) refl refl
+difference_none : (m : ℤ) (o : Option InForce) (after : InForce) → is_none (difference_local m (difference_on after o)) ≡ has_same_settings o (Some after)
+difference_none m None after = refl
+difference_none m (Some before) after = compared_none m before after (is_compatible before.job.conf after.job.conf) (is_same before.job.conf after.job.conf) refl refl
 
 job_none : (m : ℤ) (jobs : List InForce) (l : Life) (o : Option InForce) → ((after : InForce) → o ≡ Some after → job_name l ≡ after.job.conf.job_name) →
     is_none (job_local m jobs l o) ≡ (keeps_target l o && has_same_settings (job_named (job_name l) jobs) o)
 job_none m jobs l None h = refl
 job_none m jobs l (Some after) h = by (has_target l.identity after)
   where
-    by : (b : Bool) → is_none (cond b (verdict_local m (verdict jobs after)) (Close m)) ≡ (b && has_same_settings (job_named (job_name l) jobs) (Some after))
+    by : (b : Bool) → is_none (cond b (difference_local m (difference jobs after)) (Close m)) ≡ (b && has_same_settings (job_named (job_name l) jobs) (Some after))
     by true =
-        ap (λ name. is_none (verdict_local m (verdict_on after (job_named name jobs)))) (sym (h after refl)) ∙ verdict_none m (job_named (job_name l) jobs) after
+        ap (λ name. is_none (difference_local m (difference_on after (job_named name jobs)))) (sym (h after refl)) ∙ difference_none m (job_named (job_name l) jobs) after
     by false = refl
 
 reload_none : (m : ℤ) (jobs : List InForce) (o : Option (List InForce)) (l : Life) → is_none (reload_local m jobs o l) ≡ spares jobs o l
@@ -118,7 +118,7 @@ module _ (n k : ℕ) (took : ℤ) (r : Reply) (ls : List Life) (l : Life) (at : 
       ap (λ o. is_none (finish_local n took r (found_life k i o))) (ap (slice_get ls) (eqb-true i n e) ∙ at) ∙ flight_none i l.schedule.flight e
   life_none i false e = other_found i (slice_get ls i) e
 
-  start_none : (o : Option Start) → is_none (finish_local n took r (found_start ls k o)) ≡ not (is_awaited_of n o && is_flight k l.schedule.flight)
+  start_none : (o : Option StartedScrape) → is_none (finish_local n took r (found_start ls k o)) ≡ not (is_awaited_of n o && is_flight k l.schedule.flight)
   start_none None = refl
   start_none (Some s) = by s.finished (eqb s.life n) refl
     where

@@ -14,14 +14,14 @@ use Rattle.life_roll.specs.declared.schedule.Schedule.{Schedule}
 use Rattle.jobs_in_force.specs.declared.jobs.InForce.{InForce}
 use Rattle.jobs_in_force.specs.Jobs.{job_named, has_target}
 use Rattle.scrape_machine.specs.declared.lives.Life.{Life}
-use Rattle.scrape_machine.specs.declared.lives.Found.{Found}
-use Rattle.scrape_machine.specs.declared.lives.Found.TheVariants.{NotStarted, Cancelled, Counts}
+use Rattle.scrape_machine.specs.declared.lives.TicketState.{TicketState}
+use Rattle.scrape_machine.specs.declared.lives.TicketState.TheVariants.{NotStarted, Cancelled, Counts}
 use Rattle.scrape_machine.specs.declared.lives.Local.{Local}
 use Rattle.scrape_machine.specs.declared.lives.Local.TheVariants.{Nothing, Scan, Answered, Close}
-use Rattle.scrape_machine.specs.declared.lives.Verdict.{Verdict}
-use Rattle.scrape_machine.specs.declared.lives.Verdict.TheVariants.{Apart, Same, Other}
+use Rattle.scrape_machine.specs.declared.lives.Difference.{Difference}
+use Rattle.scrape_machine.specs.declared.lives.Difference.TheVariants.{Incompatible, Same, Changed}
 use Rattle.scrape_machine.specs.Lives.{is_open, born, starts, forces, ends_at, scanned_life, with_ending, life_after}
-use Rattle.scrape_machine.specs.Machine.{World, beginning, new_jobs, job_name, verdict, verdict_local, job_local, reload_local, is_over, starts_in, ticket_in_sweep, found, finish_local, live_local, step, run, world_of}
+use Rattle.scrape_machine.specs.Machine.{World, beginning, new_jobs, job_name, difference, difference_local, job_local, reload_local, is_over, starts_in, ticket_in_sweep, found, finish_local, live_local, step, run, world_of}
 use Rattle.scrape_laws.specs.Flights.{since, start_if, start_by, is_finish_of, touches}
 use Rattle.scrape_laws.specs.Undisturbed.{is_awaited_of, is_own_ticket, TicketLaw}
 use Rattle.scrape_laws.proofs.WorldLemmas.{after_local, Stays, follows}
@@ -36,17 +36,17 @@ flies k l = is_flight k l.schedule.flight
 abbrev Keeps : ℕ → Local → Life → Type 0
 Keeps k loc l = flies k (life_after loc l) ≡ true → (flies k l ≡ true) × (stops loc ≡ false)
 
-verdict_keeps : (k : ℕ) (m : ℤ) (v : Verdict) (l : Life) → Keeps k (verdict_local m v) l
-verdict_keeps k m Apart l h = absurd (false≢true h)
-verdict_keeps k m Same l h = (h, refl)
-verdict_keeps k m (Other s) l h = absurd (false≢true h)
+difference_keeps : (k : ℕ) (m : ℤ) (v : Difference) (l : Life) → Keeps k (difference_local m v) l
+difference_keeps k m Incompatible l h = absurd (false≢true h)
+difference_keeps k m Same l h = (h, refl)
+difference_keeps k m (Changed s) l h = absurd (false≢true h)
 
 job_keeps : (k : ℕ) (m : ℤ) (jobs : List InForce) (l : Life) (o : Option InForce) → Keeps k (job_local m jobs l o) l
 job_keeps k m jobs l None h = absurd (false≢true h)
 job_keeps k m jobs l (Some after) h = by (has_target l.identity after) h
   where
-    by : (b : Bool) → Keeps k (cond b (verdict_local m (verdict jobs after)) (Close m)) l
-    by true h = verdict_keeps k m (verdict jobs after) l h
+    by : (b : Bool) → Keeps k (cond b (difference_local m (difference jobs after)) (Close m)) l
+    by true h = difference_keeps k m (difference jobs after) l h
     by false h = absurd (false≢true h)
 
 reload_keeps : (k : ℕ) (m : ℤ) (jobs : List InForce) (o : Option (List InForce)) (l : Life) → Keeps k (reload_local m jobs o l) l
@@ -57,7 +57,7 @@ reload_keeps k m jobs (Some news) l h = by (is_open l) h
     by true h = job_keeps k m jobs l (job_named (job_name l) news) h
     by false h = (h, refl)
 
-finish_keeps : (k n : ℕ) (took : ℤ) (r : Reply) (f : Found) (l : Life) → Keeps k (finish_local n took r f) l
+finish_keeps : (k n : ℕ) (took : ℤ) (r : Reply) (f : TicketState) (l : Life) → Keeps k (finish_local n took r f) l
 finish_keeps k n took r NotStarted l h = (h, refl)
 finish_keeps k n took r Cancelled l h = (h, refl)
 finish_keeps k n took r (Counts i m) l h = by (eqb i n) h

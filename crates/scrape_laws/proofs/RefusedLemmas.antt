@@ -11,8 +11,8 @@ use Rattle.jobs_in_force.specs.declared.jobs.InForce.{InForce}
 use Rattle.jobs_in_force.specs.Jobs.{loaded, updated, Unlisted}
 use Rattle.scrape_machine.specs.declared.answers.Answer.TheVariants.{NoLife, Busy, NotDue, Halted}
 use Rattle.scrape_machine.specs.declared.lives.Life.{Life}
-use Rattle.scrape_machine.specs.declared.lives.Found.{Found}
-use Rattle.scrape_machine.specs.declared.lives.Found.TheVariants.{NotStarted, Cancelled, Counts}
+use Rattle.scrape_machine.specs.declared.lives.TicketState.{TicketState}
+use Rattle.scrape_machine.specs.declared.lives.TicketState.TheVariants.{NotStarted, Cancelled, Counts}
 use Rattle.scrape_machine.specs.declared.lives.Local.TheVariants.{Nothing, Scan}
 use Rattle.scrape_machine.specs.Lives.{is_open}
 use Rattle.scrape_machine.specs.Machine.{World, after_load, after_update, reload_local, is_over, found, finish_local, live_local, local, due_answer, tick_answer, load_answer, update_answer, finish_answer, live_answer, answer, world_of}
@@ -49,7 +49,7 @@ tick_refused w m k n l true e at h =
     (not_due (length w.started) (is_over w.jobs l) (is_open l) (is_some l.schedule.flight) (nat_lt (number m) l.schedule.planned)
     (sym (ap (λ o. is_refusal (tick_answer w.jobs (number m) (length w.started) o)) here) ∙ h))
 
-finish_refused : (w : World) (n : ℕ) (took : ℤ) (r : Reply) (l : Life) (f : Found) → is_refusal (finish_answer w took r f) ≡ true → Still (finish_local n took r f) l
+finish_refused : (w : World) (n : ℕ) (took : ℤ) (r : Reply) (l : Life) (f : TicketState) → is_refusal (finish_answer w took r f) ≡ true → Still (finish_local n took r f) l
 finish_refused w n took r l NotStarted h = nothing_still l
 finish_refused w n took r l Cancelled h = nothing_still l
 finish_refused w n took r l (Counts i m) h = absurd (false≢true h)

@@ -18,7 +18,7 @@ use Rattle.scrape_loop.specs.Tracked.{after_forced}
 use Rattle.scrape_machine.specs.declared.lives.Life.{Life}
 use Rattle.scrape_machine.specs.declared.lives.Local.{Local}
 use Rattle.scrape_machine.specs.declared.lives.Local.TheVariants.{Nothing, Scan, Answered, Change, Close}
-use Rattle.scrape_machine.specs.declared.lives.Start.{Start}
+use Rattle.scrape_machine.specs.declared.lives.StartedScrape.{StartedScrape}
 use Rattle.scrape_machine.specs.Lives.{born, ends_at, forces, life_after, scanned_life, with_ending}
 use Rattle.scrape_machine.specs.Machine.{World, beginning, after_load, after_update, new_jobs, local, lives_from, lives_after, unheld, holds, born_all, births, begun_with, begun, started_by, start_of, starts_in, starts_from, ticked, finished, started_after, or_else, live_step, step, run, world_of}
 use Rattle.scrape_machine.proofs.StepLemmas.{length-lives}
@@ -99,7 +99,7 @@ begun_asked jobs (Finish k took r) ls h = All-nil HasAsked
 begun_asked jobs (Halt m) ls h = All-nil HasAsked
 
 -- a started scrape has one of so many lives
-abbrev pub HasLife : ℕ → Start → Type 0
+abbrev pub HasLife : ℕ → StartedScrape → Type 0
 HasLife count s = s.life < count
 
 one_started : (b : Bool) (n : ℕ) (l : Life) (count : ℕ) → n < count → All (HasLife count) (started_by b n l)
@@ -124,7 +124,7 @@ ticked_started jobs m k ls = by (slice_get ls k) refl
     by None e = All-nil (HasLife (length ls))
     by (Some l) e = one_started (starts_in jobs m l) k l (length ls) (there ls k l e)
 
-set_started : (count : ℕ) (ss : List Start) (k : ℕ) (s : Start) → All (HasLife count) ss → slice_get ss k ≡ Some s → All (HasLife count) (slice_set ss k (record s { finished = true }))
+set_started : (count : ℕ) (ss : List StartedScrape) (k : ℕ) (s : StartedScrape) → All (HasLife count) ss → slice_get ss k ≡ Some s → All (HasLife count) (slice_set ss k (record s { finished = true }))
 set_started count [] k s h e = absurd cc
 set_started count (x ∷ ss) zero s h e =
     let is : x ≡ s = cc in
@@ -133,14 +133,14 @@ set_started count (x ∷ ss) (suc k) s h e =
     All-cons (HasLife count) x (slice_set ss k (record s { finished = true })) (All-head (HasLife count) x ss h)
     (set_started count ss k s (All-tail (HasLife count) x ss h) e)
 
-finished_started : (count : ℕ) (ss : List Start) (k : ℕ) → All (HasLife count) ss → All (HasLife count) (finished (slice_get ss k) ss k)
+finished_started : (count : ℕ) (ss : List StartedScrape) (k : ℕ) → All (HasLife count) ss → All (HasLife count) (finished (slice_get ss k) ss k)
 finished_started count ss k h = by (slice_get ss k) refl
   where
-    by : (o : Option Start) → slice_get ss k ≡ o → All (HasLife count) (finished o ss k)
+    by : (o : Option StartedScrape) → slice_get ss k ≡ o → All (HasLife count) (finished o ss k)
     by None e = h
     by (Some s) e = set_started count ss k s h e
 
-more_lives : (a b : ℕ) → a ≤ b → (ss : List Start) → All (HasLife a) ss → All (HasLife b) ss
+more_lives : (a b : ℕ) → a ≤ b → (ss : List StartedScrape) → All (HasLife a) ss → All (HasLife b) ss
 more_lives a b le ss h = All-weaker (HasLife a) (HasLife b) (λ s k. omega (arith, le, k)) ss h
 
 started_there : (w : World) (e : Event) → All (HasLife (length w.lives)) w.started → All (HasLife (length w.lives)) (started_after w e)

@@ -18,12 +18,12 @@ use Rattle.scrape_loop.specs.Texts.{AreRight, IsRight}
 use Rattle.scrape_loop.specs.Tracked.{after_forced}
 use Rattle.scrape_loop.proofs.RightLemmas.{forced_right, reply_right}
 use Rattle.scrape_machine.specs.declared.lives.Life.{Life}
-use Rattle.scrape_machine.specs.declared.lives.Found.{Found}
-use Rattle.scrape_machine.specs.declared.lives.Found.TheVariants.{NotStarted, Cancelled, Counts}
+use Rattle.scrape_machine.specs.declared.lives.TicketState.{TicketState}
+use Rattle.scrape_machine.specs.declared.lives.TicketState.TheVariants.{NotStarted, Cancelled, Counts}
 use Rattle.scrape_machine.specs.declared.lives.Local.TheVariants.{Nothing, Scan, Answered, Close}
-use Rattle.scrape_machine.specs.declared.lives.Verdict.TheVariants.{Apart, Same, Other}
+use Rattle.scrape_machine.specs.declared.lives.Difference.TheVariants.{Incompatible, Same, Changed}
 use Rattle.scrape_machine.specs.Lives.{is_open, born, forces, ends_at, rules_of, scanned_life, with_ending, counted, changed, closed, life_after, IsRightLife}
-use Rattle.scrape_machine.specs.Machine.{World, beginning, new_jobs, job_name, verdict_on, verdict_local, verdict, job_local, reload_local, is_over, ticket_in_sweep, found, finish_local, live_local, local, lives_from, unheld, born_all, births, begun_with, begun, or_else, live_step, step, run, world_of}
+use Rattle.scrape_machine.specs.Machine.{World, beginning, new_jobs, job_name, difference_on, difference_local, difference, job_local, reload_local, is_over, ticket_in_sweep, found, finish_local, live_local, local, lives_from, unheld, born_all, births, begun_with, begun, or_else, live_step, step, run, world_of}
 use Rattle.scrape_machine.specs.Machine.{name_of}
 use Rattle.scrape_laws.proofs.ConfLemmas.{AreSettled}
 use Rattle.scrape_laws.proofs.JobLemmas.{jobs_in, jobs_settled, none_settled, found_job, IsOfName, each_of_name, JudgeAlike, compatible_alike, alike_then}
@@ -69,7 +69,7 @@ changed_sound m news l j right has same is = record {
 -- a load or an update at m
 module _ (m : ℤ) (jobs news : List InForce) (before : AreSettled (jobs_in jobs)) (now : AreSettled (jobs_in news)) (l : Life) (s : IsSound jobs l) (o : is_open l ≡ true) where
   compared_sound : (old new : InForce) → job_named (job_name l) jobs ≡ Some old → job_named (job_name l) news ≡ Some new →
-      IsSound news (life_after (verdict_local m (verdict_on new (Some old))) l)
+      IsSound news (life_after (difference_local m (difference_on new (Some old))) l)
   compared_sound old new was is = by (is_compatible old.job.conf new.job.conf) (is_same old.job.conf new.job.conf) refl
     where
       p : (job_name l ≡ name_of old) × (old.job.metric_rules ≡ old.job.conf.metric_relabel)
@@ -82,17 +82,17 @@ module _ (m : ℤ) (jobs news : List InForce) (before : AreSettled (jobs_in jobs
       as_new e = alike_then l.settings old.job new.job (subst (AlikeJob l.settings) was (s.alike o)) (compatible_alike old.job new.job p.1 q.1 e)
 
       by : (b c : Bool) → is_compatible old.job.conf new.job.conf ≡ b →
-          IsSound news (life_after (verdict_local m (cond b (cond c Same (Other (settings_of new.job))) Apart)) l)
+          IsSound news (life_after (difference_local m (cond b (cond c Same (Changed (settings_of new.job))) Incompatible)) l)
       by true true e = record { right = s.right; extra = s.extra; alike = λ h. subst (AlikeJob l.settings) (sym is) (as_new e) }
       by true false e = changed_sound m news l new s.right s.extra (as_new e) (ap (λ (n : List ℕ). job_named n news) (sym q.0) ∙ is)
       by false c e = closed_sound m news l s.right s.extra
 
-  verdict_sound : (new : InForce) → job_named (job_name l) news ≡ Some new → IsSound news (life_after (verdict_local m (verdict jobs new)) l)
-  verdict_sound new is =
-      subst (λ (n : List ℕ). IsSound news (life_after (verdict_local m (verdict_on new (job_named n jobs))) l)) (found_job (job_name l) news new is now.built).0
+  difference_sound : (new : InForce) → job_named (job_name l) news ≡ Some new → IsSound news (life_after (difference_local m (difference jobs new)) l)
+  difference_sound new is =
+      subst (λ (n : List ℕ). IsSound news (life_after (difference_local m (difference_on new (job_named n jobs))) l)) (found_job (job_name l) news new is now.built).0
       (by (job_named (job_name l) jobs) refl)
     where
-      by : (p : Option InForce) → job_named (job_name l) jobs ≡ p → IsSound news (life_after (verdict_local m (verdict_on new p)) l)
+      by : (p : Option InForce) → job_named (job_name l) jobs ≡ p → IsSound news (life_after (difference_local m (difference_on new p)) l)
       by None was = closed_sound m news l s.right s.extra
       by (Some old) was = compared_sound old new was is
 
@@ -100,8 +100,8 @@ module _ (m : ℤ) (jobs news : List InForce) (before : AreSettled (jobs_in jobs
   job_sound None is = closed_sound m news l s.right s.extra
   job_sound (Some new) is = by (has_target l.identity new)
     where
-      by : (b : Bool) → IsSound news (life_after (cond b (verdict_local m (verdict jobs new)) (Close m)) l)
-      by true = verdict_sound new is
+      by : (b : Bool) → IsSound news (life_after (cond b (difference_local m (difference jobs new)) (Close m)) l)
+      by true = difference_sound new is
       by false = closed_sound m news l s.right s.extra
 
 reload_sound : (m : ℤ) (jobs : List InForce) (p : Option (List InForce)) (l : Life) → AreSettled (jobs_in jobs) → AreSettled (jobs_in (or_else p jobs)) → IsSound jobs l →
@@ -129,7 +129,7 @@ scan_sound jobs m k over l (Some c) s = by (ends_at (number m) c l)
     by false = s
 
 -- a finish
-finish_sound : (jobs : List InForce) (n : ℕ) (took : ℤ) (r : Reply) (f : Found) (l : Life) → IsSound jobs l → IsSound jobs (life_after (finish_local n took r f) l)
+finish_sound : (jobs : List InForce) (n : ℕ) (took : ℤ) (r : Reply) (f : TicketState) (l : Life) → IsSound jobs l → IsSound jobs (life_after (finish_local n took r f) l)
 finish_sound jobs n took r NotStarted l s = s
 finish_sound jobs n took r Cancelled l s = s
 finish_sound jobs n took r (Counts k m) l s = by (eqb k n)

@@ -44,7 +44,7 @@ unfolding born
 fresh_goes n x w e l f =
     subst (λ (z : Life). GoesAt n x [] [] w e None (Some z)) (sym f.3)
     (record {
-      knows = record { named = refl; tracked = λ h. refl; before = λ h. refl; known = λ h. refl; scraped = refl; quiet = λ h. refl; ended = λ h. refl };
+      knows = record { named = refl; tracked = λ h. refl; before = λ h. refl; known = λ h. refl; scraped = refl; up = refl; quiet = λ h. refl; ended = λ h. refl };
       tells = refl;
       reports = refl;
     })
@@ -114,7 +114,7 @@ run_knows n x (e ∷ es) w ss k =
 pub past_law : (journal : List Event) → PastLaw journal
 past_law journal n l at =
     let k : Knows n [] (scrapes_of n journal) l = subst (KnowsAt n [] (scrapes_of n journal)) at (run_knows n [] journal beginning [] refl) in
-    (k.scraped, λ h. record { tracked = k.before h; known = k.known h })
+    (k.scraped, λ h. record { tracked = k.before h; known = k.known h; up = k.up })
 
 pub marker_law : (journal : List Event) → MarkerLaw journal
 marker_law journal n x = sym ((run_goes n x journal beginning [] tt refl).tells)

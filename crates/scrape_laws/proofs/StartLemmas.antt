@@ -13,7 +13,7 @@ use Rattle.life_roll.specs.declared.schedule.Schedule.{Schedule}
 use Rattle.jobs_in_force.specs.declared.jobs.InForce.{InForce}
 use Rattle.scrape_machine.specs.declared.answers.Answer.TheVariants.{Halted}
 use Rattle.scrape_machine.specs.declared.lives.Life.{Life}
-use Rattle.scrape_machine.specs.declared.lives.Found.TheVariants.{NotStarted, Cancelled, Counts}
+use Rattle.scrape_machine.specs.declared.lives.TicketState.TheVariants.{NotStarted, Cancelled, Counts}
 use Rattle.scrape_machine.specs.declared.lives.Local.TheVariants.{Nothing, Scan}
 use Rattle.scrape_machine.specs.Lives.{is_open, starts, forces, scanned_life, life_after}
 use Rattle.scrape_machine.specs.Machine.{World, is_over, starts_in, ticket_in_sweep, found, finish_answer, live_local, local, started_by, start_of, starts_from, ticked, started_after, live_step, step, run, live_answer, answer}

@@ -8,8 +8,8 @@ use Rattle.journal_text.specs.Lines.{number}
 use Rattle.life_roll.specs.declared.schedule.InFlight.{InFlight}
 use Rattle.jobs_in_force.specs.declared.jobs.InForce.{InForce}
 use Rattle.scrape_machine.specs.declared.lives.Life.{Life}
-use Rattle.scrape_machine.specs.declared.lives.Start.{Start}
-use Rattle.scrape_machine.specs.declared.lives.Found.TheVariants.{NotStarted}
+use Rattle.scrape_machine.specs.declared.lives.StartedScrape.{StartedScrape}
+use Rattle.scrape_machine.specs.declared.lives.TicketState.TheVariants.{NotStarted}
 use Rattle.scrape_machine.specs.Machine.{World, beginning, starts_in, ticket_in_sweep, found_start, started_by, starts_from, ticked, finished, started_after, live_step, step, run, world_of}
 use Rattle.scrape_laws.specs.Flights.{start_if, Starts, IsStarted, UnstartedLaw}
 
@@ -21,7 +21,7 @@ set_some (x ∷ xs) zero (suc k) a = refl
 set_some (x ∷ xs) (suc j) zero a = refl
 set_some (x ∷ xs) (suc j) (suc k) a = set_some xs j k a
 
-finished_some : (o : Option Start) (ss : List Start) (j k : ℕ) → is_some (slice_get (finished o ss j) k) ≡ is_some (slice_get ss k)
+finished_some : (o : Option StartedScrape) (ss : List StartedScrape) (j k : ℕ) → is_some (slice_get (finished o ss j) k) ≡ is_some (slice_get ss k)
 finished_some None ss j k = refl
 finished_some (Some s) ss j k = set_some ss j k (record s { finished = true })
 
@@ -111,7 +111,7 @@ tick_new w m j k (Some l) h at b = by (starts_in w.jobs (number m) l) refl b
           };
         }
 
-new_or_old : {P : Type 0} (xs ys : List Start) (k : ℕ) → (Behind xs ys k → P) → is_some (slice_get (xs ++ ys) k) ≡ true → (is_some (slice_get xs k) ≡ true) ⊎ P
+new_or_old : {P : Type 0} (xs ys : List StartedScrape) (k : ℕ) → (Behind xs ys k → P) → is_some (slice_get (xs ++ ys) k) ≡ true → (is_some (slice_get xs k) ≡ true) ⊎ P
 new_or_old {P} xs ys k f h = of (append_some xs ys k h)
   where
     of : (is_some (slice_get xs k) ≡ true) ⊎ Behind xs ys k → (is_some (slice_get xs k) ≡ true) ⊎ P
@@ -173,6 +173,6 @@ started_before journal k s = of (run_new journal beginning k s)
 pub unstarted_law : (journal : List Event) → UnstartedLaw journal
 unstarted_law journal k no_start = by (slice_get (world_of journal).started k) refl
   where
-    by : (o : Option Start) → slice_get (world_of journal).started k ≡ o → found_start (world_of journal).lives k o ≡ NotStarted
+    by : (o : Option StartedScrape) → slice_get (world_of journal).started k ≡ o → found_start (world_of journal).lives k o ≡ NotStarted
     by None h = refl
     by (Some s) h = absurd (no_start (started_before journal k (ap is_some h)))

@@ -7,13 +7,8 @@ use Rattle.sample_rows.specs.declared.scrape.Scrape.TheVariants.{Good, Bad}
 use Rattle.scrape_loop.specs.Tracked.{all_sets, is_good, known_after, tracked_sets}
 use Rattle.scrape_laws.specs.Scrapes.{LifeScrape, tracks}
 use Rattle.scrape_laws.specs.Markers.{samples, mark_if, told}
-use Rattle.scrape_laws.specs.Past.{tracked_by, known_by}
+use Rattle.scrape_laws.specs.Past.{tracked_by, known_by, ends_with}
 use Rattle.scrape_laws.specs.Runs.{is_any}
-
--- the last of the scrapes passes the test, or there is none and b
-abbrev pub ends_with : (LifeScrape → Bool) → Bool → List LifeScrape → Bool
-ends_with p b [] = b
-ends_with p b (s ∷ ss) = ends_with p (p s) ss
 
 pub ends_with_push : (p : LifeScrape → Bool) (b : Bool) (ss : List LifeScrape) (s : LifeScrape) → ends_with p b (ss ++ s ∷ []) ≡ p s
 ends_with_push p b [] s = refl

@@ -18,15 +18,15 @@ use Rattle.scrape_loop.specs.Tracked.{after_forced}
 use Rattle.report_samples.specs.declared.entries.Entry.{Entry}
 use Rattle.sample_rows.specs.Outcomes.{forced}
 use Rattle.scrape_machine.specs.declared.lives.Life.{Life}
-use Rattle.scrape_machine.specs.declared.lives.Start.{Start}
-use Rattle.scrape_machine.specs.declared.lives.Found.{Found}
-use Rattle.scrape_machine.specs.declared.lives.Found.TheVariants.{NotStarted, Cancelled, Counts}
+use Rattle.scrape_machine.specs.declared.lives.StartedScrape.{StartedScrape}
+use Rattle.scrape_machine.specs.declared.lives.TicketState.{TicketState}
+use Rattle.scrape_machine.specs.declared.lives.TicketState.TheVariants.{NotStarted, Cancelled, Counts}
 use Rattle.scrape_machine.specs.declared.lives.Local.{Local}
 use Rattle.scrape_machine.specs.declared.lives.Local.TheVariants.{Nothing, Scan, Answered, Change, Close}
-use Rattle.scrape_machine.specs.declared.lives.Verdict.{Verdict}
-use Rattle.scrape_machine.specs.declared.lives.Verdict.TheVariants.{Apart, Same, Other}
+use Rattle.scrape_machine.specs.declared.lives.Difference.{Difference}
+use Rattle.scrape_machine.specs.declared.lives.Difference.TheVariants.{Incompatible, Same, Changed}
 use Rattle.scrape_machine.specs.Lives.{is_open, born, forces, ends_at, outcome_for, scanned_life, with_ending, life_after, life_gives}
-use Rattle.scrape_machine.specs.Machine.{World, new_jobs, job_name, verdict, verdict_local, job_local, reload_local, is_over, found_flight, found_life, found_start, found, finish_local, live_local, local, lives_from, gives_from, unheld, born_all, births, begun_with, begun, live_step, step, gives}
+use Rattle.scrape_machine.specs.Machine.{World, new_jobs, job_name, difference, difference_local, job_local, reload_local, is_over, found_flight, found_life, found_start, found, finish_local, live_local, local, lives_from, gives_from, unheld, born_all, births, begun_with, begun, live_step, step, gives}
 use Rattle.scrape_laws.specs.Scrapes.{LifeScrape, counting, forcing, live_scrape, scrape_at}
 use Rattle.scrape_laws.proofs.LifeLemmas.{Fits, flight_scrape, act_scrape, closed_forces, other_life}
 use Rattle.scrape_laws.proofs.EntryLemmas.{Skips}
@@ -61,7 +61,7 @@ life_found k i n m (Some l) h =
     let q = flight_found k i n m l.schedule.flight h in
     (q.0, (l, refl, record { flight = q.1.0; is = q.1.1; ticket = q.1.2; since = q.1.3 }))
 
-start_found : (ls : List Life) (k n : ℕ) (m : ℤ) (l : Life) (o : Option Start) → found_start ls k o ≡ Counts n m → slice_get ls n ≡ Some l → Flies l k m
+start_found : (ls : List Life) (k n : ℕ) (m : ℤ) (l : Life) (o : Option StartedScrape) → found_start ls k o ≡ Counts n m → slice_get ls n ≡ Some l → Flies l k m
 start_found ls k n m l None h at = absurd (cc)
 start_found ls k n m l (Some s) h at = by s.finished h
   where
@@ -83,17 +83,17 @@ pub record Suits (sc : List LifeScrape) (loc : Local) (l : Life) : Type 0 where
 nothing_suits : (l : Life) → Suits [] Nothing l
 nothing_suits l = record { fits = tt; same = refl }
 
-verdict_suits : (m : ℤ) (l : Life) (v : Verdict) → is_open l ≡ true → Suits [] (verdict_local m v) l
-verdict_suits m l Apart o = record { fits = o; same = refl }
-verdict_suits m l Same o = nothing_suits l
-verdict_suits m l (Other s) o = record { fits = o; same = refl }
+difference_suits : (m : ℤ) (l : Life) (v : Difference) → is_open l ≡ true → Suits [] (difference_local m v) l
+difference_suits m l Incompatible o = record { fits = o; same = refl }
+difference_suits m l Same o = nothing_suits l
+difference_suits m l (Changed s) o = record { fits = o; same = refl }
 
 job_suits : (m : ℤ) (jobs : List InForce) (l : Life) (o : Option InForce) → is_open l ≡ true → Suits [] (job_local m jobs l o) l
 job_suits m jobs l None o = record { fits = o; same = refl }
 job_suits m jobs l (Some after) o = by (has_target l.identity after)
   where
-    by : (b : Bool) → Suits [] (cond b (verdict_local m (verdict jobs after)) (Close m)) l
-    by true = verdict_suits m l (verdict jobs after) o
+    by : (b : Bool) → Suits [] (cond b (difference_local m (difference jobs after)) (Close m)) l
+    by true = difference_suits m l (difference jobs after) o
     by false = record { fits = o; same = refl }
 
 reload_suits : (m : ℤ) (jobs : List InForce) (o : Option (List InForce)) (l : Life) → Suits [] (reload_local m jobs o l) l
@@ -111,7 +111,7 @@ tick_suits jobs m k l true false e =
     record { fits = tt; same = ap (λ z. cond z (record { moment = m; outcome = forced } ∷ []) []) (closed_forces (number m) (is_over jobs l) l e) }
 tick_suits jobs m k l false q e = nothing_suits l
 
-finish_suits : (w : World) (k n : ℕ) (took : ℤ) (r : Reply) (l : Life) (f : Found) → found w k ≡ f → slice_get w.lives n ≡ Some l →
+finish_suits : (w : World) (k n : ℕ) (took : ℤ) (r : Reply) (l : Life) (f : TicketState) → found w k ≡ f → slice_get w.lives n ≡ Some l →
     Suits (counting n l took r f) (finish_local n took r f) l
 finish_suits w k n took r l NotStarted e at = nothing_suits l
 finish_suits w k n took r l Cancelled e at = nothing_suits l

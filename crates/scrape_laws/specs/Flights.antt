@@ -8,13 +8,13 @@ use Rattle.life_roll.specs.declared.schedule.InFlight.{InFlight}
 use Rattle.jobs_in_force.specs.declared.jobs.InForce.{InForce}
 use Rattle.jobs_in_force.specs.Jobs.{job_named, has_target}
 use Rattle.scrape_machine.specs.declared.lives.Life.{Life}
-use Rattle.scrape_machine.specs.declared.lives.Start.{Start}
-use Rattle.scrape_machine.specs.declared.lives.Found.{Found}
-use Rattle.scrape_machine.specs.declared.lives.Found.TheVariants.{NotStarted, Cancelled, Counts}
-use Rattle.scrape_machine.specs.declared.lives.Verdict.{Verdict}
-use Rattle.scrape_machine.specs.declared.lives.Verdict.TheVariants.{Apart, Same, Other}
+use Rattle.scrape_machine.specs.declared.lives.StartedScrape.{StartedScrape}
+use Rattle.scrape_machine.specs.declared.lives.TicketState.{TicketState}
+use Rattle.scrape_machine.specs.declared.lives.TicketState.TheVariants.{NotStarted, Cancelled, Counts}
+use Rattle.scrape_machine.specs.declared.lives.Difference.{Difference}
+use Rattle.scrape_machine.specs.declared.lives.Difference.TheVariants.{Incompatible, Same, Changed}
 use Rattle.scrape_machine.specs.Lives.{is_open}
-use Rattle.scrape_machine.specs.Machine.{World, new_jobs, job_name, verdict, starts_in, ticket_in_sweep, found, finish_answer, step, run, world_of, answer}
+use Rattle.scrape_machine.specs.Machine.{World, new_jobs, job_name, difference, starts_in, ticket_in_sweep, found, finish_answer, step, run, world_of, answer}
 
 -- since when the flight has ticket k, if it has
 abbrev pub since : ℕ → Option InFlight → Option ℤ
@@ -60,15 +60,15 @@ is_finish_of k (Finish j took r) = j == k
 is_finish_of k (Halt m) = false
 
 -- the settings of a job are the same as before
-abbrev pub is_same_verdict : Verdict → Bool
-is_same_verdict Apart = false
-is_same_verdict Same = true
-is_same_verdict (Other s) = false
+abbrev pub is_unchanged : Difference → Bool
+is_unchanged Incompatible = false
+is_unchanged Same = true
+is_unchanged (Changed s) = false
 
 -- the job of a new configuration, if there is one, leaves a life as it is: it has the life's target, and the settings are as before
 abbrev pub leaves_by : List InForce → Life → Option InForce → Bool
 leaves_by jobs l None = false
-leaves_by jobs l (Some after) = has_target l.identity after && is_same_verdict (verdict jobs after)
+leaves_by jobs l (Some after) = has_target l.identity after && is_unchanged (difference jobs after)
 
 -- a new configuration leaves a life as it is, by its job of the same name
 abbrev pub leaves : List InForce → List InForce → Life → Bool
@@ -102,14 +102,14 @@ has_finish w k (e ∷ es) = (not w.halted && is_finish_of k e) || has_finish (st
 -- it is its life's, and had its finish from the first finish after its start
 pub record FlightLaw (w : World) (e : Event) (n : ℕ) (f : InFlight) (es : List Event) : Type 0 where
   pub flight : in_flight_since (run (step w e) es) n f.ticket ≡ (if stays (step w e) n f.ticket es then Some f.moment else None)
-  pub ticket : Start
+  pub ticket : StartedScrape
   pub is_ticket : slice_get (run (step w e) es).started f.ticket ≡ Some ticket
   pub of_life : ticket.life ≡ n
   pub finished : ticket.finished ≡ has_finish (step w e) f.ticket es
 
 -- what a finish of scrape f of life n finds, after the events es that followed its start: no ticket after an earlier finish, its life's scrape where
 -- none of them ended its flight, else a scrape that was cancelled
-abbrev pub finish_found : World → ℕ → InFlight → List Event → Found
+abbrev pub finish_found : World → ℕ → InFlight → List Event → TicketState
 finish_found w n f es = if has_finish w f.ticket es then NotStarted else if stays w n f.ticket es then Counts n f.moment else Cancelled
 
 -- a finish counts, is late or has no ticket by what stands between the start of its scrape and it

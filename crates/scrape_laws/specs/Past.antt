@@ -1,5 +1,5 @@
 -- The past law: what a life keeps from one scrape to the next, in words of the scrapes that counted before.
-use Rattle.std.specs.Prelude.{◌≡◌, ℕ, false, List, [], ◌∷◌, slice_get, Some, if◌then◌else◌}
+use Rattle.std.specs.Prelude.{◌≡◌, ℕ, Bool, false, List, [], ◌∷◌, slice_get, Some, if◌then◌else◌}
 use Rattle.label_set.specs.declared.texts.Pair.{Pair}
 use Rattle.journal_text.specs.declared.events.Event.{Event}
 use Rattle.scrape_loop.specs.Tracked.{all_sets, is_good, tracked_sets}
@@ -18,10 +18,19 @@ abbrev pub known_by : List (List Pair) → List LifeScrape → List (List Pair)
 known_by xs [] = xs
 known_by xs (s ∷ ss) = known_by (if is_good s.outcome then all_sets s.outcome else xs) ss
 
--- a life tracks what the last of these scrapes tracks, and knows all sets of the last good one
+-- the last of some passes a test, or there is none and b
+abbrev pub ends_with : (LifeScrape → Bool) → Bool → List LifeScrape → Bool
+ends_with p b [] = b
+ends_with p b (s ∷ ss) = ends_with p (p s) ss
+
+abbrev pub was_good : LifeScrape → Bool
+was_good s = is_good s.outcome
+
+-- a life tracks what the last of these scrapes tracks, knows all sets of the last good one, and whether the last was good
 pub record IsPast (l : Life) (scrapes : List LifeScrape) : Type 0 where
   pub tracked : l.state.tracked ≡ tracked_by [] scrapes
   pub known : l.state.known ≡ known_by [] scrapes
+  pub up : l.state.up ≡ ends_with was_good false scrapes
 
 -- each life of a journal does so until its ending was taken, and knows whether a scrape of it counted
 abbrev pub PastLaw : List Event → Type 0

@@ -15,8 +15,8 @@ use Rattle.sample_rows.specs.declared.scrape.Scrape.{Scrape}
 use Rattle.scrape_loop.specs.Tracked.{samples_of}
 use Rattle.jobs_in_force.specs.declared.jobs.InForce.{InForce}
 use Rattle.scrape_machine.specs.declared.lives.Life.{Life}
-use Rattle.scrape_machine.specs.declared.lives.Found.{Found}
-use Rattle.scrape_machine.specs.declared.lives.Found.TheVariants.{NotStarted, Cancelled, Counts}
+use Rattle.scrape_machine.specs.declared.lives.TicketState.{TicketState}
+use Rattle.scrape_machine.specs.declared.lives.TicketState.TheVariants.{NotStarted, Cancelled, Counts}
 use Rattle.scrape_machine.specs.Lives.{outcome_for}
 use Rattle.scrape_machine.specs.Machine.{World, beginning, forces_in, found, step}
 
@@ -39,7 +39,7 @@ abbrev pub tracks : List Pair → LifeScrape → Bool
 tracks x s = list_any (λ (r : Sample). r.tracked && is_sample_of x r) (samples_of s.outcome)
 
 -- the scrape of life n that a finish makes count, by what it finds: the one that the life has in flight, at the moment of its start
-abbrev pub counting : ℕ → Life → ℤ → Reply → Found → List LifeScrape
+abbrev pub counting : ℕ → Life → ℤ → Reply → TicketState → List LifeScrape
 counting n l took r NotStarted = []
 counting n l took r Cancelled = []
 counting n l took r (Counts k m) = if k == n then record { moment = m; outcome = outcome_for l took r } ∷ [] else []

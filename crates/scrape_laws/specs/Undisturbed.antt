@@ -11,7 +11,7 @@ use Rattle.life_roll.specs.Schedules.{is_due}
 use Rattle.jobs_in_force.specs.declared.jobs.InForce.{InForce}
 use Rattle.jobs_in_force.specs.Jobs.{job_named, has_target}
 use Rattle.scrape_machine.specs.declared.lives.Life.{Life}
-use Rattle.scrape_machine.specs.declared.lives.Start.{Start}
+use Rattle.scrape_machine.specs.declared.lives.StartedScrape.{StartedScrape}
 use Rattle.scrape_machine.specs.declared.lives.Local.TheVariants.{Nothing}
 use Rattle.scrape_machine.specs.declared.answers.Answer.{Answer}
 use Rattle.scrape_machine.specs.declared.answers.Answer.TheVariants.{Loaded, Updated, Refused, NoJob, NoFile, Started, Forced, NotDue, Busy, NoLife, Swept, Counted, Late, NoTicket, Halted}
@@ -39,7 +39,7 @@ spares jobs None l = true
 spares jobs (Some news) l = not (is_open l) || leaves_open jobs news l
 
 -- a scrape was started of life n, and hasn't had its finish
-abbrev pub is_awaited_of : ℕ → Option Start → Bool
+abbrev pub is_awaited_of : ℕ → Option StartedScrape → Bool
 is_awaited_of n None = false
 is_awaited_of n (Some s) = (s.life == n) && not s.finished
 

@@ -12,7 +12,7 @@ use Rattle.sample_rows.specs.Outcomes.{rows_or_fault}
 use Rattle.sample_rows.specs.Rows.{is_tracked, row_series}
 use Rattle.sample_rows.specs.declared.fault.ScrapeFault.{ScrapeFault}
 use Rattle.sample_rows.specs.declared.scrape.RowRules.{RowRules}
-use Rattle.scrape_loop.specs.declared.known_rows.Terms.{Terms}
+use Rattle.scrape_loop.specs.declared.known_rows.ScrapeRules.{ScrapeRules}
 use Rattle.series_cache.specs.Caches.{CacheView, find, stamped, undone}
 use Rattle.series_cache.specs.Remembered.{fresh}
 use Rattle.series_cache.specs.declared.known.Known.{Known}
@@ -59,7 +59,7 @@ texts_by rules metric target c (Ok rows) = shown_all rules metric target c rows
 texts_by rules metric target c (Err f) = c
 
 -- so for a reply by the terms of its target, and the milliseconds that the fetch took
-abbrev pub texts_shown : Terms → Reply → ℤ → CacheView → CacheView
+abbrev pub texts_shown : ScrapeRules → Reply → ℤ → CacheView → CacheView
 texts_shown t reply took c = texts_by t.rules.now t.metric.now t.target.now c (rows_or_fault t.rules.now reply took)
 
 -- what is known of a text is the series of each row that has the text

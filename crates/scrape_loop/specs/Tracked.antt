@@ -1,7 +1,7 @@
 -- The sets of a scrape, and what it leaves to the life that it is of ("Staleness" of the Prometheus documentation: a series that is no longer
 -- present ends, and one whose samples have timestamps of their own isn't marked, unless the job tracks it; "Configuration", scrape_config:
 -- honor_timestamps, track_timestamps_staleness).
-use Rattle.std.specs.Prelude.{ℕ, ℤ, ◌-◌, Bool, true, false, List, [], map, filter, length, Option, Some, None}
+use Rattle.std.specs.Prelude.{ℕ, ℤ, ◌-◌, Bool, true, false, List, [], map, filter, length, Option, Some, None, if◌then◌else◌}
 use Rattle.label_set.specs.declared.texts.Pair.{Pair}
 use Rattle.outside.specs.declared.replies.Reply.{Reply}
 use Rattle.rule_conf.specs.declared.conf.RuleConf.{RuleConf}
@@ -14,9 +14,12 @@ use Rattle.sample_rows.specs.Outcomes.{outcome, forced, rows_or_fault}
 use Rattle.series_cache.specs.Caches.{CacheView, kept_sets, turned, was_sets}
 use Rattle.series_cache.specs.Sets.{rising}
 use Rattle.scrape_loop.specs.Texts.{no_texts, texts_by}
+use Rattle.scrape_loop.specs.declared.health.Health.{Health}
+use Rattle.scrape_loop.specs.declared.health.Health.TheVariants.{Unknown, Up, Down}
 
 -- what contracts see of a life's state: its number, its target's labels, whether it has the extra reports, the sets that its last counted scrape tracked,
--- all sets of its last good one, what is known of the raw texts of that one, and whether a scrape of it counted, a forced one too
+-- all sets of its last good one, what is known of the raw texts of that one, whether a scrape of it counted, a forced one too, and whether the last
+-- of these was good
 pub record LifeView : Type 0 where
   pub life : ℕ
   pub target : List Pair
@@ -25,6 +28,7 @@ pub record LifeView : Type 0 where
   pub known : List (List Pair)
   pub cache : CacheView
   pub scraped : Bool
+  pub up : Bool
 
 -- the fault, where the scrape isn't good
 abbrev pub fault_of : Scrape → Option ScrapeFault
@@ -73,10 +77,10 @@ known_after known (Good rows scraped) = all_sets (Good rows scraped)
 known_after known (Bad f scraped left) = known
 
 -- the state of a life by its number, its target's labels, whether it has the extra reports, what is known of raw
--- texts, and whether a scrape of it counted: the texts tell the sets that its last counted scrape tracked, and all
--- sets of its last good one
-abbrev pub life_of : ℕ → List Pair → Bool → CacheView → Bool → LifeView
-life_of life target extra c scraped =
+-- texts, whether a scrape of it counted, and whether the last was good: the texts tell the sets that its last counted
+-- scrape tracked, and all sets of its last good one
+abbrev pub life_of : ℕ → List Pair → Bool → CacheView → Bool → Bool → LifeView
+life_of life target extra c scraped up =
     record {
       life = life;
       target = target;
@@ -85,19 +89,25 @@ life_of life target extra c scraped =
       known = rising (kept_sets c);
       cache = c;
       scraped = scraped;
+      up = up;
     }
 
 -- the state of a life of which nothing was scraped yet
 abbrev pub fresh : ℕ → List Pair → Bool → LifeView
-fresh life target extra = record { life = life; target = target; extra = extra; tracked = []; known = []; cache = no_texts; scraped = false }
+fresh life target extra = record { life = life; target = target; extra = extra; tracked = []; known = []; cache = no_texts; scraped = false; up = false }
 
--- the state of a life whose ending was taken: nothing is known of raw texts any more, and so of no sets; whether a scrape of it counted stays
+-- the state of a life whose ending was taken: nothing is known of raw texts any more, and so of no sets; whether a scrape of it counted stays, and
+-- whether the last was good
 abbrev pub released : LifeView → LifeView
 released l = record l { tracked = []; known = []; cache = no_texts }
 
 -- the state after a scrape that counts, good or bad: it tracks what that scrape tracks
 abbrev pub after_scrape : LifeView → Scrape → LifeView
-after_scrape l s = record l { tracked = tracked_sets s; known = known_after l.known s; scraped = true }
+after_scrape l s = record l { tracked = tracked_sets s; known = known_after l.known s; scraped = true; up = is_good s }
+
+-- how the target of a life is, by the last scrape that counted
+abbrev pub health_of : LifeView → Health
+health_of l = if l.scraped then (if l.up then Up else Down) else Unknown
 
 -- the state after a forced scrape: it tracks nothing, and what is known of raw texts stays
 abbrev pub after_forced : LifeView → LifeView

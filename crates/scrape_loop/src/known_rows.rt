@@ -24,7 +24,7 @@ use std::sync::ledger::Ledger;
 
 /// What the rows of a reply go by: the settings of the job, its rules for samples, and the labels of the target.
 #[derive(Clone, Copy)]
-pub struct Terms<'a> {
+pub struct ScrapeRules<'a> {
     pub rules: &'a RowRules,
     pub metric: &'a Rules,
     pub target: &'a LabelSet,
@@ -136,7 +136,7 @@ fn hint_at(places: &[u32], row: usize) -> usize {
 /// Where memory runs out, what was put and shown can be taken back.
 fn sift_known<L: Ledger>(
     alloc: Global,
-    terms: &Terms<'_>,
+    terms: &ScrapeRules<'_>,
     body: &ReadBody,
     places: &[u32],
     cache: &mut SeriesCache,
@@ -173,7 +173,7 @@ fn sift_known<L: Ledger>(
 /// What a scrape comes to by the body of its reply, which is looked at; the texts of its rows are shown.
 fn of_page<L: Ledger>(
     alloc: Global,
-    terms: &Terms<'_>,
+    terms: &ScrapeRules<'_>,
     reply: &ReadReply,
     cache: &mut SeriesCache,
     steps: &mut Steps<L>,
@@ -219,7 +219,7 @@ fn of_page<L: Ledger>(
 #[tactic(auto, unfolding(sample_rows::specs::Outcomes::outcome))]
 fn known_rows<L: Ledger>(
     alloc: Global,
-    terms: &Terms<'_>,
+    terms: &ScrapeRules<'_>,
     reply: &ReadReply,
     took: i64,
     cache: &mut SeriesCache,
@@ -247,7 +247,7 @@ fn known_rows<L: Ledger>(
 /// Only want of memory refuses; the cache is then as before.
 pub fn shown_rows<L: Ledger>(
     alloc: Global,
-    terms: &Terms<'_>,
+    terms: &ScrapeRules<'_>,
     reply: &ReadReply,
     took: i64,
     cache: &mut SeriesCache,

@@ -3,14 +3,16 @@
 //! A raw text that the last good scrape showed costs no relabelling: its series is known.
 //! A scrape is counted by its reply, whose body is read before.
 //! Contracts see a life's state as the record of its number, its target's labels, the sets that its last counted scrape tracked, all sets of its last
-//! good one, what is known of its raw texts, and whether a scrape of it counted; `specs/Tracked.antt` says what a
+//! good one, what is known of its raw texts, whether a scrape of it counted, and whether the last was good; `specs/Tracked.antt` says what a
 //! scrape makes of it, `specs/Texts.antt` what its rows show of raw texts, `specs/Shown.antt` what those tell of its
 //! sets, `specs/Entries.antt` which entries it appends, and `specs/Closings.antt` what a life leaves behind when it
 //! is closed.
 //! Tests: `tests_deciding::scrapes`; cases: `scrape_cases::{scripts, texts}`.
 #![tactic(auto)]
 
+pub mod health;
 mod known_rows;
+mod last_texts;
 pub mod life_state;
 mod past;
 pub mod read_reply;
@@ -18,5 +20,6 @@ mod scrape_entries;
 mod scrape_parts;
 mod target_labels;
 
+pub use health::Health;
 pub use life_state::{Counted, LifeState};
 pub use read_reply::ReadReply;

@@ -13,13 +13,14 @@ ghost use Rattle.scrape_loop.specs.Tracked as spec;
 ghost use Rattle.series_cache.specs.Caches.{turned};
 ghost use Rattle.series_cache.specs.Sets.{IsRising};
 
-use crate::known_rows::{Settled, Terms, shown_rows};
+use crate::health::Health;
+use crate::known_rows::{ScrapeRules, Settled, shown_rows};
+use crate::last_texts::{LastTexts, form_after};
 use crate::past::Past;
 use crate::read_reply::ReadReply;
 use crate::scrape_parts::{extra_in, fault_in, size_in};
 use crate::target_labels::TargetLabels;
 use appender_book::Book;
-use expo_reader::RawTexts;
 use label_set::{Form, LabelSet, NoMemory, Steps};
 use outside::Reply;
 use relabel::Rules;
@@ -58,52 +59,9 @@ impl Model for LifeState {
 
     ghost Value = { LifeView };
 
-    ghost view = { λ s. life_of s.past.life s.past.target s.past.extra s.cache s.past.scraped };
+    ghost view = { λ s. life_of s.past.life s.past.target s.past.extra s.cache s.past.scraped s.past.up };
 
     ghost invariant = { λ s. IsAtRest s.cache × AreRaw s.form s.cache };
-}
-
-/// The raw texts of the last good scrape of a life, all of one form.
-#[derive(Drop)]
-struct LastTexts<'a> {
-    cache: &'a SeriesCache,
-    form: Form,
-}
-
-impl<'a> Model for LastTexts<'a> {
-    ghost use Rattle.label_set.specs.declared.forms.Form.{Form};
-    ghost use Rattle.series_cache.specs.Caches.{CacheView};
-
-    ghost Value = { CacheView × Form };
-
-    ghost use Rattle.scrape_loop.specs.Raw.{AreRaw};
-
-    ghost view = { λ t. (t.cache.now, t.form) };
-
-    ghost invariant = { λ t. AreRaw t.form t.cache.now };
-}
-
-impl<'a> RawTexts for LastTexts<'a> {
-    ghost use Rattle.scrape_loop.specs.Fresh.{texts_in};
-
-    ghost texts = { λ t. texts_in t.0 };
-
-    ghost form_of = { λ t. t.1 };
-
-    fn form(&self) -> Form {
-        self.form
-    }
-
-    fn text_at(&self, place: usize) -> Option<&[u8]> {
-        self.cache.text_at(place)
-    }
-}
-
-/// The form of the texts that are known after a scrape: that of its body where it is good, and else the one of before.
-fn form_after(good: bool, form: Form, before: Form) -> Form
-    ensures { result ≡ cond good form before }
-{
-    if good { form } else { before }
 }
 
 /// Lets a cache without texts begin its hashes as a book does, whose seed a target doesn't know.
@@ -132,10 +90,10 @@ fn append(
     requires took { pos 0 ≤ℤ took }
     requires timeout { IfSome extra (λ e. pos 0 ≤ℤ e.timeout) }
     ensures entries { OnOk result (book.new.entries ≡ book.old.entries
-        ++ entries_of (spec.life_of past.now.life past.now.target past.now.extra cache.now past.now.scraped)
+        ++ entries_of (spec.life_of past.now.life past.now.target past.now.extra cache.now past.now.scraped past.now.up)
         extra scrape moment took) }
     ensures spare { OnOk result (book.old.spare ≤ book.new.spare + length (entries_of
-        (spec.life_of past.now.life past.now.target past.now.extra cache.now past.now.scraped)
+        (spec.life_of past.now.life past.now.target past.now.extra cache.now past.now.scraped past.now.up)
         extra scrape moment took)) }
     ensures err { OnErr result (book.new ≡ book.old) }
 {
@@ -166,10 +124,18 @@ impl LifeState {
                 target: TargetLabels::of(alloc, target, extra)?,
                 extra,
                 scraped: false,
+                up: false,
             },
             cache: SeriesCache::new(alloc)?,
             form: Form::Plain,
         })
+    }
+
+    /// The life's number.
+    pub fn number(&self) -> u64
+        ensures { result ≡ self.now.life }
+    {
+        self.past.life
     }
 
     /// The labels of the life's target.
@@ -185,6 +151,20 @@ impl LifeState {
         ensures { result ≡ self.now.scraped }
     {
         self.past.scraped
+    }
+
+    /// How the life's target is, by the last scrape of it that counted.
+    pub fn health(&self) -> Health
+        ensures { result ≡ spec.health_of self.now }
+    {
+        if !self.past.scraped {
+            return Health::Unknown;
+        }
+        if self.past.up {
+            Health::Up
+        } else {
+            Health::Down
+        }
     }
 
     /// The hash of a raw text: once a scrape was counted, by the hasher of the book of the first one.
@@ -283,7 +263,7 @@ impl LifeState {
     {
         seed(&mut self.cache, alloc, book.hasher());
         let target = self.past.target.set();
-        let terms = Terms {
+        let terms = ScrapeRules {
             rules,
             metric,
             target,
@@ -315,6 +295,7 @@ impl LifeState {
             }
             Ok(()) => {
                 self.past.scraped = true;
+                self.past.up = good;
                 self.form = form_after(good, reply.form(), self.form);
                 self.cache.turn(good);
                 Ok(Counted { fault, runs })
@@ -353,11 +334,12 @@ impl LifeState {
     /// Makes a forced scrape the last counted one: it tracks nothing, and what the last good scrape showed stays known. It takes no memory.
     pub fn force(&mut self)
         ensures state { self.new ≡ spec.after_forced self.old }
-        ensures none_tracked { self.new ≡ record self.old { tracked = []; cache = turned false self.old.cache; scraped = true } }
+        ensures none_tracked { self.new ≡ record self.old { tracked = []; cache = turned false self.old.cache; scraped = true; up = false } }
         ensures right { (honor : Bool) (metric : List RuleConf) →
             AreRight honor metric self.old.target self.old.cache.texts → AreRight honor metric self.new.target self.new.cache.texts }
     {
         self.past.scraped = true;
+        self.past.up = false;
         self.cache.turn(false);
     }
 

@@ -12,7 +12,7 @@ use sample_rows::Scrape;
 use series_cache::SeriesCache;
 use std::alloc::Global;
 
-/// The number of a life, the labels of its target, whether it has the extra reports, and whether a scrape of it counted.
+/// The number of a life, the labels of its target, whether it has the extra reports, and how its scrapes went.
 #[derive(Debug, Drop)]
 pub struct Past {
     pub(crate) life: u64,
@@ -21,6 +21,8 @@ pub struct Past {
     pub(crate) extra: bool,
     /// Whether a scrape of it counted, a forced one too.
     pub(crate) scraped: bool,
+    /// Whether the last one that counted was good.
+    pub(crate) up: bool,
 }
 
 impl Past {
@@ -39,7 +41,7 @@ impl Past {
         requires took { pos 0 ≤ℤ took }
         requires timeout { IfSome extra (λ e. pos 0 ≤ℤ e.timeout) }
         ensures { IfOk result (λ l. l ≡ spec.entries_of
-            (life_of self.now.life self.now.target self.now.extra cache.now self.now.scraped)
+            (life_of self.now.life self.now.target self.now.extra cache.now self.now.scraped self.now.up)
             extra scrape moment took) }
     {
         let counts = counts_of(alloc, cache, &scrape, extra, took)?;

@@ -6,12 +6,12 @@ use Rattle.journal_text.specs.declared.events.Event.TheVariants.{Load, Targets, 
 use Rattle.jobs_in_force.specs.declared.jobs.InForce.{InForce}
 use Rattle.jobs_in_force.specs.Listed.{listed_by, listed_by_named}
 use Rattle.scrape_machine.specs.declared.lives.Life.{Life}
-use Rattle.scrape_machine.specs.declared.lives.Start.{Start}
+use Rattle.scrape_machine.specs.declared.lives.StartedScrape.{StartedScrape}
 use Rattle.scrape_machine.specs.Machine.{World, world, new_jobs, run, step, world_of}
 use Rattle.scrape_machine.specs.Runs.{runs, live_runs, load_runs, update_runs, runs_from, runs_of}
 
 -- loads and updates, and events that run nothing
-module _ (jobs : List InForce) (ls : List Life) (ss : List Start) (m : ℤ) where
+module _ (jobs : List InForce) (ls : List Life) (ss : List StartedScrape) (m : ℤ) where
   pub load_taken_runs : (text : List ℕ) (news : List InForce) → new_jobs jobs (Load m text) ≡ Some news → runs (world jobs ls ss) (Load m text) ≡ listed_by news
   unfolding runs
   load_taken_runs text news h = ap load_runs h

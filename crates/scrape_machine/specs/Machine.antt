@@ -19,13 +19,13 @@ use Rattle.life_roll.specs.declared.schedule.InFlight.{InFlight}
 use Rattle.jobs_in_force.specs.declared.jobs.Filed.{Filed}
 use Rattle.jobs_in_force.specs.declared.jobs.InForce.{InForce}
 use Rattle.scrape_machine.specs.declared.lives.Life.{Life}
-use Rattle.scrape_machine.specs.declared.lives.Start.{Start}
-use Rattle.scrape_machine.specs.declared.lives.Found.{Found}
-use Rattle.scrape_machine.specs.declared.lives.Found.TheVariants.{NotStarted, Cancelled, Counts}
+use Rattle.scrape_machine.specs.declared.lives.StartedScrape.{StartedScrape}
+use Rattle.scrape_machine.specs.declared.lives.TicketState.{TicketState}
+use Rattle.scrape_machine.specs.declared.lives.TicketState.TheVariants.{NotStarted, Cancelled, Counts}
 use Rattle.scrape_machine.specs.declared.lives.Local.{Local}
 use Rattle.scrape_machine.specs.declared.lives.Local.TheVariants.{Nothing, Scan, Answered, Change, Close}
-use Rattle.scrape_machine.specs.declared.lives.Verdict.{Verdict}
-use Rattle.scrape_machine.specs.declared.lives.Verdict.TheVariants.{Apart, Same, Other}
+use Rattle.scrape_machine.specs.declared.lives.Difference.{Difference}
+use Rattle.scrape_machine.specs.declared.lives.Difference.TheVariants.{Incompatible, Same, Changed}
 use Rattle.scrape_machine.specs.declared.answers.Answer.{Answer}
 use Rattle.scrape_machine.specs.declared.answers.Answer.TheVariants.{Loaded, Updated, Refused, NoJob, NoFile, Started, Forced, NotDue, Busy, NoLife, Swept, Counted, Late, NoTicket, Halted}
 use Rattle.jobs_in_force.specs.Jobs.{job_named, is_crowded, has_target, in_force, loaded, updated, jobs_updated, Unlisted, UnknownJob, UnknownFile, Faulty}
@@ -36,10 +36,10 @@ use Rattle.scrape_machine.specs.Lives.{is_open, born, starts, forces, ends, life
 pub record World : Type 0 where
   pub jobs : List InForce
   pub lives : List Life
-  pub started : List Start
+  pub started : List StartedScrape
   pub halted : Bool
 
-abbrev pub world : List InForce → List Life → List Start → World
+abbrev pub world : List InForce → List Life → List StartedScrape → World
 world jobs ls ss = record { jobs = jobs; lives = ls; started = ss; halted = false }
 
 abbrev pub beginning : World
@@ -70,27 +70,27 @@ abbrev pub job_name : Life → List ℕ
 job_name l = l.settings.conf.job_name
 
 -- how the settings of a job compare with those that the job of the same name had before
-abbrev pub compared : InForce → InForce → Verdict
+abbrev pub compared : InForce → InForce → Difference
 compared before after =
-    if is_compatible before.job.conf after.job.conf then (if is_same before.job.conf after.job.conf then Same else Other (settings_of after.job)) else Apart
+    if is_compatible before.job.conf after.job.conf then (if is_same before.job.conf after.job.conf then Same else Changed (settings_of after.job)) else Incompatible
 
-abbrev pub verdict_on : InForce → Option InForce → Verdict
-verdict_on after None = Apart
-verdict_on after (Some before) = compared before after
+abbrev pub difference_on : InForce → Option InForce → Difference
+difference_on after None = Incompatible
+difference_on after (Some before) = compared before after
 
-abbrev pub verdict : List InForce → InForce → Verdict
-verdict jobs after = verdict_on after (job_named after.job.conf.job_name jobs)
+abbrev pub difference : List InForce → InForce → Difference
+difference jobs after = difference_on after (job_named after.job.conf.job_name jobs)
 
 -- a life stays open where its job is configured, the settings before and after are compatible, and its identity is among the kept targets;
 -- its settings change where they aren't the same
-abbrev pub verdict_local : ℤ → Verdict → Local
-verdict_local m Apart = Close m
-verdict_local m Same = Nothing
-verdict_local m (Other s) = Change m s
+abbrev pub difference_local : ℤ → Difference → Local
+difference_local m Incompatible = Close m
+difference_local m Same = Nothing
+difference_local m (Changed s) = Change m s
 
 abbrev pub job_local : ℤ → List InForce → Life → Option InForce → Local
 job_local m jobs l None = Close m
-job_local m jobs l (Some after) = if has_target l.identity after then verdict_local m (verdict jobs after) else Close m
+job_local m jobs l (Some after) = if has_target l.identity after then difference_local m (difference jobs after) else Close m
 
 -- what a load or an update is to a life
 abbrev pub reload_local : ℤ → List InForce → Option (List InForce) → Life → Local
@@ -114,23 +114,23 @@ ticket_in_sweep w m n = length w.started + length (filter (starts_in w.jobs m) (
 
 -- what a finish of ticket k finds: no ticket, where no scrape with it has started or it had its finish; a scrape that was
 -- cancelled; or the number of its life, where that has it in flight
-abbrev pub found_flight : ℕ → ℕ → Option InFlight → Found
+abbrev pub found_flight : ℕ → ℕ → Option InFlight → TicketState
 found_flight k n None = Cancelled
 found_flight k n (Some f) = if f.ticket == k then Counts n f.moment else Cancelled
 
-abbrev pub found_life : ℕ → ℕ → Option Life → Found
+abbrev pub found_life : ℕ → ℕ → Option Life → TicketState
 found_life k n None = Cancelled
 found_life k n (Some l) = found_flight k n l.schedule.flight
 
-abbrev pub found_start : List Life → ℕ → Option Start → Found
+abbrev pub found_start : List Life → ℕ → Option StartedScrape → TicketState
 found_start ls k None = NotStarted
 found_start ls k (Some s) = if s.finished then NotStarted else found_life k s.life (slice_get ls s.life)
 
-abbrev pub found : World → ℕ → Found
+abbrev pub found : World → ℕ → TicketState
 found w k = found_start w.lives k (slice_get w.started k)
 
 -- what a finish is to life number n, by what it finds
-abbrev pub finish_local : ℕ → ℤ → Reply → Found → Local
+abbrev pub finish_local : ℕ → ℤ → Reply → TicketState → Local
 finish_local n took r NotStarted = Nothing
 finish_local n took r Cancelled = Nothing
 finish_local n took r (Counts k m) = if k == n then Answered took r else Nothing
@@ -195,28 +195,28 @@ begun jobs (Finish k took r) ls = []
 begun jobs (Halt m) ls = []
 
 -- the scrape of life n that a scan at m starts, if any
-abbrev pub started_by : Bool → ℕ → Life → List Start
+abbrev pub started_by : Bool → ℕ → Life → List StartedScrape
 started_by one n l = if one then record { life = n; settings = l.settings; finished = false } ∷ [] else []
 
-abbrev pub start_of : List InForce → ℕ → ℕ → Life → List Start
+abbrev pub start_of : List InForce → ℕ → ℕ → Life → List StartedScrape
 start_of jobs m n l = started_by (starts_in jobs m l) n l
 
 -- the scrapes that a sweep at m starts, the first life having number n
-abbrev pub starts_from : List InForce → ℕ → ℕ → List Life → List Start
+abbrev pub starts_from : List InForce → ℕ → ℕ → List Life → List StartedScrape
 starts_from jobs m n [] = []
 starts_from jobs m n (l ∷ ls) = start_of jobs m n l ++ starts_from jobs m (n + 1) ls
 
 -- the scrape that a tick of life n at m starts, if any
-abbrev pub ticked : List InForce → ℕ → ℕ → Option Life → List Start
+abbrev pub ticked : List InForce → ℕ → ℕ → Option Life → List StartedScrape
 ticked jobs m n None = []
 ticked jobs m n (Some l) = start_of jobs m n l
 
-abbrev pub finished : Option Start → List Start → ℕ → List Start
+abbrev pub finished : Option StartedScrape → List StartedScrape → ℕ → List StartedScrape
 finished None ss k = ss
 finished (Some s) ss k = slice_set ss k (record s { finished = true })
 
 -- the started scrapes after an event
-abbrev pub started_after : World → Event → List Start
+abbrev pub started_after : World → Event → List StartedScrape
 started_after w (Load m text) = w.started
 started_after w (Targets m name file text) = w.started
 started_after w (Tick m k) = w.started ++ ticked w.jobs (number m) k (slice_get w.lives k)
@@ -301,7 +301,7 @@ abbrev pub fault_at : ℤ → Reply → Option Life → Option ScrapeFault
 fault_at took r None = None
 fault_at took r (Some l) = fault_of (outcome_for l took r)
 
-abbrev pub finish_answer : World → ℤ → Reply → Found → Answer
+abbrev pub finish_answer : World → ℤ → Reply → TicketState → Answer
 finish_answer w took r NotStarted = NoTicket
 finish_answer w took r Cancelled = Late
 finish_answer w took r (Counts n m) = Counted (fault_at took r (slice_get w.lives n))

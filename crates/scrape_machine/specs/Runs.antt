@@ -10,8 +10,8 @@ use Rattle.jobs_in_force.specs.declared.jobs.InForce.{InForce}
 use Rattle.jobs_in_force.specs.Listed.{listed_by, listed_by_named}
 use Rattle.scrape_loop.specs.Tracked.{runs_for}
 use Rattle.scrape_machine.specs.declared.lives.Life.{Life}
-use Rattle.scrape_machine.specs.declared.lives.Found.{Found}
-use Rattle.scrape_machine.specs.declared.lives.Found.TheVariants.{NotStarted, Cancelled, Counts}
+use Rattle.scrape_machine.specs.declared.lives.TicketState.{TicketState}
+use Rattle.scrape_machine.specs.declared.lives.TicketState.TheVariants.{NotStarted, Cancelled, Counts}
 use Rattle.scrape_machine.specs.Lives.{rules_of}
 use Rattle.scrape_machine.specs.Machine.{World, beginning, new_jobs, found, step}
 
@@ -33,7 +33,7 @@ life_runs took r None = 0
 life_runs took r (Some l) = scrape_runs took r l
 
 -- those of a finish, by what it finds; none where it doesn't count
-abbrev pub finish_runs : World → ℤ → Reply → Found → ℕ
+abbrev pub finish_runs : World → ℤ → Reply → TicketState → ℕ
 finish_runs w took r NotStarted = 0
 finish_runs w took r Cancelled = 0
 finish_runs w took r (Counts n m) = life_runs took r (slice_get w.lives n)

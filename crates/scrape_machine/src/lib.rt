@@ -3,7 +3,7 @@
 //! `specs/Machine.antt` is the whole machine, as one run forward over a plain state; `Lives.antt` says what one life is, `Runs.antt` how often relabelling
 //! rules are run, and what is in force the crate `jobs_in_force`.
 //! There is no code but the types that the definitions speak of: `scrape_steps` carries the steps out, and `scrape_laws` has what follows from them.
-//! Tests: `tests_running::cores`; cases: `scrape_cases::{reloads, updates, endings}`.
+//! Cases: `scrape_cases::{reloads, updates, endings}`.
 #![tactic(auto)]
 
 pub mod answers;

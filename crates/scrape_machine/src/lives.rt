@@ -24,7 +24,7 @@ pub struct Life {
 
 /// A started scrape, by its ticket: the number of its life, the settings of the job at its start, and whether it had its finish.
 #[derive(Drop)]
-pub struct Start {
+pub struct StartedScrape {
     pub life: u64,
     pub settings: Settings,
     pub finished: bool,
@@ -59,7 +59,7 @@ pub enum Local {
 
 /// What a finish of a ticket finds.
 #[derive(Clone, Copy, Debug)]
-pub enum Found {
+pub enum TicketState {
     /// No scrape with the ticket has started, or it had its finish.
     NotStarted,
     /// The scrape was cancelled.
@@ -70,11 +70,11 @@ pub enum Found {
 
 /// How the settings of a job compare with those that the job of the same name had before.
 #[derive(Drop)]
-pub enum Verdict {
+pub enum Difference {
     /// There was no such job, or the settings aren't compatible.
-    Apart,
+    Incompatible,
     /// They are the same.
     Same,
     /// They are compatible, and these are they now.
-    Other(Settings),
+    Changed(Settings),
 }

@@ -12,8 +12,8 @@ use Rattle.jobs_in_force.specs.declared.jobs.InForce.{InForce}
 use Rattle.scrape_steps.specs.declared.acts.Fate.{Fate}
 use Rattle.scrape_steps.specs.declared.acts.Fate.TheVariants.{Stays}
 use Rattle.scrape_machine.specs.declared.lives.Life.{Life}
-use Rattle.scrape_machine.specs.declared.lives.Start.{Start}
-use Rattle.scrape_machine.specs.declared.lives.Verdict.{Verdict}
+use Rattle.scrape_machine.specs.declared.lives.StartedScrape.{StartedScrape}
+use Rattle.scrape_machine.specs.declared.lives.Difference.{Difference}
 use Rattle.life_roll.specs.Names.{place_in}
 use Rattle.scrape_machine.specs.Lives.{is_open, closed_ends, ends, scanned_life, scan_entries, closing_at, life_after, with_ending}
 use Rattle.scrape_machine.specs.Machine.{is_over, job_name, starts_in, forces_in, start_of, started_by, starts_from}
@@ -166,7 +166,7 @@ apart_scanned m t over l h = of l.schedule.closed (apart_closed (Some m) l h) (a
 
 -- the scrapes that a sweep starts, by the places of the lives
 module _ (jobs : List InForce) (m : ℕ) where
-  abbrev pub starts_at : List ℕ → List Life → List Start
+  abbrev pub starts_at : List ℕ → List Life → List StartedScrape
   starts_at [] ls = []
   starts_at (p ∷ ps) [] = []
   starts_at (p ∷ ps) (l ∷ ls) = start_of jobs m p l ++ starts_at ps ls
@@ -182,7 +182,7 @@ module _ (jobs : List InForce) (m : ℕ) where
       of false h e = e ∙ ap (λ c. started_by c n l ++ starts_from jobs m (n + 1) ls) (sym (none l h))
 
   -- one more of them
-  pub starts_next : (ps : List ℕ) (ls : List Life) (i p : ℕ) (l : Life) (all now more : List Start) → i < length ps → i < length ls → p ≡ get_or ps i p → l ≡ get_or ls i l →
+  pub starts_next : (ps : List ℕ) (ls : List Life) (i p : ℕ) (l : Life) (all now more : List StartedScrape) → i < length ps → i < length ls → p ≡ get_or ps i p → l ≡ get_or ls i l →
       now ++ starts_at (drop i ps) (drop i ls) ≡ all → more ≡ now ++ start_of jobs m p l → more ++ starts_at (drop (i + 1) ps) (drop (i + 1) ls) ≡ all
   starts_next ps ls i p l all now more hp hl ap_ al was is =
       let places : drop i ps ≡ p ∷ drop (i + 1) ps = drop_more ps i p hp ∙ ap (λ z. z ∷ drop (i + 1) ps) (sym ap_) in
@@ -200,7 +200,7 @@ module _ (p : Life → Bool) where
   pub fates_take : (f : Fate) (fs : List Fate) (l : Life) (ls : List Life) → p l ≡ true → all_fates p (f ∷ fs) (l ∷ ls) ≡ f ∷ all_fates p fs ls
   fates_take f fs l ls h = ap (λ b. cond b (f ∷ all_fates p fs ls) (Stays ∷ all_fates p (f ∷ fs) ls)) h
 
-pub closed_stays : (names : List (List ℕ)) (news : List InForce) (vs : List Verdict) (l : Life) → is_open l ≡ false → fate_of names news vs l ≡ Stays
+pub closed_stays : (names : List (List ℕ)) (news : List InForce) (vs : List Difference) (l : Life) → is_open l ≡ false → fate_of names news vs l ≡ Stays
 closed_stays names news vs l h =
     ap (λ b. cond b (fate_at l (look news (place_in (job_name l) names)) (look vs (place_in (job_name l) names))) Stays) h
 

@@ -10,7 +10,7 @@ use Rattle.journal_text.specs.Lines.{number}
 use Rattle.end_of_run.specs.Endings.{due_at}
 use Rattle.jobs_in_force.specs.declared.jobs.InForce.{InForce}
 use Rattle.scrape_machine.specs.declared.lives.Life.{Life}
-use Rattle.scrape_machine.specs.declared.lives.Start.{Start}
+use Rattle.scrape_machine.specs.declared.lives.StartedScrape.{StartedScrape}
 use Rattle.outside.specs.declared.replies.Reply.{Reply}
 use Rattle.scrape_machine.specs.Lives.{is_open, closed_ends, counted, scanned_life, with_ending}
 use Rattle.scrape_machine.specs.Machine.{World, world, is_over, lives_from, ticket_in_sweep}
@@ -122,14 +122,14 @@ scanned_waits m k over n l =
     of None = refl
     of (Some c) = by c l.ended (nat_lt (number m) (due_at l.schedule.planned (number c) l.schedule.interval)) refl refl
 
-swept_from : (jobs : List InForce) (all : List Life) (ss : List Start) (m : ℤ) (n : ℕ) (ls : List Life) →
+swept_from : (jobs : List InForce) (all : List Life) (ss : List StartedScrape) (m : ℤ) (n : ℕ) (ls : List Life) →
     endings_from n (lives_from (world jobs all ss) (Sweep m) n ls) ≡ filter (is_early (number m)) (endings_from n ls)
 swept_from jobs all ss m n [] = refl
 swept_from jobs all ss m n (l ∷ ls) =
     ap₂ (λ (xs ys : List (ℕ × ℕ)). xs ++ ys) (scanned_waits m (ticket_in_sweep (world jobs all ss) (number m) n) (is_over jobs l) n l) (swept_from jobs all ss m (n + 1) ls)
     ∙ sym (filter-append (is_early (number m)) (ending_of n l) (endings_from (n + 1) ls))
 
-pub sweep_endings : (jobs : List InForce) (ls : List Life) (ss : List Start) (m : ℤ) (had left : List (ℕ × ℕ)) → HoldSame (endings_from 0 ls) had →
+pub sweep_endings : (jobs : List InForce) (ls : List Life) (ss : List StartedScrape) (m : ℤ) (had left : List (ℕ × ℕ)) → HoldSame (endings_from 0 ls) had →
     HoldSame (filter (is_early (number m)) had) left → HoldSame (endings_from 0 (lives_from (world jobs ls ss) (Sweep m) 0 ls)) left
 sweep_endings jobs ls ss m had left was is f =
     ap (sum_by f) (swept_from jobs ls ss m 0 ls) ∙ same_passing (is_early (number m)) (endings_from 0 ls) had was f ∙ is f

@@ -12,15 +12,15 @@ use Rattle.report_samples.specs.declared.entries.Entry.{Entry}
 use Rattle.jobs_in_force.specs.declared.jobs.Filed.{Filed}
 use Rattle.jobs_in_force.specs.declared.jobs.InForce.{InForce}
 use Rattle.scrape_machine.specs.declared.lives.Life.{Life}
-use Rattle.scrape_machine.specs.declared.lives.Start.{Start}
+use Rattle.scrape_machine.specs.declared.lives.StartedScrape.{StartedScrape}
 use Rattle.scrape_machine.specs.declared.lives.Local.TheVariants.{Nothing, Close}
-use Rattle.scrape_machine.specs.declared.lives.Verdict.{Verdict}
-use Rattle.scrape_machine.specs.declared.lives.Verdict.TheVariants as verdict
+use Rattle.scrape_machine.specs.declared.lives.Difference.{Difference}
+use Rattle.scrape_machine.specs.declared.lives.Difference.TheVariants as difference
 use Rattle.scrape_machine.specs.declared.answers.Answer.TheVariants.{Halted, Loaded, Refused, Updated}
 use Rattle.jobs_in_force.specs.Jobs.{has_target, job_named, in_force, loaded, updated, jobs_updated, Unlisted, UnknownJob, UnknownFile, Faulty}
 use Rattle.scrape_machine.specs.Lives.{is_open, life_after, life_gives}
 use Rattle.scrape_machine.specs.Machine as spec
-use Rattle.scrape_machine.specs.Machine.{World, world, local, lives_from, gives_from, locals_from, reload_local, job_local, verdict_local, begun_with, births, closes, step, gives, answer, live_step, new_jobs, after_load, after_update, or_else, closed_count, begun_count, load_answer, update_answer, job_name}
+use Rattle.scrape_machine.specs.Machine.{World, world, local, lives_from, gives_from, locals_from, reload_local, job_local, difference_local, begun_with, births, closes, step, gives, answer, live_step, new_jobs, after_load, after_update, or_else, closed_count, begun_count, load_answer, update_answer, job_name}
 use Rattle.scrape_steps.specs.Reloads.{reload_life, reload_lives, reloaded, closed_by, begun_by}
 use Rattle.scrape_machine.proofs.OneLemmas.{quiet_gives}
 
@@ -49,17 +49,17 @@ unfolding gives
 dead_gives w e h = quiet_gives w e (dead_local w e h) 0 w.lives
 
 -- a load or an update gives no entries
-verdict_gives : (m : ℤ) (v : Verdict) (l : Life) → life_gives (verdict_local m v) l ≡ []
-verdict_gives m verdict.Apart l = refl
-verdict_gives m verdict.Same l = refl
-verdict_gives m (verdict.Other s) l = refl
+difference_gives : (m : ℤ) (v : Difference) (l : Life) → life_gives (difference_local m v) l ≡ []
+difference_gives m difference.Incompatible l = refl
+difference_gives m difference.Same l = refl
+difference_gives m (difference.Changed s) l = refl
 
 job_gives : (m : ℤ) (jobs : List InForce) (l : Life) (o : Option InForce) → life_gives (job_local m jobs l o) l ≡ []
 job_gives m jobs l None = refl
 job_gives m jobs l (Some j) = of (has_target l.identity j)
   where
-    of : (b : Bool) → life_gives (cond b (verdict_local m (spec.verdict jobs j)) (Close m)) l ≡ []
-    of true = verdict_gives m (spec.verdict jobs j) l
+    of : (b : Bool) → life_gives (cond b (difference_local m (spec.difference jobs j)) (Close m)) l ≡ []
+    of true = difference_gives m (spec.difference jobs j) l
     of false = refl
 
 reload_gives : (m : ℤ) (jobs : List InForce) (o : Option (List InForce)) (l : Life) → life_gives (reload_local m jobs o l) l ≡ []
@@ -90,7 +90,7 @@ map_same m jobs [] = refl
 map_same m jobs (l ∷ ls) = ap (λ zs. l ∷ zs) (map_same m jobs ls)
 
 -- the world after a load or an update at m that leaves these jobs in force, or is refused
-module _ (jobs : List InForce) (ls : List Life) (ss : List Start) (m : ℤ) where
+module _ (jobs : List InForce) (ls : List Life) (ss : List StartedScrape) (m : ℤ) where
   kept : Option (List InForce) → List Life
   kept o = map (λ (l : Life). life_after (reload_local m jobs o l) l) ls
 

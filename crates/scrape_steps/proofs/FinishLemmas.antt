@@ -11,9 +11,9 @@ use Rattle.scrape_machine.specs.declared.answers.Answer.{Answer}
 use Rattle.scrape_machine.specs.declared.answers.Answer.TheVariants.{Counted}
 use Rattle.jobs_in_force.specs.declared.jobs.InForce.{InForce}
 use Rattle.scrape_machine.specs.declared.lives.Life.{Life}
-use Rattle.scrape_machine.specs.declared.lives.Start.{Start}
-use Rattle.scrape_machine.specs.declared.lives.Found.{Found}
-use Rattle.scrape_machine.specs.declared.lives.Found.TheVariants.{NotStarted, Cancelled, Counts}
+use Rattle.scrape_machine.specs.declared.lives.StartedScrape.{StartedScrape}
+use Rattle.scrape_machine.specs.declared.lives.TicketState.{TicketState}
+use Rattle.scrape_machine.specs.declared.lives.TicketState.TheVariants.{NotStarted, Cancelled, Counts}
 use Rattle.scrape_machine.specs.declared.lives.Local.TheVariants.{Nothing, Answered}
 use Rattle.scrape_machine.specs.Lives.{life_after, life_gives, outcome_for, counted, counted_entries, counting_entries}
 use Rattle.scrape_machine.specs.Machine.{world, local, finish_local, finish_answer, fault_at, found, found_flight, found_life, found_start, finished, step, gives, answer}
@@ -43,7 +43,7 @@ life_found k n j m (Some l) h =
     let q = flight_found k n j m l.schedule.flight h in
     (record { life = l; is = refl; flight = q.0; flies = q.1; since = q.2 }, q.3)
 
-start_found : (ls : List Life) (k j : ℕ) (m : ℤ) (o : Option Start) → found_start ls k o ≡ Counts j m → FliesSince (slice_get ls j) m
+start_found : (ls : List Life) (k j : ℕ) (m : ℤ) (o : Option StartedScrape) → found_start ls k o ≡ Counts j m → FliesSince (slice_get ls j) m
 start_found ls k j m None h = absurd (cc)
 start_found ls k j m (Some s) h = by_finish s.finished h
   where
@@ -54,19 +54,19 @@ start_found ls k j m (Some s) h = by_finish s.finished h
         let P : ℕ → Type 0 = λ n. FliesSince (slice_get ls n) m in
         subst P q.1 q.0
 
-module _ (jobs : List InForce) (ls : List Life) (ss : List Start) (k : ℕ) (took : ℤ) (r : Reply) where
+module _ (jobs : List InForce) (ls : List Life) (ss : List StartedScrape) (k : ℕ) (took : ℤ) (r : Reply) where
   -- a finish that finds no life
-  missed_local : (a : Answer) (f : Found) → IsMissed a f → (n : ℕ) → finish_local n took r f ≡ Nothing
+  missed_local : (a : Answer) (f : TicketState) → IsMissed a f → (n : ℕ) → finish_local n took r f ≡ Nothing
   missed_local a NotStarted h n = refl
   missed_local a Cancelled h n = refl
   missed_local a (Counts j m) h n = absurd h
 
-  missed_runs_by : (a : Answer) (f : Found) → IsMissed a f → finish_runs (world jobs ls ss) took r f ≡ 0
+  missed_runs_by : (a : Answer) (f : TicketState) → IsMissed a f → finish_runs (world jobs ls ss) took r f ≡ 0
   missed_runs_by a NotStarted h = refl
   missed_runs_by a Cancelled h = refl
   missed_runs_by a (Counts j m) h = absurd h
 
-  missed_answer : (a : Answer) (f : Found) → IsMissed a f → a ≡ finish_answer (world jobs ls ss) took r f
+  missed_answer : (a : Answer) (f : TicketState) → IsMissed a f → a ≡ finish_answer (world jobs ls ss) took r f
   missed_answer a NotStarted h = h
   missed_answer a Cancelled h = h
   missed_answer a (Counts j m) h = absurd h
@@ -97,7 +97,7 @@ module _ (jobs : List InForce) (ls : List Life) (ss : List Start) (k : ℕ) (too
     here : (l : Life) → local (world jobs ls ss) (Finish k took r) j l ≡ Answered took r
     here l = ap (finish_local j took r) e ∙ ap (λ b. cond b (Answered took r) Nothing) (eq-eqb j j refl)
 
-    pub counted_world : (ts : List Start) (d y : Life) → j < length ls → y ≡ counted (get_or ls j d) took r →
+    pub counted_world : (ts : List StartedScrape) (d y : Life) → j < length ls → y ≡ counted (get_or ls j d) took r →
         ts ≡ finished (slice_get ss k) ss k → world jobs (set ls j y) ts ≡ step (world jobs ls ss) (Finish k took r)
     unfolding step
     counted_world ts d y lt hy ht =

@@ -13,7 +13,7 @@ use Rattle.jobs_in_force.specs.declared.jobs.InForce.{InForce}
 use Rattle.jobs_in_force.specs.Settings.{settings_of}
 use Rattle.jobs_in_force.specs.Jobs.{job_named}
 use Rattle.scrape_machine.specs.declared.lives.Life.{Life}
-use Rattle.scrape_machine.specs.declared.lives.Start.{Start}
+use Rattle.scrape_machine.specs.declared.lives.StartedScrape.{StartedScrape}
 use Rattle.scrape_machine.specs.declared.lives.Local.TheVariants.{Nothing}
 use Rattle.scrape_machine.specs.Lives.{is_open, born, ends_at, forces, life_after, scanned_life, with_ending}
 use Rattle.scrape_machine.specs.Machine.{World, world, is_over, job_name, job_local, lives_from, ticket_in_sweep, born_all, births, unheld}
@@ -124,7 +124,7 @@ scanned_closed m k over l (Some c) = scan_of_shut l (ends_at (number m) c l)
 pub scanned_open : (m : ℤ) (k : ℕ) (over : Bool) (l : Life) (o : Option ℤ) → is_open (scanned_life m k over l o) ≡ is_open l
 scanned_open m k over l o = ap (λ (c : Option ℤ). not (is_some c)) (scanned_closed m k over l o)
 
-pub sweep_places : (jobs : List InForce) (all : List Life) (ss : List Start) (m : ℤ) (n : ℕ) (ls : List Life) →
+pub sweep_places : (jobs : List InForce) (all : List Life) (ss : List StartedScrape) (m : ℤ) (n : ℕ) (ls : List Life) →
     places_where is_open n (lives_from (world jobs all ss) (Sweep m) n ls) ≡ places_where is_open n ls
 sweep_places jobs all ss m n [] = refl
 sweep_places jobs all ss m n (l ∷ ls) =

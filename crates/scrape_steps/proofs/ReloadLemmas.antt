@@ -20,12 +20,12 @@ use Rattle.jobs_in_force.specs.declared.jobs.InForce.{InForce}
 use Rattle.scrape_machine.specs.declared.lives.Life.{Life}
 use Rattle.scrape_machine.specs.declared.lives.Local.{Local}
 use Rattle.scrape_machine.specs.declared.lives.Local.TheVariants.{Nothing, Close}
-use Rattle.scrape_machine.specs.declared.lives.Verdict.{Verdict}
-use Rattle.scrape_machine.specs.declared.lives.Verdict.TheVariants as verdict
+use Rattle.scrape_machine.specs.declared.lives.Difference.{Difference}
+use Rattle.scrape_machine.specs.declared.lives.Difference.TheVariants as difference
 use Rattle.jobs_in_force.specs.Jobs.{job_named, is_named, has_target}
 use Rattle.scrape_machine.specs.Lives.{is_open, life_after}
 use Rattle.scrape_machine.specs.Machine as spec
-use Rattle.scrape_machine.specs.Machine.{births, born_all, unheld, holds, job_name, reload_local, job_local, verdict_local}
+use Rattle.scrape_machine.specs.Machine.{births, born_all, unheld, holds, job_name, reload_local, job_local, difference_local}
 use Rattle.scrape_steps.specs.Plans.{local_of, after_each, look, fate_by, fate_at, fate_of, is_place, sits, IsHeld, is_seated, unseated, births_by}
 use Rattle.scrape_machine.specs.Machine.{name_of}
 
@@ -57,22 +57,22 @@ look_map f xs None = refl
 look_map f xs (Some p) = slice_get-map f xs p
 
 -- what becomes of a life
-fate_verdict : (m : ℤ) (v : Verdict) → local_of m (fate_by v) ≡ verdict_local m v
-fate_verdict m verdict.Apart = refl
-fate_verdict m verdict.Same = refl
-fate_verdict m (verdict.Other s) = refl
+fate_difference : (m : ℤ) (v : Difference) → local_of m (fate_by v) ≡ difference_local m v
+fate_difference m difference.Incompatible = refl
+fate_difference m difference.Same = refl
+fate_difference m (difference.Changed s) = refl
 
 fate_job : (m : ℤ) (olds : List InForce) (l : Life) (after : Option InForce) →
-    local_of m (fate_at l after (option_map (spec.verdict olds) after)) ≡ job_local m olds l after
+    local_of m (fate_at l after (option_map (spec.difference olds) after)) ≡ job_local m olds l after
 fate_job m olds l None = refl
 fate_job m olds l (Some j) = by (has_target l.identity j)
   where
-    by : (b : Bool) → local_of m (if b then fate_by (spec.verdict olds j) else Closes) ≡ (if b then verdict_local m (spec.verdict olds j) else Close m)
-    by true = fate_verdict m (spec.verdict olds j)
+    by : (b : Bool) → local_of m (if b then fate_by (spec.difference olds j) else Closes) ≡ (if b then difference_local m (spec.difference olds j) else Close m)
+    by true = fate_difference m (spec.difference olds j)
     by false = refl
 
-pub fate_local : (m : ℤ) (olds news : List InForce) (names : List (List ℕ)) (vs : List Verdict) (l : Life) →
-    names ≡ map name_of news → vs ≡ map (spec.verdict olds) news → local_of m (fate_of names news vs l) ≡ reload_local m olds (Some news) l
+pub fate_local : (m : ℤ) (olds news : List InForce) (names : List (List ℕ)) (vs : List Difference) (l : Life) →
+    names ≡ map name_of news → vs ≡ map (spec.difference olds) news → local_of m (fate_of names news vs l) ≡ reload_local m olds (Some news) l
 fate_local m olds news names vs l n v = by (is_open l)
   where
     at : Option InForce
@@ -81,8 +81,8 @@ fate_local m olds news names vs l n v = by (is_open l)
     named : at ≡ job_named (job_name l) news
     named = ap (λ ns. look news (place_in (job_name l) ns)) n ∙ sym (named_at (job_name l) news)
 
-    judged : look vs (place_in (job_name l) names) ≡ option_map (spec.verdict olds) at
-    judged = ap (λ xs. look xs (place_in (job_name l) names)) v ∙ look_map (spec.verdict olds) news (place_in (job_name l) names)
+    judged : look vs (place_in (job_name l) names) ≡ option_map (spec.difference olds) at
+    judged = ap (λ xs. look xs (place_in (job_name l) names)) v ∙ look_map (spec.difference olds) news (place_in (job_name l) names)
 
     by : (b : Bool) → local_of m (if b then fate_at l at (look vs (place_in (job_name l) names)) else Stays)
         ≡ (if b then job_local m olds l (job_named (job_name l) news) else Nothing)

@@ -7,7 +7,7 @@ use Rattle.journal_text.specs.declared.events.Event.TheVariants.{Tick, Sweep, Ha
 use Rattle.journal_text.specs.Lines.{number}
 use Rattle.jobs_in_force.specs.declared.jobs.InForce.{InForce}
 use Rattle.scrape_machine.specs.declared.lives.Life.{Life}
-use Rattle.scrape_machine.specs.declared.lives.Start.{Start}
+use Rattle.scrape_machine.specs.declared.lives.StartedScrape.{StartedScrape}
 use Rattle.scrape_machine.specs.declared.lives.Local.TheVariants.{Nothing, Scan}
 use Rattle.scrape_machine.specs.Lives.{is_open, life_after, life_gives, scanned_life, scan_entries}
 use Rattle.scrape_machine.specs.Machine.{world, local, lives_from, gives_from, is_over, started_by, start_of, starts_from, ticked, step, gives}
@@ -19,7 +19,7 @@ slice_get_none [] k e = omega arith
 slice_get_none (x ∷ xs) zero e = absurd (cc)
 slice_get_none (x ∷ xs) (suc k) e = let q = slice_get_none xs k e in omega arith
 
-module _ (jobs : List InForce) (ls : List Life) (ss : List Start) (m : ℤ) where
+module _ (jobs : List InForce) (ls : List Life) (ss : List StartedScrape) (m : ℤ) where
   pub halt_step : step (world jobs ls ss) (Halt m) ≡ record { jobs = jobs; lives = ls; started = ss; halted = true }
   unfolding step
   halt_step =

@@ -10,7 +10,7 @@ use Rattle.journal_text.specs.Lines.{number}
 use Rattle.jobs_in_force.specs.declared.jobs.InForce.{InForce}
 use Rattle.scrape_steps.specs.declared.acts.Fate.{Fate}
 use Rattle.scrape_machine.specs.declared.lives.Life.{Life}
-use Rattle.scrape_machine.specs.declared.lives.Start.{Start}
+use Rattle.scrape_machine.specs.declared.lives.StartedScrape.{StartedScrape}
 use Rattle.scrape_machine.specs.Lives.{scanned_life, life_after}
 use Rattle.scrape_machine.specs.Machine.{world, is_over, starts_in, lives_from, ticket_in_sweep}
 use Rattle.scrape_steps.specs.Plans.{local_of, after_each}
@@ -126,7 +126,7 @@ module _ (jobs : List InForce) (m : ℤ) where
       ap₂ (λ k zs. swept_at k (drop (i + 1) ps) zs) (ap (λ o. t + one_at o) (sym found)) (now ∙ same)
       ∙ ap (λ zs. swept_at t zs ls) (sym places)
 
-  module _ (all : List Life) (ss : List Start) where
+  module _ (all : List Life) (ss : List StartedScrape) where
     count : List Life → ℕ
     count ls = length (filter (starts_in jobs (number m)) ls)
 
@@ -178,6 +178,6 @@ module _ (jobs : List InForce) (m : ℤ) where
             ∙ append_assoc front (l ∷ []) tail
             ∙ ap (λ z. front ++ z ∷ tail) (sym (apart_scanned m ticket (is_over jobs l) l k))
 
-  pub swept_whole : (ls : List Life) (ss : List Start) → swept_at (length ss) (places_where (concerns (Some m)) 0 ls) ls ≡ lives_from (world jobs ls ss) (Sweep m) 0 ls
+  pub swept_whole : (ls : List Life) (ss : List StartedScrape) → swept_at (length ss) (places_where (concerns (Some m)) 0 ls) ls ≡ lives_from (world jobs ls ss) (Sweep m) 0 ls
   unfolding count
   swept_whole ls ss = swept_after ls ss 0 (length ss) [] [] ls refl refl refl (let e : length ss ≡ length ss + 0 = omega arith in e)

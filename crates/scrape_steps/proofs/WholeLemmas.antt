@@ -9,9 +9,9 @@ use Rattle.scrape_steps.specs.declared.acts.Fate.{Fate}
 use Rattle.scrape_steps.specs.declared.acts.Fate.TheVariants.{Stays, Changes, Closes}
 use Rattle.jobs_in_force.specs.declared.jobs.InForce.{InForce}
 use Rattle.scrape_machine.specs.declared.lives.Life.{Life}
-use Rattle.scrape_machine.specs.declared.lives.Start.{Start}
+use Rattle.scrape_machine.specs.declared.lives.StartedScrape.{StartedScrape}
 use Rattle.scrape_machine.specs.declared.lives.Local.{Local}
-use Rattle.scrape_machine.specs.declared.lives.Verdict.{Verdict}
+use Rattle.scrape_machine.specs.declared.lives.Difference.{Difference}
 use Rattle.scrape_machine.specs.Machine as spec
 use Rattle.scrape_machine.specs.Machine.{World, world, births, reload_local}
 use Rattle.scrape_steps.specs.Reloads.{reload_lives, reload_births, closed_by}
@@ -51,8 +51,8 @@ closes_alike m f g (l ∷ ls) h =
     of true e = ap (λ n. suc n) e
     of false e = e
 
-module _ (m : ℤ) (olds news : List InForce) (ls : List Life) (ss : List Start) (names : List (List ℕ)) (vs : List Verdict) (fates : List Fate)
-    (n : names ≡ map name_of news) (v : vs ≡ map (spec.verdict olds) news) (f : fates ≡ map (fate_of names news vs) (filter is_open ls)) where
+module _ (m : ℤ) (olds news : List InForce) (ls : List Life) (ss : List StartedScrape) (names : List (List ℕ)) (vs : List Difference) (fates : List Fate)
+    (n : names ≡ map name_of news) (v : vs ≡ map (spec.difference olds) news) (f : fates ≡ map (fate_of names news vs) (filter is_open ls)) where
   local_is : (l : Life) → local_of m (fate_of names news vs l) ≡ reload_local m olds (Some news) l
   local_is l = fate_local m olds news names vs l n v
 

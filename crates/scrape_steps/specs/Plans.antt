@@ -14,8 +14,8 @@ use Rattle.jobs_in_force.specs.declared.jobs.InForce.{InForce}
 use Rattle.scrape_machine.specs.declared.lives.Life.{Life}
 use Rattle.scrape_machine.specs.declared.lives.Local.{Local}
 use Rattle.scrape_machine.specs.declared.lives.Local.TheVariants.{Nothing, Change, Close}
-use Rattle.scrape_machine.specs.declared.lives.Verdict.{Verdict}
-use Rattle.scrape_machine.specs.declared.lives.Verdict.TheVariants as verdict
+use Rattle.scrape_machine.specs.declared.lives.Difference.{Difference}
+use Rattle.scrape_machine.specs.declared.lives.Difference.TheVariants as difference
 use Rattle.jobs_in_force.specs.Jobs.{has_target}
 use Rattle.scrape_machine.specs.Lives.{is_open, life_after}
 use Rattle.scrape_machine.specs.Machine.{born_all, job_name, name_of}
@@ -38,19 +38,19 @@ look xs None = None
 look xs (Some p) = slice_get xs p
 
 -- what becomes of a life whose job is at a place of the new configuration
-abbrev pub fate_by : Verdict → Fate
-fate_by verdict.Apart = Closes
-fate_by verdict.Same = Stays
-fate_by (verdict.Other s) = Changes s
+abbrev pub fate_by : Difference → Fate
+fate_by difference.Incompatible = Closes
+fate_by difference.Same = Stays
+fate_by (difference.Changed s) = Changes s
 
-abbrev pub fate_at : Life → Option InForce → Option Verdict → Fate
+abbrev pub fate_at : Life → Option InForce → Option Difference → Fate
 fate_at l None v = Closes
 fate_at l (Some after) None = Closes
 fate_at l (Some after) (Some v) = if has_target l.identity after then fate_by v else Closes
 
-abbrev pub fate_of : List (List ℕ) → List InForce → List Verdict → Life → Fate
-fate_of names news verdicts l =
-    if is_open l then fate_at l (look news (place_in (job_name l) names)) (look verdicts (place_in (job_name l) names)) else Stays
+abbrev pub fate_of : List (List ℕ) → List InForce → List Difference → Life → Fate
+fate_of names news differences l =
+    if is_open l then fate_at l (look news (place_in (job_name l) names)) (look differences (place_in (job_name l) names)) else Stays
 
 -- an open life has this target of the job whose name has this place
 abbrev pub is_place : ℕ → Option ℕ → Bool

@@ -3,8 +3,8 @@ use Rattle.std.specs.Prelude.{◌≡◌, ◌<◌, ℕ, ℤ, Bool, false, List, s
 use Rattle.report_samples.specs.declared.entries.Entry.{Entry}
 use Rattle.jobs_in_force.specs.declared.jobs.InForce.{InForce}
 use Rattle.scrape_machine.specs.declared.lives.Life.{Life}
-use Rattle.scrape_machine.specs.declared.lives.Found.{Found}
-use Rattle.scrape_machine.specs.declared.lives.Found.TheVariants.{NotStarted, Cancelled, Counts}
+use Rattle.scrape_machine.specs.declared.lives.TicketState.{TicketState}
+use Rattle.scrape_machine.specs.declared.lives.TicketState.TheVariants.{NotStarted, Cancelled, Counts}
 use Rattle.scrape_machine.specs.declared.answers.Answer.{Answer}
 use Rattle.scrape_machine.specs.declared.answers.Answer.TheVariants.{Late, NoTicket}
 use Rattle.scrape_machine.specs.Lives.{is_open, scan_entries}
@@ -23,13 +23,13 @@ abbrev pub swept_entries : List InForce → ℤ → Life → List Entry
 swept_entries jobs m l = scan_entries m (is_over jobs l) l l.schedule.closed
 
 -- what was found is among so many lives
-abbrev pub IsWithin : ℕ → Found → Type 0
+abbrev pub IsWithin : ℕ → TicketState → Type 0
 IsWithin count NotStarted = Unit {0}
 IsWithin count Cancelled = Unit {0}
 IsWithin count (Counts n m) = n < count
 
 -- the answer to a finish that finds no life
-abbrev pub IsMissed : Answer → Found → Type 0
+abbrev pub IsMissed : Answer → TicketState → Type 0
 IsMissed a NotStarted = a ≡ NoTicket
 IsMissed a Cancelled = a ≡ Late
 IsMissed a (Counts n m) = ⊥

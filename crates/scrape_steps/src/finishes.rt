@@ -13,45 +13,45 @@ use life_roll::InFlight;
 use sample_rows::RowRules;
 use scrape_config::Job;
 use scrape_loop::{Counted, ReadReply};
-use scrape_machine::lives::{Found, Life, Start};
+use scrape_machine::lives::{Life, StartedScrape, TicketState};
 use std::alloc::Global;
 use std::sync::ledger::Ledger;
 
-fn found_flight(ticket: u64, number: u64, flight: Option<InFlight>) -> Found
+fn found_flight(ticket: u64, number: u64, flight: Option<InFlight>) -> TicketState
     ensures { result ≡ spec.found_flight ticket number flight }
 {
     match flight {
-        None => Found::Cancelled,
+        None => TicketState::Cancelled,
         Some(flight) => {
             if flight.ticket == ticket {
-                Found::Counts {
+                TicketState::Counts {
                     life: number,
                     moment: flight.moment,
                 }
             } else {
-                Found::Cancelled
+                TicketState::Cancelled
             }
         }
     }
 }
 
-fn found_life(ticket: u64, number: u64, life: Option<&Life>) -> Found
+fn found_life(ticket: u64, number: u64, life: Option<&Life>) -> TicketState
     ensures { result ≡ spec.found_life ticket number (option_copied life.entry) }
 {
     match life {
-        None => Found::Cancelled,
+        None => TicketState::Cancelled,
         Some(life) => found_flight(ticket, number, life.schedule.flight),
     }
 }
 
-fn found_start(lives: &[Life], ticket: u64, start: Option<&Start>) -> Found
+fn found_start(lives: &[Life], ticket: u64, start: Option<&StartedScrape>) -> TicketState
     ensures { result ≡ spec.found_start lives.now ticket (option_copied start.entry) }
 {
     match start {
-        None => Found::NotStarted,
+        None => TicketState::NotStarted,
         Some(start) => {
             if start.finished {
-                Found::NotStarted
+                TicketState::NotStarted
             } else {
                 found_life(ticket, start.life, lives.get(start.life as usize))
             }
@@ -60,7 +60,7 @@ fn found_start(lives: &[Life], ticket: u64, start: Option<&Start>) -> Found
 }
 
 /// What a finish of a ticket finds.
-pub fn found(lives: &[Life], started: &[Start], ticket: u64) -> Found
+pub fn found(lives: &[Life], started: &[StartedScrape], ticket: u64) -> TicketState
     ensures value { result ≡ spec.found_start lives.now ticket (slice_get started.now ticket) }
     ensures within { scanned.IsWithin (length lives.now) result }
 {
@@ -68,7 +68,7 @@ pub fn found(lives: &[Life], started: &[Start], ticket: u64) -> Found
 }
 
 /// The scrape with a ticket has had its finish.
-pub fn finish(started: &mut [Start], ticket: u64)
+pub fn finish(started: &mut [StartedScrape], ticket: u64)
     ensures { started.new ≡ spec.finished (slice_get started.old ticket) started.old ticket }
 {
     let place = ticket as usize;

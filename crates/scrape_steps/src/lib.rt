@@ -2,7 +2,7 @@
 //! which entries they give. Each call is proved to be a part of what the definitions of `scrape_machine` say; none knows a file, clock, socket or thread.
 //! `specs/Plans.antt` says what is worked out of a new configuration before anything changes, `Reloads.antt` and `Scans.antt` what steps make of all lives,
 //! `Concerned.antt` which lives an event concerns, since whatever goes over lives goes over these alone, and `Endings.antt` which endings wait.
-//! Tests: `tests_running::cores`; cases: `scrape_cases::{reloads, updates, endings}`.
+//! Cases: `scrape_cases::{reloads, updates, endings}`.
 #![tactic(auto)]
 
 pub mod acts;

@@ -20,7 +20,7 @@ use jobs_in_force::loads::job_named;
 use label_set::{Name, NoMemory};
 use life_roll::{JobNames, Moment, Schedule, Seat, Seats};
 use scrape_loop::LifeState;
-use scrape_machine::lives::{Life, Verdict};
+use scrape_machine::lives::{Difference, Life};
 use std::alloc::Global;
 use target_set::Target;
 
@@ -35,39 +35,39 @@ pub fn names_of(alloc: Global, jobs: &[InForce]) -> Result<JobNames, NoMemory>
     Ok(names)
 }
 
-fn verdict_on(before: Option<&InForce>, after: &InForce) -> Result<Verdict, NoMemory>
-    ensures { IfOk result (λ v. v ≡ spec.verdict_on after.now (option_copied before.entry)) }
+fn difference_on(before: Option<&InForce>, after: &InForce) -> Result<Difference, NoMemory>
+    ensures { IfOk result (λ v. v ≡ spec.difference_on after.now (option_copied before.entry)) }
 {
     let Some(before) = before else {
-        return Ok(Verdict::Apart);
+        return Ok(Difference::Incompatible);
     };
     let (old, new) = (&before.job.job().conf, &after.job.job().conf);
     if !old.compatible(new) {
-        return Ok(Verdict::Apart);
+        return Ok(Difference::Incompatible);
     }
     if old.same(new) {
-        return Ok(Verdict::Same);
+        return Ok(Difference::Same);
     }
-    Ok(Verdict::Other(Settings::of(&after.job)?))
+    Ok(Difference::Changed(Settings::of(&after.job)?))
 }
 
 /// How the settings of each job compare with those of the job of the same name before.
-pub fn verdicts_of(
+pub fn differences_of(
     alloc: Global,
     names: &JobNames,
     jobs: &[InForce],
     news: &[InForce],
-) -> Result<Vec<Verdict>, NoMemory>
+) -> Result<Vec<Difference>, NoMemory>
     requires { names.now ≡ map spec.name_of jobs.now }
-    ensures { IfOk result (λ v. v.items ≡ map (spec.verdict jobs.now) news.now) }
+    ensures { IfOk result (λ v. v.items ≡ map (spec.difference jobs.now) news.now) }
 {
-    let mut verdicts = Vec::with_capacity(alloc, news.len())?;
+    let mut differences = Vec::with_capacity(alloc, news.len())?;
     for job in news {
         let before = job_at(names, jobs, &job.job.job().conf.job_name);
-        let verdict = verdict_on(before, job)?;
-        verdicts.push(verdict)?;
+        let difference = difference_on(before, job)?;
+        differences.push(difference)?;
     }
-    Ok(verdicts)
+    Ok(differences)
 }
 
 /// The job of a name, by the places of the names.
@@ -79,30 +79,30 @@ pub fn job_at<'a>(names: &JobNames, jobs: &'a [InForce], name: &Name) -> Option<
     look_job(jobs, names.place(name))
 }
 
-fn fate_by(verdict: &Verdict) -> Result<Fate, NoMemory>
-    ensures { IfOk result (λ f. f ≡ plan.fate_by verdict.now) }
+fn fate_by(difference: &Difference) -> Result<Fate, NoMemory>
+    ensures { IfOk result (λ f. f ≡ plan.fate_by difference.now) }
 {
-    match verdict {
-        Verdict::Apart => Ok(Fate::Closes),
-        Verdict::Same => Ok(Fate::Stays),
-        Verdict::Other(settings) => Ok(Fate::Changes(settings.share()?)),
+    match difference {
+        Difference::Incompatible => Ok(Fate::Closes),
+        Difference::Same => Ok(Fate::Stays),
+        Difference::Changed(settings) => Ok(Fate::Changes(settings.share()?)),
     }
 }
 
 fn fate_at(
     life: &Life,
     after: Option<&InForce>,
-    verdict: Option<&Verdict>,
+    difference: Option<&Difference>,
 ) -> Result<Fate, NoMemory>
-    ensures { IfOk result (λ f. f ≡ plan.fate_at life.now (option_copied after.entry) (option_copied verdict.entry)) }
+    ensures { IfOk result (λ f. f ≡ plan.fate_at life.now (option_copied after.entry) (option_copied difference.entry)) }
 {
     match after {
         None => Ok(Fate::Closes),
-        Some(job) => match verdict {
+        Some(job) => match difference {
             None => Ok(Fate::Closes),
-            Some(verdict) => {
+            Some(difference) => {
                 if job.kept.has(&life.identity) {
-                    fate_by(verdict)
+                    fate_by(difference)
                 } else {
                     Ok(Fate::Closes)
                 }
@@ -120,12 +120,12 @@ fn look_job(jobs: &[InForce], place: Option<usize>) -> Option<&InForce>
     }
 }
 
-fn look_verdict(verdicts: &[Verdict], place: Option<usize>) -> Option<&Verdict>
-    ensures { option_copied result ≡ plan.look verdicts.now place }
+fn look_difference(differences: &[Difference], place: Option<usize>) -> Option<&Difference>
+    ensures { option_copied result ≡ plan.look differences.now place }
 {
     match place {
         None => None,
-        Some(place) => verdicts.get(place),
+        Some(place) => differences.get(place),
     }
 }
 
@@ -139,18 +139,18 @@ pub fn job_name(life: &Life) -> &Name
 fn fate_of(
     names: &JobNames,
     news: &[InForce],
-    verdicts: &[Verdict],
+    differences: &[Difference],
     life: &Life,
 ) -> Result<Fate, NoMemory>
-    ensures { IfOk result (λ f. f ≡ plan.fate_of names.now news.now verdicts.now life.now) }
+    ensures { IfOk result (λ f. f ≡ plan.fate_of names.now news.now differences.now life.now) }
 {
     if !is_open(life) {
         return Ok(Fate::Stays);
     }
     let place = names.place(job_name(life));
     let after = look_job(news, place);
-    let verdict = look_verdict(verdicts, place);
-    fate_at(life, after, verdict)
+    let difference = look_difference(differences, place);
+    fate_at(life, after, difference)
 }
 
 /// What becomes of each life that is concerned.
@@ -158,14 +158,14 @@ pub fn fates_of(
     alloc: Global,
     names: &JobNames,
     news: &[InForce],
-    verdicts: &[Verdict],
+    differences: &[Difference],
     lives: &Lives<'_>,
 ) -> Result<Vec<Fate>, NoMemory>
-    ensures { IfOk result (λ v. v.items ≡ map (plan.fate_of names.now news.now verdicts.now) (concerned.concerned lives.now)) }
+    ensures { IfOk result (λ v. v.items ≡ map (plan.fate_of names.now news.now differences.now) (concerned.concerned lives.now)) }
 {
     let mut fates = Vec::with_capacity(alloc, lives.count())?;
     for index in 0..lives.count() {
-        let fate = fate_of(names, news, verdicts, lives.at(index))?;
+        let fate = fate_of(names, news, differences, lives.at(index))?;
         fates.push(fate)?;
     }
     Ok(fates)

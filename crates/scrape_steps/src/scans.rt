@@ -18,7 +18,7 @@ use label_set::NoMemory;
 use life_roll::{JobNames, Moment};
 use report_samples::Entry;
 use scrape_machine::Answer;
-use scrape_machine::lives::{Life, Start};
+use scrape_machine::lives::{Life, StartedScrape};
 use std::alloc::Global;
 
 fn is_crowded(job: Option<&InForce>) -> bool
@@ -100,7 +100,7 @@ pub fn count_ends(moment: Moment, lives: &Lives<'_>) -> usize
 fn push_start(
     names: &JobNames,
     jobs: &[InForce],
-    begun: &mut Vec<Start>,
+    begun: &mut Vec<StartedScrape>,
     moment: Moment,
     life: &Life,
     place: u64,
@@ -111,7 +111,7 @@ fn push_start(
     if starts_in(names, jobs, moment, life) {
         let settings = life.settings.share()?;
         begun.reserve(1)?;
-        begun.push_reserved(Start {
+        begun.push_reserved(StartedScrape {
             life: place,
             settings,
             finished: false,
@@ -127,7 +127,7 @@ pub fn starts_of(
     jobs: &[InForce],
     moment: Moment,
     lives: &Lives<'_>,
-) -> Result<Vec<Start>, NoMemory>
+) -> Result<Vec<StartedScrape>, NoMemory>
     requires { names.now ≡ map spec.name_of jobs.now }
     ensures { IfOk result (λ v. v.items ≡ spec.starts_from jobs.now (number moment) 0 lives.now.all) }
 {
@@ -166,7 +166,7 @@ pub fn sweep_lives(
     jobs: &[InForce],
     lives: &mut [Life],
     places: &[usize],
-    started: &[Start],
+    started: &[StartedScrape],
     moment: Moment,
 )
     requires names { names.now ≡ map spec.name_of jobs.now }
@@ -219,14 +219,14 @@ pub fn ticked(
     moment: Moment,
     life: &Life,
     place: u64,
-) -> Result<Vec<Start>, NoMemory>
+) -> Result<Vec<StartedScrape>, NoMemory>
     ensures { IfOk result (λ v. v.items ≡ spec.started_by (lives_of.starts (number moment) over life.now) place life.now) }
 {
     let mut begun = Vec::new(alloc);
     if starts(moment, over, life) {
         let settings = life.settings.share()?;
         begun.reserve(1)?;
-        begun.push_reserved(Start {
+        begun.push_reserved(StartedScrape {
             life: place,
             settings,
             finished: false,

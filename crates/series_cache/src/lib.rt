@@ -3,7 +3,7 @@
 //! and those that are added are told.
 //! Contracts see a cache as the list of its texts with what is known of each, and how many are of the last good scrape; `specs/Caches.antt` says
 //! what each call makes of it, `specs/Sets.antt` which sets are gone.
-//! Tests: `tests_deciding::caches`; cases: `scrape_cases::texts`.
+//! Cases: `scrape_cases::{texts, tracked}`.
 #![tactic(auto)]
 
 mod added;

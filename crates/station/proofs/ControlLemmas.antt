@@ -10,7 +10,7 @@ use Rattle.outside.specs.Objects.{ShelfSeen, SinkSeen, Use, used, Rose}
 use Rattle.outside.specs.Sources.{SourceSeen}
 use Rattle.outside.specs.declared.objects.StoredFile.{StoredFile}
 use Rattle.run_lock.specs.Callers.{jobs_after, jobs_known}
-use Rattle.run_lock.specs.declared.tasks.Order.{Order}
+use Rattle.run_lock.specs.declared.tasks.ControlOrder.{ControlOrder}
 use Rattle.run_lock.proofs.CallerLemmas.{jobs_join}
 use Rattle.run_lock.specs.declared.marks.Entry.{Entry}
 use Rattle.station.specs.Control.{Did, did, both, line_did, lines_did, rereads, control_lines, given_lines, caller_did, Fits, Came, HasOrdered, HasOrderedSome, StoppedIn, HasDone, IsFrontOf, DoesSo, LastDoes, HasRead, piece_did, last_did, ControlDid, CallerDid}
@@ -249,7 +249,7 @@ module _ (start : List Event) (control : Use SourceSeen) (v w u : List Entry) wh
       let rest = lines_did files (jobs_after (jobs_known start v) (rereads files (jobs_known start v))) 1 lines in
       record {
         what = did h.front [];
-        fits = (record { rest = did (h.more ++ rest.orders) rest.said; orders = ap (λ (os : List Order). os ++ rest.orders) h.whole ∙ append_assoc h.front h.more rest.orders; said = refl }, λ calm. absurd (calm rose));
+        fits = (record { rest = did (h.more ++ rest.orders) rest.said; orders = ap (λ (os : List ControlOrder). os ++ rest.orders) h.whole ∙ append_assoc h.front h.more rest.orders; said = refl }, λ calm. absurd (calm rose));
         done = record { orders = h.has; said = adds_nothing d e still };
       }
 

@@ -18,8 +18,8 @@ use Rattle.run_lock.specs.Callers.{load_fault, jobs_known}
 use Rattle.run_lock.specs.Listed.{listed_in}
 use Rattle.run_lock.specs.Tasks.{IsOrdered}
 use Rattle.run_lock.specs.declared.listed.Listed.{Listed}
-use Rattle.run_lock.specs.declared.tasks.Order.{Order}
-use Rattle.run_lock.specs.declared.tasks.Order.TheVariants.{Load, Update}
+use Rattle.run_lock.specs.declared.tasks.ControlOrder.{ControlOrder}
+use Rattle.run_lock.specs.declared.tasks.ControlOrder.TheVariants.{Load, Update}
 use Rattle.scrape_machine.specs.Machine.{or_else, after_load}
 use Rattle.run_lock.specs.declared.marks.Entry.{Entry}
 use Rattle.station.specs.Control.{Did, did, found_in, update_of, update_in, updates_in, rereads, load_taken, update_does, update_refused, line_does, line_did, HasOrdered, HasOrderedSome, StoppedIn, Orders, Does, HasDone, HasBegun, StoppedDoing, DoesSo, Says}
@@ -27,8 +27,8 @@ use Rattle.station.specs.Ends.{SaidStops}
 use Rattle.station.specs.InputLines.{is_feed}
 use Rattle.station.specs.declared.ends.Stop.{Stop}
 use Rattle.station.specs.declared.ends.Stop.TheVariants as stop
-use Rattle.station.specs.declared.orders.Found.{Found}
-use Rattle.station.specs.declared.orders.Found.TheVariants as found
+use Rattle.station.specs.declared.orders.FileAnswer.{FileAnswer}
+use Rattle.station.specs.declared.orders.FileAnswer.TheVariants as found
 use Rattle.station.proofs.FrontLemmas.{known_after, adds_nothing, ordered_none, ordered_then, stopped_then, stopped_longer}
 
 -- facts of options and results whose kind is known
@@ -73,7 +73,7 @@ no_feed b h = grind (arith, nat_tests)
 pub a_feed : (b : ℕ) → b ≡ 10 → is_feed b ≡ true
 a_feed b h = grind (arith, nat_tests)
 
-pub orders_ok : {A : Type 0} {os : List Order} {v w : List Entry} (r : Result A Stop) → is_err r ≡ false → Orders r os v w → HasOrdered os v w
+pub orders_ok : {A : Type 0} {os : List ControlOrder} {v w : List Entry} (r : Result A Stop) → is_err r ≡ false → Orders r os v w → HasOrdered os v w
 orders_ok (Ok x) is h = h
 orders_ok (Err e) is h = absurd (cc)
 
@@ -82,16 +82,16 @@ does_ok (Ok x) is h = h
 does_ok (Err e) is h = absurd (cc)
 
 -- one more order
-pub ordered_more : (v w : List Entry) (o : Order) → IsOrdered o v w → HasOrdered (o ∷ []) v w
+pub ordered_more : (v w : List Entry) (o : ControlOrder) → IsOrdered o v w → HasOrdered (o ∷ []) v w
 ordered_more v w o h = record { carried = record { order = o; last = h.0 } ∷ []; these = refl; added = h.1 }
 
-pub one_update : (o : Option (List StoredFile)) (l : Listed) (f : Found) (text : List ℕ) (v w : List Entry) → f ≡ found.Text text → IfSome o (λ files. f ≡ found_in files l.file) → IsOrdered (Update l.job l.file text) v w → IfSome o (λ files. HasOrdered (update_in files l) v w)
+pub one_update : (o : Option (List StoredFile)) (l : Listed) (f : FileAnswer) (text : List ℕ) (v w : List Entry) → f ≡ found.Text text → IfSome o (λ files. f ≡ found_in files l.file) → IsOrdered (Update l.job l.file text) v w → IfSome o (λ files. HasOrdered (update_in files l) v w)
 one_update o l f text v w same found h = if_map o (λ files is. subst (λ g. HasOrdered (update_of l g) v w) (sym same ∙ is) (ordered_more v w (Update l.job l.file text) h)) found
 
-pub no_update : (o : Option (List StoredFile)) (l : Listed) (f : Found) (why : Refusal) (v w : List Entry) → f ≡ found.Refusal why → IfSome o (λ files. f ≡ found_in files l.file) → w ≡ v → IfSome o (λ files. HasOrdered (update_in files l) v w)
+pub no_update : (o : Option (List StoredFile)) (l : Listed) (f : FileAnswer) (why : Refusal) (v w : List Entry) → f ≡ found.Refusal why → IfSome o (λ files. f ≡ found_in files l.file) → w ≡ v → IfSome o (λ files. HasOrdered (update_in files l) v w)
 no_update o l f why v w same found still = if_map o (λ files is. subst (λ g. HasOrdered (update_of l g) v w) (sym same ∙ is) (ordered_none v w still)) found
 
-pub update_done : (o : Option (List StoredFile)) (jobs : List InForce) (job file text : List ℕ) (v w : List Entry) (r : Option Refusal) (f : Found) → f ≡ found.Text text → IfSome o (λ files. f ≡ found_in files file) → IsOrdered (Update job file text) v w
+pub update_done : (o : Option (List StoredFile)) (jobs : List InForce) (job file text : List ℕ) (v w : List Entry) (r : Option Refusal) (f : FileAnswer) → f ≡ found.Text text → IfSome o (λ files. f ≡ found_in files file) → IsOrdered (Update job file text) v w
     → r ≡ update_refused (updated jobs job file text) → IfSome o (λ files. Does (Ok r) (update_does jobs job file (found_in files file)) v w)
 update_done o jobs job file text v w r f same found h is =
     if_map o (λ files at. subst (λ g. Does (Ok r) (update_does jobs job file g) v w) (sym same ∙ at) (ordered_more v w (Update job file text) h, is)) found
@@ -132,7 +132,7 @@ popped files ls ms l is = ap (λ xs. updates_in files (reverse xs)) is ∙ ap (u
 
 -- the files of a list were read but for these
 pub record HasReread (files : List StoredFile) (all left : List Listed) (v w : List Entry) : Type 0 where
-  pub orders : List Order
+  pub orders : List ControlOrder
   pub rest : orders ++ updates_in files (reverse left) ≡ updates_in files (reverse all)
   pub has : HasOrdered orders v w
 

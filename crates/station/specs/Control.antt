@@ -22,8 +22,8 @@ use Rattle.run_lock.specs.Entries.{entry}
 use Rattle.run_lock.specs.Held.{events_of}
 use Rattle.run_lock.specs.Listed.{listed_in}
 use Rattle.run_lock.specs.declared.listed.Listed.{Listed}
-use Rattle.run_lock.specs.declared.tasks.Order.{Order}
-use Rattle.run_lock.specs.declared.tasks.Order.TheVariants.{Load, Update}
+use Rattle.run_lock.specs.declared.tasks.ControlOrder.{ControlOrder}
+use Rattle.run_lock.specs.declared.tasks.ControlOrder.TheVariants.{Load, Update}
 use Rattle.run_lock.specs.Tasks.{event_at, order_brought}
 use Rattle.scrape_config.specs.declared.conf.Group.{Group}
 use Rattle.scrape_machine.specs.Machine.{world_of}
@@ -35,39 +35,39 @@ use Rattle.station.specs.declared.ends.RunEnd.{RunEnd}
 use Rattle.station.specs.declared.ends.RunEnd.TheVariants.{Done, ReadFault, WriteFault, NoMemory, TooLong as TooMuch}
 use Rattle.station.specs.declared.ends.Stop.{Stop}
 use Rattle.station.specs.declared.ends.Stop.TheVariants as stop
-use Rattle.station.specs.declared.orders.Found.{Found}
-use Rattle.station.specs.declared.orders.Found.TheVariants as found
+use Rattle.station.specs.declared.orders.FileAnswer.{FileAnswer}
+use Rattle.station.specs.declared.orders.FileAnswer.TheVariants as found
 
 -- what a file of a name gives: its text, or why it gives none
-abbrev pub found_of : Option (List ℕ) → Found
+abbrev pub found_of : Option (List ℕ) → FileAnswer
 found_of None = found.Refusal Absent
 found_of (Some text) = if nat_lt most_text_bytes (length text) then found.Refusal TooLong else found.Text text
 
-abbrev pub found_in : List StoredFile → List ℕ → Found
+abbrev pub found_in : List StoredFile → List ℕ → FileAnswer
 found_in files name = found_of (file_of name files)
 
 -- an update for each listed file that is there and not too long
-abbrev pub update_of : Listed → Found → List Order
+abbrev pub update_of : Listed → FileAnswer → List ControlOrder
 update_of l (found.Text text) = Update l.job l.file text ∷ []
 update_of l (found.Refusal why) = []
 
-abbrev pub update_in : List StoredFile → Listed → List Order
+abbrev pub update_in : List StoredFile → Listed → List ControlOrder
 update_in files l = update_of l (found_in files l.file)
 
-abbrev pub updates_in : List StoredFile → List Listed → List Order
+abbrev pub updates_in : List StoredFile → List Listed → List ControlOrder
 updates_in files [] = []
 updates_in files (l ∷ ls) = update_in files l ++ updates_in files ls
 
 -- the listed files of the configuration in force are read
-abbrev pub rereads : List StoredFile → List InForce → List Order
+abbrev pub rereads : List StoredFile → List InForce → List ControlOrder
 rereads files jobs = updates_in files (listed_in jobs)
 
 -- what a line does: its orders, and why it doesn't succeed, if it doesn't
 pub record Doing : Type 0 where
-  pub orders : List Order
+  pub orders : List ControlOrder
   pub why : Option Refusal
 
-abbrev pub doing : List Order → Option Refusal → Doing
+abbrev pub doing : List ControlOrder → Option Refusal → Doing
 doing orders why = record { orders = orders; why = why }
 
 -- a load; where it is taken, the listed files of the new configuration are read
@@ -75,7 +75,7 @@ abbrev pub load_taken : List StoredFile → List ℕ → Result (List Filed) Con
 load_taken files text (Err fault) = doing (Load text ∷ []) (Some (Refused fault))
 load_taken files text (Ok fs) = doing (Load text ∷ rereads files (map in_force fs)) None
 
-abbrev pub load_does : List StoredFile → List InForce → Found → Doing
+abbrev pub load_does : List StoredFile → List InForce → FileAnswer → Doing
 load_does files jobs (found.Refusal why) = doing [] (Some why)
 load_does files jobs (found.Text text) = load_taken files text (loaded jobs text)
 
@@ -86,7 +86,7 @@ update_refused (Err UnknownJob) = Some NoJob
 update_refused (Err UnknownFile) = Some NoFile
 update_refused (Err (Faulty fault)) = Some (Refused fault)
 
-abbrev pub update_does : List InForce → List ℕ → List ℕ → Found → Doing
+abbrev pub update_does : List InForce → List ℕ → List ℕ → FileAnswer → Doing
 update_does jobs job file (found.Refusal why) = doing [] (Some why)
 update_does jobs job file (found.Text text) = doing (Update job file text ∷ []) (update_refused (updated jobs job file text))
 
@@ -101,10 +101,10 @@ line_does files jobs line = command_does files jobs (command_in line)
 
 -- what some lines did: their orders, and what was said of them
 pub record Did : Type 0 where
-  pub orders : List Order
+  pub orders : List ControlOrder
   pub said : List ℕ
 
-abbrev pub did : List Order → List ℕ → Did
+abbrev pub did : List ControlOrder → List ℕ → Did
 did orders said = record { orders = orders; said = said }
 
 abbrev pub both : Did → Did → Did
@@ -124,34 +124,34 @@ most_control_bytes = 1048576
 
 -- an order that was carried out, and the last moment before its event
 pub record Ordered : Type 0 where
-  pub order : Order
+  pub order : ControlOrder
   pub last : ℕ
 
-abbrev pub order_of : Ordered → Order
+abbrev pub order_of : Ordered → ControlOrder
 order_of o = o.order
 
 abbrev pub entry_for : Ordered → Entry
 entry_for o = entry 0 (order_brought o.order o.last)
 
 -- the caller's entries after these further orders, and nothing else
-pub record HasOrdered (orders : List Order) (v w : List Entry) : Type 0 where
+pub record HasOrdered (orders : List ControlOrder) (v w : List Entry) : Type 0 where
   pub carried : List Ordered
   pub these : map order_of carried ≡ orders
   pub added : w ≡ v ++ map entry_for carried
 
 -- the same after a front of them
-pub record HasOrderedSome (orders : List Order) (v w : List Entry) : Type 0 where
-  pub front : List Order
-  pub more : List Order
+pub record HasOrderedSome (orders : List ControlOrder) (v w : List Entry) : Type 0 where
+  pub front : List ControlOrder
+  pub more : List ControlOrder
   pub whole : orders ≡ front ++ more
   pub has : HasOrdered front v w
 
 -- where something stopped it: after a front of them; where memory ran out nothing is said
-abbrev pub StoppedIn : Stop → List Order → List Entry → List Entry → Type 0
+abbrev pub StoppedIn : Stop → List ControlOrder → List Entry → List Entry → Type 0
 StoppedIn stop.NoMemory orders v w = Unit {0}
 StoppedIn s orders v w = HasOrderedSome orders v w
 
-abbrev pub Orders : {A : Type 0} → Result A Stop → List Order → List Entry → List Entry → Type 0
+abbrev pub Orders : {A : Type 0} → Result A Stop → List ControlOrder → List Entry → List Entry → Type 0
 Orders (Ok x) orders v w = HasOrdered orders v w
 Orders (Err s) orders v w = StoppedIn s orders v w
 

@@ -20,7 +20,7 @@ use control_lines::{Command, Refusal, command_in, message_of};
 use label_set::{Blob, Name};
 use outside::{MOST_TEXT_BYTES, Shelf, ShelfError, Sink};
 use run_lock::listed::Listed;
-use run_lock::tasks::{Order, fault_of};
+use run_lock::tasks::{ControlOrder, fault_of};
 use run_lock::{Asked, Seat};
 use scrape_core::Answer;
 use std::alloc::Global;
@@ -29,22 +29,22 @@ use std::sync::ledger::Ledger;
 
 /// What a line's file gives: its bytes, or why it gives none.
 #[derive(Drop)]
-pub enum Found {
+pub enum FileAnswer {
     Text(Blob),
     Refusal(Refusal),
 }
 
 /// Reads a file of at most 4 MiB.
-fn read_text<S: Shelf>(alloc: Global, shelf: &mut S, file: &Name) -> Result<Found, Stop>
+fn read_text<S: Shelf>(alloc: Global, shelf: &mut S, file: &Name) -> Result<FileAnswer, Stop>
     ensures text { IfOk result IsShortText }
     ensures found { IfOk result (λ f. IfSome (S.seen shelf.old).files (λ files. f ≡ spec.found_in files file.now)) }
     ensures shelf { ShelfWent (used (S.seen shelf.old) (S.seen shelf.new)) }
     ensures stops { FileStops result (used (S.seen shelf.old) (S.seen shelf.new)) }
 {
     match shelf.read_file(alloc, file.as_str(), MOST_TEXT_BYTES as usize) {
-        Ok(text) => Ok(Found::Text(text)),
-        Err(ShelfError::Absent) => Ok(Found::Refusal(Refusal::Absent)),
-        Err(ShelfError::TooLong) => Ok(Found::Refusal(Refusal::TooLong)),
+        Ok(text) => Ok(FileAnswer::Text(text)),
+        Err(ShelfError::Absent) => Ok(FileAnswer::Refusal(Refusal::Absent)),
+        Err(ShelfError::TooLong) => Ok(FileAnswer::Refusal(Refusal::TooLong)),
         Err(ShelfError::Failed) => Err(Stop::ReadFault),
         Err(ShelfError::NoMemory) => Err(Stop::NoMemory),
     }
@@ -79,11 +79,11 @@ fn read_one<'r, L: Ledger, B: Asked, R: Wait, S: Shelf>(
         (own_of seat.old.pass) (own_of seat.new.pass)) }
 {
     let text = match read_text(seat.alloc, shelf, &listed.file) {
-        Ok(Found::Text(text)) => text,
-        Ok(Found::Refusal(_)) => return Ok(()),
+        Ok(FileAnswer::Text(text)) => text,
+        Ok(FileAnswer::Refusal(_)) => return Ok(()),
         Err(stop) => return Err(stop),
     };
-    let order = Order::Update {
+    let order = ControlOrder::Update {
         job: listed.job,
         file: listed.file,
         text,
@@ -157,7 +157,7 @@ fn load_text<'r, L: Ledger, B: Asked, R: Wait, S: Shelf>(
         Does result (spec.load_taken files text (loaded (jobs_known B.start (own_of seat.old.pass)) text))
         (own_of seat.old.pass) (own_of seat.new.pass)) }
 {
-    let answer = seat.carry_out(Order::Load { text });
+    let answer = seat.carry_out(ControlOrder::Load { text });
     let Some(answer) = answer else {
         return Err(Stop::NoMemory);
     };
@@ -187,8 +187,8 @@ fn load_file<'r, L: Ledger, B: Asked, R: Wait, S: Shelf>(
         (own_of seat.old.pass) (own_of seat.new.pass)) }
 {
     match read_text(seat.alloc, shelf, file) {
-        Ok(Found::Text(text)) => load_text(seat, shelf, text),
-        Ok(Found::Refusal(refusal)) => Ok(Some(refusal)),
+        Ok(FileAnswer::Text(text)) => load_text(seat, shelf, text),
+        Ok(FileAnswer::Refusal(refusal)) => Ok(Some(refusal)),
         Err(stop) => Err(stop),
     }
 }
@@ -224,11 +224,11 @@ fn update_file<'r, L: Ledger, B: Asked, R: Wait, S: Shelf>(
         (own_of seat.old.pass) (own_of seat.new.pass)) }
 {
     let text = match read_text(seat.alloc, shelf, &file) {
-        Ok(Found::Text(text)) => text,
-        Ok(Found::Refusal(refusal)) => return Ok(Some(refusal)),
+        Ok(FileAnswer::Text(text)) => text,
+        Ok(FileAnswer::Refusal(refusal)) => return Ok(Some(refusal)),
         Err(stop) => return Err(stop),
     };
-    let answer = seat.carry_out(Order::Update { job, file, text });
+    let answer = seat.carry_out(ControlOrder::Update { job, file, text });
     match answer {
         Some(answer) => Ok(refusal_of(answer)),
         None => Err(Stop::NoMemory),

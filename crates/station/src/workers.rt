@@ -6,7 +6,7 @@ ghost use Rattle.station.specs.Crews.{HasFinished};
 ghost use Rattle.turn_lock.specs.Passes.{own_of, seen_by};
 
 use outside::Fetch;
-use run_lock::{Asked, RunPass, Seat, Task};
+use run_lock::{Asked, RunPass, Seat, WorkerTask};
 use std::sync::Wait;
 use std::sync::ledger::Ledger;
 
@@ -56,7 +56,7 @@ impl<'r, L: Ledger, B: Asked, R: Wait, F: Fetch> Worker<'r, L, B, R, F> {
         let rt = seat.rt;
         for _ in rt.forever() {
             match seat.next_task(place) {
-                Task::Fetch { ticket, request } => {
+                WorkerTask::Fetch { ticket, request } => {
                     let Ok(fetched) = fetcher.fetch(seat.alloc, &request) else {
                         seat.fail(2 + place as u32);
                         return stopped(fetcher, seat.pass);
@@ -65,15 +65,15 @@ impl<'r, L: Ledger, B: Asked, R: Wait, F: Fetch> Worker<'r, L, B, R, F> {
                         return stopped(fetcher, seat.pass);
                     }
                 }
-                Task::Wait => {}
-                Task::End => {
+                WorkerTask::Wait => {}
+                WorkerTask::End => {
                     return Worked {
                         fetcher,
                         pass: seat.pass,
                         ended: true,
                     };
                 }
-                Task::Fail => return stopped(fetcher, seat.pass),
+                WorkerTask::Fail => return stopped(fetcher, seat.pass),
             }
         }
         unreachable!()

@@ -1,11 +1,13 @@
-//! What a reply to a scrape comes to. Each fault shows in a case, too.
+//! What a reply to a scrape comes to by itself. What a life makes of it, and the counts of each fault, the cases show.
 ghost use Rattle.std.specs.Prelude.{◌≡◌, ◌<◌};
 
-use crate::shared::{are_bytes, conf_of, job_in, labelled};
+use crate::conflicts::lines_are_joined;
+use crate::reports::reports_are_made;
+use crate::shared::{are_bytes, conf_of, job_in, set_of};
 use label_set::{Blob, LabelSet, NoMemory, Steps};
 use outside::Reply;
 use sample_rows::left::is_named;
-use sample_rows::{RowRules, Sample, Scrape, rows};
+use sample_rows::{RowRules, Scrape, rows};
 use scrape_config::Job;
 use scrape_limits::Limits;
 use std::alloc::Global;
@@ -35,41 +37,6 @@ const RULES: RowRules = RowRules {
     },
 };
 
-/// Adds a sample: its set, its value, and its timestamp where it has one.
-fn push_sample(alloc: Global, text: &mut Vec<u8>, sample: &Sample) -> Result<(), NoMemory> {
-    sample.set.append_text(text)?;
-    text.push(b' ')?;
-    text.extend_from_slice(sample.value.bytes())?;
-    if let Some(stamp) = sample.stamp {
-        text.push(b' ')?;
-        text.extend_from_slice(stamp.to_string(alloc)?.as_bytes())?;
-    }
-    text.extend_from_slice(b"; ")?;
-    Ok(())
-}
-
-/// What a scrape comes to, as a text.
-fn shown(alloc: Global, scrape: &Scrape) -> Result<Vec<u8>, NoMemory> {
-    let mut text = Vec::new(alloc);
-    match scrape {
-        Scrape::Good { rows, scraped } => {
-            for sample in &rows.items {
-                push_sample(alloc, &mut text, sample)?;
-            }
-            text.extend_from_slice(format!(in alloc; "of {scraped}")?.as_bytes())?;
-        }
-        Scrape::Bad {
-            fault,
-            scraped,
-            left,
-        } => {
-            let told = format!(in alloc; "{fault:?}, {left} of {scraped}")?;
-            text.extend_from_slice(told.as_bytes())?;
-        }
-    }
-    Ok(text)
-}
-
 /// What a reply that took so long comes to, for a target without a metric name.
 fn counted<L: Ledger>(
     alloc: Global,
@@ -98,47 +65,29 @@ fn counted<L: Ledger>(
     )
 }
 
-fn outcome(
-    alloc: Global,
-    job: &Job,
-    target: &LabelSet,
-    reply: &Reply,
-    took: i64,
-) -> Result<Scrape, NoMemory> {
-    counted::<Brand>(alloc, Blank::new(1), job, target, reply, took)
+fn outcome(alloc: Global, job: &Job, reply: &Reply, took: i64) -> Result<Scrape, NoMemory> {
+    let target = set_of(alloc, "job=j")?;
+    counted::<Brand>(alloc, Blank::new(1), job, &target, reply, took)
 }
 
-/// What it comes to under the job.
-fn told(rt: &impl Abort, alloc: Global, reply: &Reply, took: i64) -> Result<Vec<u8>, NoMemory> {
+/// What a reply comes to under the job, as a text.
+fn told(rt: &impl Abort, alloc: Global, reply: &Reply, took: i64) -> Result<String, NoMemory> {
     let conf = conf_of(rt, alloc, FIELDS)?;
-    let target = labelled(alloc, "job", "j")?;
-    let scrape = outcome(alloc, job_in(rt, &conf), &target, reply, took)?;
-    shown(alloc, &scrape)
-}
-
-/// Ends the test where a reply doesn't come to what is wanted.
-fn is_told(
-    rt: &impl Abort,
-    alloc: Global,
-    reply: &Reply,
-    took: i64,
-    want: &str,
-) -> Result<(), NoMemory> {
-    are_bytes(rt, &told(rt, alloc, reply, took)?, want.as_bytes());
-    Ok(())
+    let text = match outcome(alloc, job_in(rt, &conf), reply, took)? {
+        Scrape::Good { rows, scraped } => format!(in alloc; "{} of {scraped}", rows.items.len())?,
+        Scrape::Bad {
+            fault,
+            scraped,
+            left,
+        } => format!(in alloc; "{fault:?}, {left} of {scraped}")?,
+    };
+    Ok(text)
 }
 
 /// The status and the text of a body, how long its fetch took, and what it comes to.
-type Row = (u16, &'static str, i64, &'static str);
-
-const BODIES: &[Row] = &[
-    (
-        200,
-        "x{job=\"a\"} 1 5\ny 2\nz 3\n",
-        10_000,
-        "x{exported_job=\"a\",job=\"j\"} 1 5; z{job=\"j\"} 3; of 3",
-    ),
-    (200, "", 0, "of 0"),
+const BODIES: &[(u16, &str, i64, &str)] = &[
+    (200, "x{job=\"a\"} 1 5\ny 2\nz 3\n", 10_000, "2 of 3"),
+    (200, "", 0, "0 of 0"),
     (404, "x 1\n", 10_001, "Slow, 0 of 0"),
     (404, "x{ 1\n", 5, "Status(404), 0 of 0"),
     (
@@ -153,45 +102,36 @@ const BODIES: &[Row] = &[
 ];
 
 fn bodies_are_told(rt: &impl Abort, alloc: Global) -> Result<(), NoMemory> {
-    for &(status, text, took, want) in BODIES {
+    for &(status, text, took, wanted) in BODIES {
         let bytes = Blob::from_slice(alloc, text.as_bytes())?;
-        let reply = Reply::Body { status, bytes };
-        is_told(rt, alloc, &reply, took, want)?;
+        let found = told(rt, alloc, &Reply::Body { status, bytes }, took)?;
+        are_bytes(rt, found.as_bytes(), wanted.as_bytes());
     }
-    Ok(())
-}
-
-/// The same of bodies whose names may stand in quotes.
-const QUOTED: &[Row] = &[
-    (
-        200,
-        "{\"a.b\",\"c.d\"=\"x\"} 1\ny 2\n",
-        10_000,
-        "{\"a.b\",\"c.d\"=\"x\",job=\"j\"} 1; of 2",
-    ),
-    (404, "x 1\n", 5, "Status(404), 0 of 0"),
-];
-
-fn names_in_quotes_are_told(rt: &impl Abort, alloc: Global) -> Result<(), NoMemory> {
-    for &(status, text, took, want) in QUOTED {
-        let bytes = Blob::from_slice(alloc, text.as_bytes())?;
-        let reply = Reply::Quoted { status, bytes };
-        is_told(rt, alloc, &reply, took, want)?;
-    }
+    let bytes = Blob::from_slice(alloc, b"{\"a.b\",\"c.d\"=\"x\"} 1\ny 2\n")?;
+    let status = 200;
+    let found = told(rt, alloc, &Reply::Quoted { status, bytes }, 10_000)?;
+    are_bytes(rt, found.as_bytes(), b"1 of 2");
     Ok(())
 }
 
 fn other_replies_are_told(rt: &impl Abort, alloc: Global) -> Result<(), NoMemory> {
-    is_told(rt, alloc, &Reply::Lost, 5, "Lost, 0 of 0")?;
-    is_told(rt, alloc, &Reply::Garbled, 5, "Garbled, 0 of 0")?;
-    is_told(rt, alloc, &Reply::Unsent, 5, "Unsent, 0 of 0")?;
-    is_told(rt, alloc, &Reply::Oversize, 5, "Size, 0 of 0")
+    for (reply, wanted) in &[
+        (Reply::Lost, "Lost, 0 of 0"),
+        (Reply::Garbled, "Garbled, 0 of 0"),
+        (Reply::Unsent, "Unsent, 0 of 0"),
+        (Reply::Oversize, "Size, 0 of 0"),
+    ] {
+        let found = told(rt, alloc, reply, 5)?;
+        are_bytes(rt, found.as_bytes(), wanted.as_bytes());
+    }
+    Ok(())
 }
 
 #[test]
 fn replies_come_to_samples_or_a_fault(rt: HostRuntime) -> Result<(), Fail> {
+    lines_are_joined(&rt, rt.alloc())?;
     bodies_are_told(&rt, rt.alloc())?;
-    names_in_quotes_are_told(&rt, rt.alloc())?;
     other_replies_are_told(&rt, rt.alloc())?;
+    reports_are_made(&rt, rt.alloc())?;
     Ok(())
 }

@@ -1,9 +1,7 @@
-//! What several of the tests make and show, and what ends a test. A call of what ends one has no branch of its own, so a test with many of
-//! them is proved fast.
+//! What several of the tests make, and what ends a test. A call of what ends one has no branch of its own, so a test
+//! with many of them is proved fast.
 
-use label_set::sets::LabelError;
 use label_set::{LabelSet, NoMemory};
-use report_samples::{Entry, EntryList};
 use scrape_config::{Conf, ConfError, Job, read_conf};
 use std::alloc::Global;
 use std::process::Abort;
@@ -18,21 +16,14 @@ pub(crate) fn are_bytes(rt: &impl Abort, found: &[u8], wanted: &[u8]) {
     assert_eq!(rt; found, wanted);
 }
 
-/// The set that labels make, put in one after another.
-pub(crate) fn set_of(alloc: Global, labels: &[(&str, &str)]) -> Result<LabelSet, LabelError> {
+/// The set of labels that are written as `name=value`, with blanks between them.
+pub(crate) fn set_of(alloc: Global, labels: &str) -> Result<LabelSet, NoMemory> {
     let mut set = LabelSet::empty();
-    for label in labels {
-        set = set.with(alloc, label.0, label.1)?;
+    for label in labels.split(' ') {
+        let (name, value) = label.split_once('=').unwrap_or((label, ""));
+        set = set.with(alloc, name, value).map_err(|_| NoMemory)?;
     }
     Ok(set)
-}
-
-/// The set of one label.
-pub(crate) fn labelled(alloc: Global, name: &str, value: &str) -> Result<LabelSet, NoMemory> {
-    match LabelSet::empty().with(alloc, name, value) {
-        Ok(set) => Ok(set),
-        Err(_) => Err(NoMemory),
-    }
 }
 
 /// The configuration of a job `j` with these fields.
@@ -51,29 +42,4 @@ pub(crate) fn job_in<'a>(rt: &impl Abort, conf: &'a Conf) -> &'a Job {
         Some(job) => job,
         None => panic!(rt; "no job"),
     }
-}
-
-/// Adds the text of an entry: its moment, life and kind, and its series with its value.
-pub(crate) fn push_entry(alloc: Global, text: &mut Vec<u8>, entry: &Entry) -> Result<(), NoMemory> {
-    let head = format!(in alloc; "{} {} {:?} ", entry.moment, entry.life, entry.kind)?;
-    text.extend_from_slice(head.as_bytes())?;
-    entry.series.append_text(text)?;
-    if let Some(value) = &entry.value {
-        text.push(b' ')?;
-        text.extend_from_slice(value.bytes())?;
-    }
-    text.push(b'\n')?;
-    Ok(())
-}
-
-/// Adds the texts of entries.
-pub(crate) fn push_entries(
-    alloc: Global,
-    text: &mut Vec<u8>,
-    entries: &EntryList,
-) -> Result<(), NoMemory> {
-    for entry in &entries.items {
-        push_entry(alloc, text, entry)?;
-    }
-    Ok(())
 }

@@ -1,52 +1,56 @@
-//! Tests of the ground: `label_set`, `value_text`, `outside` and `os_streams`. They show what no contract says: that calls succeed
-//! where there is memory, what is printed, values that others wrote down, and what a machine's files, clocks and links
-//! do. There is no code here. What shows each public call, a test or what a test calls:
+//! Tests of the ground: `label_set`, `outside` and `os_streams`. What a case or a check shows on the built program
+//! isn't shown again here: what stays are calls that the program doesn't make, and what a signal or a slow server does
+//! to an input and a link. There is no code here. What shows each public call, by a test, by a file of cases in
+//! `crates/scrape_cases`, or by a script of `checks`:
 //!
-//! | public call | test |
+//! | public call | test, cases or check |
 //! |---|---|
-//! | `Name::{from_str, copy, as_str}`, `NameList::as_slice` | `label_sets::texts_and_bytes_are_copied` |
-//! | `Blob::{from_slice, copy, as_slice}` | `label_sets::texts_and_bytes_are_copied` |
-//! | `Pair::{from_strs, copy}`, `PairList::as_slice` | `label_sets::labels_are_copied` |
-//! | `is_label_name`, `is_metric_name` | `label_sets::names_are_told_apart` |
-//! | `LabelSet::{with, len, get, at}` | `label_sets::labels_are_found` |
-//! | `LabelSet::{with_all, without, cmp}` | `label_sets::labels_come_and_go` |
-//! | `LabelSet::{copy, eq, is_same}` | `label_sets::copies_are_the_same` |
-//! | `LabelSet::{empty, is_empty, from_labels}`, `SetList::as_slice` | `label_sets::sets_make_a_list` |
-//! | `LabelSet::{of, labels}`, `lent`, `Pair::label` | `label_sets::labels_come_in_any_order` |
-//! | `LabelSet::hash` | `label_sets::sets_are_compared` |
-//! | `LabelSet::{append_text, write_text}` | `label_sets::{sets_are_printed, names_in_quotes_are_printed}` |
-//! | `LabelSet::with_any` | `label_sets::names_in_quotes_are_printed` |
-//! | `Form` | `tests_reading::quoted` |
-//! | `LabelSet::with_label`, `Labels::{value_of, at}` | within `with`, `get` and `at` |
-//! | `Labels::again` | contract alone |
-//! | `Steps::{open, tick}` | `tests_reading::rules` |
+//! | `Name::{from_str, copy, as_str}`, `NameList::as_slice` | `relabelling`, whose rules are copied |
+//! | `Blob::{from_slice, as_slice}`, `Blob::copy` | `scripts`; `checks/live`, whose bodies are copied |
+//! | `Pair::{from_strs, label}`, `PairList::as_slice`, `lent` | `targets` |
+//! | `Pair::copy` | `label_sets::is_copied`, which a test calls |
+//! | `is_label_name`, `is_metric_name` | `fields`, `bodies` |
+//! | `LabelSet::{of, from_labels, labels, with_all, len, get}` | `targets`, `conflicts`, `relabelling` |
+//! | `LabelSet::{with, copy, eq, hash, cmp}`, `SetList::as_slice` | `scripts`, `instants`, `updates` |
+//! | `LabelSet::append_text` | `bodies`, `quoted` |
+//! | `LabelSet::{with_any, write_text, is_same, at}` | `label_sets::a_set_of_any_names_is_made` |
+//! | `LabelSet::without` | within `with_any` |
+//! | `Form` | `quoted` |
+//! | `LabelSet::with_label`, `Labels::{value_of, at}` | within `with_any`, `get` and `at` |
+//! | `LabelSet::{empty, is_empty}`, `Labels::again` | contract alone |
+//! | `Steps::{open, tick}` | `synths`, which tell how often rules are run |
 //! | `Steps::of` | contract alone |
-//! | `ValueText::check` | `values::values_are_told` |
-//! | `ValueText::{keep, keep_checked, copy, bytes}` | `values::values_are_kept` |
-//! | `ValueText::{of_count, of_millis}`, `write_seconds3`, `seconds_text` | `values::numbers_are_written` |
-//! | `read_millis`, `read_duration` | `values::{timestamps_are_read, durations_are_read}` |
+//! | `ValueText::{check, keep, keep_checked, copy, bytes}` | `bodies`, `instants` |
+//! | `ValueText::{of_count, of_millis}`, `seconds_text` | `tracked`, `scripts` |
+//! | `write_seconds3` | `tests_running::fetches`; `checks/live` |
+//! | `read_millis`, `read_duration` | `bodies`, `fields` |
 //! | `to_number`, `number_of`, `digit_count`, `reads_the_values` | contract alone |
-//! | `MemShelf`, `SureShelf`, `FileShelf` | `files` |
-//! | `MemSink`, `SureSink`, `StdSink`, `FileSink` | `files` |
-//! | `MemSource`, `SureSource`, `StdSource` | `inputs` |
-//! | `MemClock`, `SystemClock` | `inputs`, and that they go to threads `fetches` |
-//! | `MemLink`, `SureLink`, `TcpLink` | `links` |
-//! | `MemFetch`, `SureFetch` | `fetches` |
-//! | `is_scheme`, `scheme_of`, `scheme_text` | `fetches::{schemes_are_read, other_schemes_are_refused}` |
-//! | `tell_call` | `tests_running::fetches`, within `HttpFetch::fetch` |
+//! | `MemShelf`, `SureShelf`, `MemSink`, `SureSink`, `MemSource`, `SureSource` | the tests of `scrape_cli` |
+//! | `MemClock`, `MemFetch` | the tests of `scrape_cli` |
+//! | `FileShelf`, `FileSink`, `StdSink` | `checks/ends` |
+//! | `StdSource` | `inputs::reads_that_signals_break_off_are_made_again`; `checks/ends` |
+//! | `SystemClock` | `checks/live` |
+//! | `MemLink`, `SureLink` | `tests_running::fetches` |
+//! | `TcpLink` | `links::all_reads_together_keep_the_timeout`; `checks/live` |
+//! | `SureFetch` | `fetches::is_given`, which a test of `inputs` calls |
+//! | `is_scheme`, `scheme_of`, `scheme_text` | `targets`, `fields` |
+//! | `tell_call` | within `SureFetch::fetch` |
 #![tactic(auto)]
 
 #[cfg(test)]
 mod fetches;
-#[cfg(test)]
-mod files;
 #[cfg(test)]
 mod inputs;
 #[cfg(test)]
 mod label_sets;
 #[cfg(test)]
 mod links;
+
 #[cfg(test)]
-mod shared;
+use std::process::Abort;
+
+/// Ends the test where something doesn't hold, with what was looked at.
 #[cfg(test)]
-mod values;
+pub(crate) fn holds(rt: &impl Abort, is_so: bool, what: &str) {
+    assert!(rt; is_so, "wrong at [{what}]");
+}

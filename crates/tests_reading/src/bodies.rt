@@ -1,10 +1,12 @@
-//! Bodies in, rows out. Which lines are of the format, and which are faulty, the cases show.
+//! Bodies in, rows out, also in pieces. Which lines are of the format, and which are faulty, the cases show.
 
+use crate::openmetrics::faulty_lines_are_told;
 use crate::shared::{are_bytes, holds};
+use crate::tokens::tokens_have_kinds_and_spans;
 use expo_reader::{
-    BodyCause, BodyReader, BodyRow, Form, LikeBody, ReadBody, SampleRow, Unread, read_body,
-    read_like,
+    BodyReader, Form, LikeBody, ReadBody, SampleRow, Unread, read_body, read_form, read_like,
 };
+use label_set::Form::{Plain, Quoted};
 use label_set::{Blob, NoMemory};
 use std::alloc::{AllocError, Global};
 use std::process::Abort;
@@ -40,201 +42,138 @@ fn shown(alloc: Global, body: &ReadBody) -> Result<Vec<u8>, NoMemory> {
     Ok(text)
 }
 
-/// The raw texts of copies of the rows, and their labels' values.
-fn shown_copies(alloc: Global, rows: &[BodyRow]) -> Result<Vec<u8>, AllocError> {
-    let mut text = Vec::new(alloc);
-    for row in rows {
-        push_bytes(&mut text, row.raw.as_slice(), b" ")?;
-        for label in row.labels.as_slice() {
-            push_bytes(&mut text, label.value.as_str().as_bytes(), b" ")?;
-        }
-    }
-    Ok(text)
+/// Why a text was not read, and whether its bytes came back.
+fn shown_fault(alloc: Global, text: &[u8], unread: &Unread) -> Result<Vec<u8>, NoMemory> {
+    let is_back = unread.bytes.as_slice() == text;
+    let told = format!(in alloc; "{:?} {is_back}", unread.cause)?;
+    Ok(told.into_bytes())
 }
 
 /// A comment, blanks where they may stand, a label with an empty value, a timestamp, and a last line that no line feed
 /// ends.
-const BODY: &str =
-    "# c\n\tx:y \t { a = \"}, \" , b=\"\" }\tNaN\t-9223372036854775808 \nz{p=\"C:\\\\D\"} .5e+3 5\nz 2";
+const BODY: &[u8] =
+    b"# c\n\tx:y \t { a = \"}, \" , b=\"\" }\tNaN\t-9223372036854775808 \nz{p=\"C:\\\\D\"} .5e+3 5\nz 2";
 
 /// Its rows.
 const ROWS: &str = "x:y \t { a = \"}, \" , b=\"\" } x:y a=[}, ] b=[] NaN 2 -9223372036854775808 \
 z{p=\"C:\\\\D\"} z p=[C:\\D] .5e+3 3 5 z z 2 4 ";
 
-/// What their copies show.
-const COPIES: &str = "x:y \t { a = \"}, \" , b=\"\" } },   z{p=\"C:\\\\D\"} C:\\D z ";
+/// Lines with names in quotes: blanks, commas and escapes, a name of two bytes, and labels of both spellings.
+const QUOTED: &[u8] =
+    b" \t{ \"a b\" , c = \"d\" , } 1\n{\"a\"}1\n{\"\\\\\\\"\\n\\q\",\"\\\\\"=\"\\n\"} 2 -3\n\
+x{a=\"1\",\"c.d\"=\"y\"} 4\n{\"\xc3\xa4\",} 5\n";
 
-/// The body of a text.
-fn body_of(alloc: Global, text: &[u8]) -> Result<ReadBody, Unread> {
-    match Blob::from_slice(alloc, text) {
-        Ok(bytes) => read_body(alloc, bytes),
-        Err(NoMemory) => Err(Unread {
-            bytes: Blob {
-                bytes: Vec::new(alloc),
-            },
-            cause: BodyCause::NoMemory,
-        }),
-    }
-}
+/// Their rows.
+const QUOTED_ROWS: &str = "{ \"a b\" , c = \"d\" , } a b c=[d] 1 1 {\"a\"} a 1 2 \
+{\"\\\\\\\"\\n\\q\",\"\\\\\"=\"\\n\"} \\\"\n\\q \\=[\n] 2 3 -3 \
+x{a=\"1\",\"c.d\"=\"y\"} x a=[1] c.d=[y] 4 4 {\"ä\",} ä 5 5 ";
 
-/// Ends the test where a body doesn't show its rows, the copies of them and its bytes.
-fn has_its_rows(rt: &impl Abort, alloc: Global, body: ReadBody) -> Result<(), NoMemory> {
-    are_bytes(rt, &shown(alloc, &body)?, ROWS.as_bytes());
-    let copies = shown_copies(alloc, body.rows(alloc)?.as_slice())?;
-    are_bytes(rt, &copies, COPIES.as_bytes());
-    holds(rt, body.bytes().len() == BODY.len(), "its length");
-    are_bytes(rt, body.into_bytes().as_slice(), BODY.as_bytes());
-    Ok(())
-}
+/// Texts with their forms, and what each shows.
+const TEXTS: &[(Form, &[u8], &str)] = &[
+    (Plain, BODY, ROWS),
+    (Quoted, BODY, ROWS),
+    (Quoted, QUOTED, QUOTED_ROWS),
+    (Plain, QUOTED, "Line(1) true"),
+    (Plain, b"x 1\n\n# c\nx{,} 1\nx{", "Line(4) true"),
+    (Plain, b"x{a=\"\xff\"} 1\n", "Line(1) true"),
+    (Quoted, b"{\"\xff\"} 1", "Line(1) true"),
+    (Quoted, b"x{\"\xff\"=\"1\"} 1", "Line(1) true"),
+    (Quoted, b"x{a=\"1\",\"a\"=\"2\"} 1", "Line(1) true"),
+    (Quoted, b"{\"a\" \"b\"} 1", "Line(1) true"),
+    (Quoted, b"{\"a\",,} 1", "Line(1) true"),
+    (Quoted, b"{\"a\"=\"x\"} 1", "Line(1) true"),
+    (Quoted, b"{\"a\",\"b\"} 1", "Line(1) true"),
+    (Quoted, b"{\"a} 1", "Line(1) true"),
+    (Quoted, b"{c=\"x\"} 1", "Line(1) true"),
+];
 
-fn a_body_is_read(rt: &impl Abort, alloc: Global) -> Result<(), NoMemory> {
-    match body_of(alloc, BODY.as_bytes()) {
-        Ok(body) => has_its_rows(rt, alloc, body),
-        Err(_) => panic!(rt; "its lines are of the format"),
-    }
-}
-
-/// The body of two pieces.
-fn body_of_pieces(alloc: Global, first: &[u8], second: &[u8]) -> Result<ReadBody, NoMemory> {
-    let mut reader = BodyReader::new(alloc)?;
+/// What a text shows that comes in two pieces.
+fn shown_cut(alloc: Global, form: Form, text: &[u8], cut: usize) -> Result<Vec<u8>, NoMemory> {
+    let (first, second) = text.split_at(cut.min(text.len()));
+    let mut reader = BodyReader::of(alloc, form)?;
     reader.feed(first)?;
     reader.feed(second)?;
-    reader.finish(alloc).map_err(|_| NoMemory)
-}
-
-/// The rows of the body that is cut in two at a place.
-fn shown_cut(alloc: Global, cut: usize) -> Result<Vec<u8>, NoMemory> {
-    let (first, second) = BODY.as_bytes().split_at(cut.min(BODY.len()));
-    let body = body_of_pieces(alloc, first, second)?;
-    shown(alloc, &body)
+    match reader.finish(alloc) {
+        Ok(body) => shown(alloc, &body),
+        Err(unread) => shown_fault(alloc, text, &unread),
+    }
 }
 
 fn where_a_body_is_cut_makes_no_difference(rt: &impl Abort, alloc: Global) -> Result<(), NoMemory> {
-    for cut in 0..=BODY.len() {
-        are_bytes(rt, &shown_cut(alloc, cut)?, ROWS.as_bytes());
+    for &(form, text, wanted) in TEXTS {
+        for cut in 0..=text.len() {
+            are_bytes(rt, &shown_cut(alloc, form, text, cut)?, wanted.as_bytes());
+        }
     }
     Ok(())
 }
 
-/// Why bytes are not read.
-fn cause(alloc: Global, bytes: &[u8]) -> Option<BodyCause> {
-    match body_of(alloc, bytes) {
-        Ok(_) => None,
-        Err(unread) => Some(unread.cause),
-    }
+fn a_body_has_its_bytes_and_rows(rt: &impl Abort, alloc: Global) -> Result<(), NoMemory> {
+    let Ok(body) = read_body(alloc, Blob::from_slice(alloc, BODY)?) else {
+        panic!(rt; "its lines are of the format");
+    };
+    holds(rt, body.form() == Plain, "its form");
+    holds(rt, body.rows(alloc)?.len() == 3, "copies of its rows");
+    are_bytes(rt, body.bytes(), BODY);
+    are_bytes(rt, body.into_bytes().as_slice(), BODY);
+    Ok(())
 }
 
-/// Whether what was not read has its cause and its bytes.
-fn is_handed_back(read: Result<ReadBody, Unread>, bytes: &[u8]) -> bool {
-    match read {
-        Ok(_) => false,
-        Err(unread) => { unread.cause == BodyCause::Line(1) && unread.bytes.as_slice() == bytes }
+/// The rows of a body, and their places among those of another one, each with one more than it is.
+fn shown_like(alloc: Global, read: &LikeBody) -> Result<Vec<u8>, NoMemory> {
+    let mut text = shown(alloc, &read.body)?;
+    for place in read.places.as_slice() {
+        let place = *place as u64;
+        push_bytes(&mut text, place.to_string(alloc)?.as_bytes(), b" ")?;
     }
-}
-
-/// A line with twenty labels, and one more behind them.
-fn many_labels(alloc: Global, last: &str) -> Result<String, AllocError> {
-    let mut text = String::from_str(alloc, "x{")?;
-    for index in 0..20u64 {
-        text.push('l')?;
-        text.push_str(index.to_string(alloc)?.as_str())?;
-        text.push_str("=\"v\",")?;
-    }
-    text.push_str(last)?;
-    text.push_str("} 1")?;
     Ok(text)
 }
 
-/// How many labels the first row of a body has.
-fn first_count(alloc: Global, body: &ReadBody) -> Result<usize, NoMemory> {
-    if body.len() == 0 {
-        return Err(NoMemory);
-    }
-    let row = body.row(0);
-    let labels = row.labels(alloc)?;
-    Ok(labels.len())
-}
+/// A text in a form, another one in its form, and what the first shows when it is read like the other.
+type Pair = (Form, &'static str, Form, &'static str, &'static str);
 
-fn labels_of_first_row(alloc: Global, text: &str) -> Result<usize, NoMemory> {
-    let Ok(body) = body_of(alloc, text.as_bytes()) else {
-        return Err(NoMemory);
-    };
-    first_count(alloc, &body)
-}
-
-fn bytes_that_are_not_read_are_handed_back(rt: &impl Abort, alloc: Global) -> Result<(), NoMemory> {
-    let text = b"x{a=\"\xff\"} 1\n".as_slice();
-    let bytes = Blob::from_slice(alloc, text)?;
-    let is_so = is_handed_back(read_body(alloc, bytes), text);
-    holds(rt, is_so, "bytes that are no text");
-    let faulty = cause(alloc, b"x 1\n\n# c\nx{,} 1\nx{");
-    holds(rt, faulty == Some(BodyCause::Line(4)), "line 4");
-    Ok(())
-}
-
-fn many_labels_are_read(rt: &impl Abort, alloc: Global) -> Result<(), NoMemory> {
-    let good = many_labels(alloc, "")?;
-    let count = labels_of_first_row(alloc, good.as_str())?;
-    holds(rt, count == 20, "twenty labels");
-    drop(good);
-    let bad = many_labels(alloc, "l3=\"\"")?;
-    let faulty = cause(alloc, bad.as_bytes());
-    holds(rt, faulty == Some(BodyCause::Line(1)), "a label twice");
-    Ok(())
-}
-
-/// A body that is read like another one.
-fn read_alike(alloc: Global, text: &str, other: &str) -> Result<LikeBody, NoMemory> {
-    let like = body_of(alloc, other.as_bytes()).map_err(|_| NoMemory)?;
+fn shown_alike(
+    alloc: Global,
+    (form, text, other_form, other, _): Pair,
+) -> Result<Vec<u8>, NoMemory> {
+    let other = Blob::from_slice(alloc, other.as_bytes())?;
+    let like = read_form(alloc, other, other_form).map_err(|_| NoMemory)?;
     let bytes = Blob::from_slice(alloc, text.as_bytes())?;
-    read_like(alloc, Form::Plain, bytes, &like).map_err(|_| NoMemory)
-}
-
-/// Its rows, and their places among those of the other, each with one more than it is.
-fn shown_alike(alloc: Global, text: &str, other: &str) -> Result<Vec<u8>, NoMemory> {
-    let read = read_alike(alloc, text, other)?;
-    let mut shown = shown(alloc, &read.body)?;
-    for place in read.places.as_slice() {
-        let place = *place as u64;
-        push_bytes(&mut shown, place.to_string(alloc)?.as_bytes(), b" ")?;
+    match read_like(alloc, form, bytes, &like) {
+        Ok(read) => shown_like(alloc, &read),
+        Err(unread) => shown_fault(alloc, text.as_bytes(), &unread),
     }
-    Ok(shown)
 }
 
-/// The rows that a body has alone, and places.
-fn shown_alone(alloc: Global, text: &str, places: &str) -> Result<Vec<u8>, NoMemory> {
-    let alone = body_of(alloc, text.as_bytes()).map_err(|_| NoMemory)?;
-    let mut shown = shown(alloc, &alone)?;
-    shown.extend_from_slice(places.as_bytes())?;
-    Ok(shown)
-}
-
-/// The same page, one that is moved by a line, one whose first name begins as another, another order, a blank more, and one text twice.
-const LIKE: [(&str, &str, &str); 6] = [
-    ("a 1\nb{x=\"y\"} 2 3\n", "a 5\nb{x=\"y\"} 6\n", "1 2 "),
-    ("n 0\na 1\nb 2\n", "a 3\nb 4\n", "0 1 2 "),
-    ("ab 1\na 2\n", "a 1\n", "0 1 "),
-    ("b 1\na 1\n", "a 1\nb 1\n", "2 0 "),
-    ("a{x=\"y\"} 1\n", "a{x=\"y\" } 1\n", "0 "),
-    ("a 1\na 2\n", "a 1\n", "1 0 "),
+/// The same page, one that is moved by a line, one whose first name begins as another, another order, a blank more, one
+/// text twice, a faulty line, and pages of both forms.
+const ALIKE: &[Pair] = &[
+    (Plain, "a 1\nb 2", Plain, "a 5\nb 6", "a a 1 1 b b 2 2 1 2 "),
+    (Plain, "n 0\na 1", Plain, "a 3\nb 4", "n n 0 1 a a 1 2 0 1 "),
+    (Plain, "ab 1\na 2", Plain, "a 1", "ab ab 1 1 a a 2 2 0 1 "),
+    (Plain, "b 1\na 1", Plain, "a 1\nb 1", "b b 1 1 a a 1 2 2 0 "),
+    (Plain, "a{} 1\n", Plain, "a{ } 1\n", "a{} a 1 1 0 "),
+    (Plain, "a 1\na 2\n", Plain, "a 1\n", "a a 1 1 a a 2 2 1 0 "),
+    (Plain, "a x\n", Plain, "a 1\n", "Line(1) true"),
+    (Quoted, "{\"a\"}1\n", Quoted, "{\"a\"}2", "{\"a\"} a 1 1 1 "),
+    (Quoted, "x 1\n", Plain, "x 2\n", "x x 1 1 1 "),
+    (Plain, "x 1\n", Quoted, "{\"a\"} 3\nx 2\n", "x x 1 1 2 "),
+    (Plain, "{\"a\"} 1\n", Quoted, "{\"a\"} 1\n", "Line(1) true"),
 ];
 
 fn a_body_like_another_is_read_as_alone(rt: &impl Abort, alloc: Global) -> Result<(), NoMemory> {
-    for (text, other, places) in LIKE {
-        let wanted = shown_alone(alloc, text, places)?;
-        are_bytes(rt, &shown_alike(alloc, text, other)?, &wanted);
+    for &pair in ALIKE {
+        are_bytes(rt, &shown_alike(alloc, pair)?, pair.4.as_bytes());
     }
-    let refused = read_alike(alloc, "a x\n", "a 1\n").is_err();
-    holds(rt, refused, "a faulty line");
     Ok(())
 }
 
 #[test]
-fn bodies_are_read_or_refused(rt: HostRuntime) -> Result<(), Fail> {
-    a_body_is_read(&rt, rt.alloc())?;
+fn bodies_are_read_or_handed_back(rt: HostRuntime) -> Result<(), Fail> {
+    tokens_have_kinds_and_spans(&rt);
     where_a_body_is_cut_makes_no_difference(&rt, rt.alloc())?;
-    bytes_that_are_not_read_are_handed_back(&rt, rt.alloc())?;
-    many_labels_are_read(&rt, rt.alloc())?;
+    a_body_has_its_bytes_and_rows(&rt, rt.alloc())?;
     a_body_like_another_is_read_as_alone(&rt, rt.alloc())?;
+    faulty_lines_are_told(&rt, rt.alloc());
     Ok(())
 }

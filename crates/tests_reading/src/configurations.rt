@@ -1,214 +1,135 @@
-//! Configurations and the lists of files: their limits, and why they are refused. A fault of each kind and field the
-//! cases show.
-mod settings;
-mod shown;
+//! Configurations at their limits, and why a list of a file is refused. A fault of each kind and field, and what the
+//! settings do, the cases show.
 
-use crate::places::places_are_spelled;
-use crate::shared::{are_bytes, holds};
-use scrape_config::{ConfError, ConfFault, read_conf, read_groups};
-use shown::push_groups;
+use crate::control::lines_are_commands;
+use crate::shared::are_bytes;
+use control_lines::faults::push_fault;
+use label_set::NoMemory;
+use scrape_config::{ConfError, read_conf, read_groups};
 use std::alloc::{AllocError, Global};
 use std::process::Abort;
 use std::test::Fail;
 
-/// What is said of a text: `ok` with a number, or a fault with what it names and its limit.
-type Said<'a> = (&'a str, &'a str, u64);
-
-fn said_of(error: &ConfError) -> Said<'_> {
-    match error {
-        ConfError::NoMemory => ("no memory", "", 0),
-        ConfError::Bad(fault) => match fault {
-            ConfFault::NotJson => ("NotJson", "", 0),
-            ConfFault::Shape { place } => ("Shape", place.as_str(), 0),
-            ConfFault::Unknown { place } => ("Unknown", place.as_str(), 0),
-            ConfFault::Missing { place } => ("Missing", place.as_str(), 0),
-            ConfFault::Value { place } => ("Value", place.as_str(), 0),
-            ConfFault::TwiceNamed { job } => ("TwiceNamed", job.as_str(), 0),
-            ConfFault::TooMany { place, limit } => ("TooMany", place.as_str(), *limit),
-            ConfFault::Rule { place } => ("Rule", place.as_str(), 0),
-        },
+/// What is said of a text: `ok` with how many jobs or groups it has, or its fault.
+fn said(alloc: Global, read: Result<usize, ConfError>) -> Result<String, NoMemory> {
+    let mut text = String::new(alloc);
+    match read {
+        Ok(count) => text.push_str(format!(in alloc; "ok {count}")?.as_str())?,
+        Err(ConfError::Bad(fault)) => push_fault(&mut text, &fault)?,
+        Err(ConfError::NoMemory) => return Err(NoMemory),
     }
+    Ok(text)
 }
 
-/// Ends the test where something else is said.
-fn is_said(rt: &impl Abort, said: Said<'_>, wanted: Said<'_>) {
-    are_bytes(rt, said.0.as_bytes(), wanted.0.as_bytes());
-    are_bytes(rt, said.1.as_bytes(), wanted.1.as_bytes());
-    holds(rt, said.2 == wanted.2, wanted.1);
-}
+/// A configuration with something that stands in it many times: what stands before it, what it is, with `%` for its
+/// number, and what stands behind the last.
+type Repeated = (&'static str, &'static str, &'static str);
 
-/// Ends the test where something else is said of a configuration than its number of jobs, or its fault.
-fn is_answered(rt: &impl Abort, alloc: Global, bytes: &[u8], wanted: Said<'_>) {
-    match read_conf(alloc, bytes) {
-        Ok(conf) => is_said(rt, ("ok", "", conf.jobs.as_slice().len() as u64), wanted),
-        Err(error) => is_said(rt, said_of(&error), wanted),
-    }
-}
+/// Jobs, and one more.
+const JOBS: Repeated = (
+    r#"{"scrape_configs":["#,
+    r#"{"job_name":"%"},"#,
+    r#"{"job_name":"j"}]}"#,
+);
 
-/// A configuration with a list: what stands before and behind the list, and before and behind the number of each item.
-type Listing = (&'static str, &'static str, &'static str, &'static str);
-
-/// A list of jobs.
-const JOBS: Listing = (r#"{"scrape_configs":["#, "]}", r#"{"job_name":""#, r#""}"#);
-
-/// A list of files, and the first of them once more in a second list.
-const FILES: Listing = (
+/// Files, and the first of them once more in a second list.
+const FILES: Repeated = (
     r#"{"scrape_configs":[{"job_name":"j","file_sd_configs":[{"files":["#,
-    r#"]},{"files":["f0"]}]}]}"#,
-    r#""f"#,
-    r#"""#,
+    r#""f%","#,
+    r#""f0"]},{"files":["f0"]}]}]}"#,
 );
 
-/// A list of targets, and one more in a second group.
-const TARGETS: Listing = (
+/// Targets, and one more in a second group.
+const TARGETS: Repeated = (
     r#"{"scrape_configs":[{"job_name":"j","static_configs":[{"targets":["#,
-    r#"]},{"targets":["t"]}]}]}"#,
-    r#""t"#,
-    r#"""#,
+    r#""t%","#,
+    r#"""]},{"targets":["t"]}]}]}"#,
 );
 
-/// Adds an item of a list.
+/// The letters of a name.
+const NAME: Repeated = (r#"{"scrape_configs":[{"job_name":""#, "n", r#""}]}"#);
+
+/// Adds an item with its number.
 fn push_item(
     alloc: Global,
     text: &mut String,
-    listing: Listing,
+    item: &str,
     number: usize,
 ) -> Result<(), AllocError> {
-    if 0 < number {
-        text.push(',')?;
+    match item.split_once('%') {
+        Some((before, behind)) => {
+            text.push_str(before)?;
+            text.push_str(number.to_string(alloc)?.as_str())?;
+            text.push_str(behind)
+        }
+        None => text.push_str(item),
     }
-    text.push_str(listing.2)?;
-    text.push_str(number.to_string(alloc)?.as_str())?;
-    text.push_str(listing.3)
 }
 
-/// The configuration with a list of so many items.
-fn with_items(alloc: Global, listing: Listing, count: usize) -> Result<String, AllocError> {
-    let mut text = String::from_str(alloc, listing.0)?;
+fn repeated(
+    alloc: Global,
+    (before, item, behind): Repeated,
+    count: usize,
+) -> Result<String, AllocError> {
+    let mut text = String::from_str(alloc, before)?;
     for number in 0..count {
-        push_item(alloc, &mut text, listing, number)?;
+        push_item(alloc, &mut text, item, number)?;
     }
-    text.push_str(listing.1)?;
+    text.push_str(behind)?;
     Ok(text)
 }
 
-/// Lists, how many items they have, and what is said.
-const LISTS: &[(Listing, usize, Said<'static>)] = &[
-    (JOBS, 1000, ("ok", "", 1000)),
-    (JOBS, 1001, ("TooMany", "/scrape_configs", 1000)),
-    (FILES, 100, ("ok", "", 1)),
-    (
-        FILES,
-        101,
-        ("TooMany", "/scrape_configs/0/file_sd_configs", 100),
-    ),
-    (TARGETS, 9999, ("ok", "", 1)),
+/// What stands in a configuration, how often, and what is said.
+const LIMITS: &[(Repeated, usize, &str)] = &[
+    (JOBS, 999, "ok 1000"),
+    (JOBS, 1000, "TooMany /scrape_configs 1000"),
+    (FILES, 100, "ok 1"),
+    (FILES, 101, "TooMany /scrape_configs/0/file_sd_configs 100"),
+    (TARGETS, 9998, "ok 1"),
     (
         TARGETS,
-        10000,
-        ("TooMany", "/scrape_configs/0/static_configs", 10000),
+        9999,
+        "TooMany /scrape_configs/0/static_configs 10000",
     ),
+    (NAME, 4096, "ok 1"),
+    (NAME, 4097, "Value /scrape_configs/0/job_name"),
 ];
 
-fn lists_have_limits(rt: &impl Abort, alloc: Global) -> Result<(), AllocError> {
-    for &(listing, count, said) in LISTS {
-        let text = with_items(alloc, listing, count)?;
-        is_answered(rt, alloc, text.as_bytes(), said);
+fn configurations_have_limits(rt: &impl Abort, alloc: Global) -> Result<(), NoMemory> {
+    for &(parts, count, wanted) in LIMITS {
+        let conf = repeated(alloc, parts, count)?;
+        let read = read_conf(alloc, conf.as_str().as_bytes());
+        let count = read.map(|conf| conf.jobs.as_slice().len());
+        are_bytes(rt, said(alloc, count)?.as_bytes(), wanted.as_bytes());
     }
     Ok(())
 }
 
-/// A configuration with a job whose name has so many bytes.
-fn long_name(alloc: Global, count: usize) -> Result<String, AllocError> {
-    let mut text = String::from_str(alloc, r#"{"scrape_configs":[{"job_name":""#)?;
-    for _ in 0..count {
-        text.push('n')?;
-    }
-    text.push_str(r#""}]}"#)?;
-    Ok(text)
-}
-
-/// How many bytes names have, and what is said.
-const NAMES: &[(usize, Said<'static>)] = &[
-    (4096, ("ok", "", 1)),
-    (4097, ("Value", "/scrape_configs/0/job_name", 0)),
+/// Lists of files, and what is said of them.
+const LISTS: &[(&str, &str)] = &[
+    (r#"[{"targets":["a:1"],"labels":{"env":"p"}},{}]"#, "ok 2"),
+    ("{}", "Shape "),
+    ("[1]", "Shape /0"),
+    (r#"[{},{"targets":["a",1]}]"#, "Shape /1/targets/1"),
+    (r#"[{"x":1}]"#, "Unknown /0/x"),
+    (r#"[{"labels":{"":"x"}}]"#, "Value /0/labels"),
+    ("x", "NotJson"),
 ];
 
-fn names_have_limits(rt: &impl Abort, alloc: Global) -> Result<(), AllocError> {
-    for &(count, said) in NAMES {
-        let text = long_name(alloc, count)?;
-        is_answered(rt, alloc, text.as_bytes(), said);
-    }
-    Ok(())
-}
-
-/// Actions that no case names, and what is said of them.
-const ACTIONS: &[(&str, Said<'static>)] = &[
-    (
-        r#"{"scrape_configs":[{"job_name":"j","relabel_configs":[{"action":"label_drop"}]}]}"#,
-        ("Value", "/scrape_configs/0/relabel_configs/0/action", 0),
-    ),
-    (
-        r#"{"scrape_configs":[{"job_name":"j","relabel_configs":[{"action":""}]}]}"#,
-        ("Value", "/scrape_configs/0/relabel_configs/0/action", 0),
-    ),
-    (
-        r#"{"scrape_configs":[{"job_name":"j","relabel_configs":[{"action":1}]}]}"#,
-        ("Shape", "/scrape_configs/0/relabel_configs/0/action", 0),
-    ),
-];
-
-fn actions_are_refused(rt: &impl Abort, alloc: Global) {
-    for &(text, said) in ACTIONS {
-        is_answered(rt, alloc, text.as_bytes(), said);
-    }
-}
-
-/// Ends the test where the groups of the list of a file, or its fault, are something else.
-fn has_groups(
-    rt: &impl Abort,
-    alloc: Global,
-    list: &str,
-    wanted: Said<'_>,
-) -> Result<(), AllocError> {
-    match read_groups(alloc, list.as_bytes(), "f.json") {
-        Ok(groups) => {
-            let mut text = String::new(alloc);
-            push_groups(&mut text, groups.as_slice())?;
-            is_said(rt, (text.as_str(), "", 0), wanted);
-        }
-        Err(error) => is_said(rt, said_of(&error), wanted),
-    }
-    Ok(())
-}
-
-/// Lists of files, and what is said of them: their groups, or a fault.
-const FILE_LISTS: &[(&str, Said<'static>)] = &[
-    (
-        r#"[{"targets":["a:1"],"labels":{"env":"p"}},{}]"#,
-        ("a:1 env=p f.json/f.json/", "", 0),
-    ),
-    ("{}", ("Shape", "", 0)),
-    ("[1]", ("Shape", "/0", 0)),
-    (r#"[{},{"targets":["a",1]}]"#, ("Shape", "/1/targets/1", 0)),
-    (r#"[{"x":1}]"#, ("Unknown", "/0/x", 0)),
-    (r#"[{"labels":{"":"x"}}]"#, ("Value", "/0/labels", 0)),
-    ("x", ("NotJson", "", 0)),
-];
-
-fn lists_of_files_are_read(rt: &impl Abort, alloc: Global) -> Result<(), AllocError> {
-    for &(list, said) in FILE_LISTS {
-        has_groups(rt, alloc, list, said)?;
+fn lists_of_files_are_read(rt: &impl Abort, alloc: Global) -> Result<(), NoMemory> {
+    for &(list, wanted) in LISTS {
+        let count = read_groups(alloc, list.as_bytes(), "f.json").map(|groups| groups
+            .as_slice()
+            .len());
+        are_bytes(rt, said(alloc, count)?.as_bytes(), wanted.as_bytes());
     }
     Ok(())
 }
 
 #[test]
-fn configurations_are_read_or_refused(rt: HostRuntime) -> Result<(), Fail> {
-    lists_have_limits(&rt, rt.alloc())?;
-    names_have_limits(&rt, rt.alloc())?;
-    actions_are_refused(&rt, rt.alloc());
+fn configurations_and_lists_are_read_or_refused(rt: HostRuntime) -> Result<(), Fail> {
+    configurations_have_limits(&rt, rt.alloc())?;
     lists_of_files_are_read(&rt, rt.alloc())?;
-    places_are_spelled(&rt, rt.alloc())?;
+    lines_are_commands(&rt, rt.alloc())?;
     Ok(())
 }

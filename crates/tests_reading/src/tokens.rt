@@ -2,6 +2,7 @@
 
 use crate::shared::holds;
 use expo_lexer::{Lexer, Token, TokenKind};
+use std::process::Abort;
 
 /// The tokens of the line `x{a="\"}" ,}`, a tab, `1 "b`.
 const TOKENS: &[(TokenKind, usize, usize)] = &[
@@ -16,12 +17,11 @@ const TOKENS: &[(TokenKind, usize, usize)] = &[
     (TokenKind::Torn, 15, 17),
 ];
 
-#[test]
-fn tokens_have_kinds_and_spans(rt: HostRuntime) {
+pub(crate) fn tokens_have_kinds_and_spans(rt: &impl Abort) {
     let mut lexer = Lexer::over(b"x{a=\"\\\"}\" ,}\t1 \"b");
     for &(kind, start, end) in TOKENS {
         let wanted = Token { kind, start, end };
-        holds(&rt, lexer.next() == Some(wanted), "a token");
+        holds(rt, lexer.next() == Some(wanted), "a token");
     }
-    holds(&rt, lexer.next().is_none(), "the end");
+    holds(rt, lexer.next().is_none(), "the end");
 }

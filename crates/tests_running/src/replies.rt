@@ -1,18 +1,157 @@
-//! The replies of targets: whole, in two pieces cut at each place, and from a link.
+//! The replies of targets: whole, in two pieces cut at each place, byte by byte, and from a link.
 
-mod quoted;
-
-use crate::shared::{holds, is_text, show};
+use crate::holds;
+use crate::hostile::HOSTILE;
 use http_fetch::receive::receive;
 use http_fetch::{Decoder, Fed, decode};
 use label_set::{Blob, NoMemory};
 use outside::{Reply, SureLink};
-use quoted::QUOTED;
 use std::alloc::Global;
 use std::process::Abort;
 use std::test::Fail;
 
-/// The reply of two pieces.
+/// What a mark of a row stands for; nothing where it is none.
+fn meaning(mark: u8) -> &'static [u8] {
+    match mark {
+        b'~' => b"\r\n",
+        b'^' => b"\n",
+        b'$' => b"\t",
+        b'!' => b"HTTP/1.1 ",
+        b'%' => b"Transfer-Encoding: chunked",
+        b'@' => b"application/openmetrics-text",
+        _ => b"",
+    }
+}
+
+/// A row for each reply: the limit of its body, a word for what it comes to, the status, the body, and behind `|` the
+/// bytes of the reply. `<N:PIECE>` is a piece so many times.
+const REPLIES: &str = r##"
+4 body 200 x 1^|!200 OK~%~~4~x 1^~0~~
+3 oversize 0 |!200 OK~%~~4~x 1^~0~~
+9 garbled 0 |!200 OK~%~~4~x 1
+9 body 404 |!404 Not Found~Content-Length: 7~~
+9 body 200 hi|!100 Continue~~!200 OK~Content-Length: 2~~him
+9 body 200 hi|!200 OK~Content-Length: 2~content-length: 2~~him
+9 garbled 0 |!200 OK~Content-Length: 2~Content-Length: 3~~him
+9 body 200 hi|!200 OK~Content-Length: 2~Content-Length: 02~~him
+9 garbled 0 |!200 OK~Content-Length: 3~~hi
+9 oversize 0 |!200 OK~Content-Length: 10~~hi
+9 oversize 0 |!200 OK~Content-Length: 9223372036854775807~~hi
+9 garbled 0 |!200 OK~Content-Length: 9223372036854775808~~hi
+9 garbled 0 |!200 OK~Content-Length: +2~~hi
+2 body 200 hi|!200 OK~~hi
+2 oversize 0 |!200 OK~~him
+2 garbled 0 |!200 OK~Content-Encoding: gzip~Content-Length: 10~~him
+2 body 200 |!200 OK~Content-Encoding: Identity~Content-Length: 0~~him
+2 garbled 0 |!200 OK~%~transfer-encoding: chunked~~0~~
+2 garbled 0 |!200 OK~Transfer-Encoding: gzip~~0~~
+2 body 200 a|!200 OK~Transfer-Encoding: Chunked~Content-Length: 99~~1;x~a~0~A: b~~
+2 oversize 0 |!200 OK~%~~1~a~fff~
+2 garbled 0 |!200 OK~%~~1~a~fff 
+2 garbled 0 |!099 OK~~!200 OK~~
+-- bodies of OpenMetrics
+19 body 200 a 1 2000^|!200 OK~Content-Type: @; version=1.0.0~~a 1 2 # {} 1^# EOF^
+9 body 200 |!200 OK~content-type: $ Application/OpenMetrics-Text $ ;~Content-Length: 5~~# EOF
+19 body 200 a 1^|!100 Go on~Content-Type: text/plain~~!200 OK~Content-Type: @~%~~4~a 1^~6~# EOF^~0~~
+9 garbled 0 |!200 OK~Content-Type: @~~a 1^
+13 oversize 0 |!200 OK~Content-Type: @~~a 1 9e9^# EOF
+9 oversize 0 |!200 OK~Content-Type: @~~a 1^# EOF^
+9 body 200 a 1^|!200 OK~Content-Type: text/plain~Content-Type: @~~a 1^
+9 body 200 a 1^|!200 OK~Content-Type: @s~~a 1^
+9 body 404 |!404 Not Found~Content-Type: @~~a 1^
+2 garbled 0 |
+-- bodies whose names may stand in quotes, and those that look like it
+19 quoted 200 {"a.b"} 1^|!200 OK~Content-Type: text/plain; version=1.0.0; escaping=allow-utf-8~~{"a.b"} 1^
+-- the first header counts
+9 quoted 200 a 1^|!200 OK~Content-Type: text/plain;escaping=allow-utf-8~Content-Type: text/plain~~a 1^
+9 body 200 a 1^|!200 OK~Content-Type: text/plain~Content-Type: text/plain;escaping=allow-utf-8~~a 1^
+9 body 200 a 1^|!100 Go on~Content-Type: a;escaping=allow-utf-8~~!200 OK~~a 1^
+-- any case, blanks at the ends of the part, and a part behind it
+9 quoted 200 a 1^|!200 OK~content-type: text/plain;$ ESCAPING=Allow-UTF-8 $;charset=utf-8~Content-Length: 4~~a 1^
+-- another position among the parts
+9 quoted 200 a 1^|!200 OK~Content-Type: escaping=allow-utf-8;text/plain~%~~4~a 1^~0~~
+9 quoted 200 a 1^|!200 OK~Content-Type: ;;escaping=allow-utf-8;escaping=underscores~~a 1^
+-- other words
+9 body 200 a 1^|!200 OK~Content-Type: text/plain;escaping=underscores~~a 1^
+9 body 200 a 1^|!200 OK~Content-Type: text/plain;escaping=allow-utf-8x~~a 1^
+9 body 200 a 1^|!200 OK~Content-Type: text/plain;escaping = allow-utf-8~~a 1^
+-- another status
+9 body 404 |!404 Not Found~Content-Type: text/plain;escaping=allow-utf-8~~a 1^
+-- OpenMetrics goes before where it is named first
+19 body 200 a 1^|!200 OK~Content-Type: @;escaping=allow-utf-8~~a 1^# EOF^
+19 quoted 200 a 1^# EOF^|!200 OK~Content-Type: escaping=allow-utf-8;@~~a 1^# EOF^
+-- past the limit
+3 oversize 0 |!200 OK~Content-Type: text/plain;escaping=allow-utf-8~~a 1^
+"##;
+
+/// How long a reply may be that is cut at each place.
+const MOST_CUT: usize = 500;
+
+/// A row, with its marks.
+#[derive(Clone, Copy)]
+struct Row<'a> {
+    limit: u64,
+    word: &'a str,
+    status: u16,
+    body: &'a str,
+    reply: &'a str,
+}
+
+fn row_of(line: &str) -> Option<Row<'_>> {
+    let (front, reply) = line.split_once('|')?;
+    let (limit, front) = front.split_once(' ')?;
+    let (word, front) = front.split_once(' ')?;
+    let (status, body) = front.split_once(' ')?;
+    Some(Row {
+        limit: limit.parse::<u64>().ok()?,
+        word,
+        status: status.parse::<u16>().ok()?,
+        body,
+        reply,
+    })
+}
+
+/// Adds what a text with marks stands for.
+fn push_marked(bytes: &mut Vec<u8>, text: &str) -> Result<(), NoMemory> {
+    for byte in text.as_bytes() {
+        match meaning(*byte) {
+            b"" => bytes.push(*byte)?,
+            meaning => bytes.extend_from_slice(meaning)?,
+        }
+    }
+    Ok(())
+}
+
+fn bytes_of(alloc: Global, text: &str) -> Result<Vec<u8>, NoMemory> {
+    let mut bytes = Vec::new(alloc);
+    for part in text.split('>') {
+        let (plain, again) = part.split_once('<').unwrap_or((part, ""));
+        push_marked(&mut bytes, plain)?;
+        let (count, piece) = again.split_once(':').unwrap_or(("0", ""));
+        for _ in 0..count.parse::<u64>().unwrap_or(0) {
+            push_marked(&mut bytes, piece)?;
+        }
+    }
+    Ok(bytes)
+}
+
+/// The word of a reply, its status, and its body.
+fn told(reply: &Reply) -> (&'static str, u16, &[u8]) {
+    match reply {
+        Reply::Body { status, bytes } => ("body", *status, bytes.as_slice()),
+        Reply::Quoted { status, bytes } => ("quoted", *status, bytes.as_slice()),
+        Reply::Lost => ("lost", 0, b""),
+        Reply::Garbled => ("garbled", 0, b""),
+        Reply::Unsent => ("unsent", 0, b""),
+        Reply::Oversize => ("oversize", 0, b""),
+    }
+}
+
+/// Ends the test where a reply isn't that of its row.
+fn is_of(rt: &impl Abort, reply: &Reply, row: Row<'_>, body: &[u8]) {
+    holds(rt, told(reply) == (row.word, row.status, body), row.reply);
+}
+
 fn reply_of_pieces(
     alloc: Global,
     first: &[u8],
@@ -25,264 +164,92 @@ fn reply_of_pieces(
     decoder.end(alloc)
 }
 
-/// What is told of a reply that is cut in two at a place.
-fn cut(alloc: Global, text: &str, at: usize, limit: u64) -> Result<String, NoMemory> {
-    let bytes = text.as_bytes();
-    let (first, second) = bytes.split_at(at.min(bytes.len()));
-    show(alloc, &reply_of_pieces(alloc, first, second, limit)?)
-}
-
-/// What is told of a whole reply.
-fn whole(alloc: Global, text: &str, limit: u64) -> Result<String, NoMemory> {
-    show(alloc, &decode(alloc, text.as_bytes(), limit)?)
-}
-
-/// What is told of a reply that is read from a link.
-fn received(alloc: Global, text: &str, limit: u64) -> Result<String, NoMemory> {
-    let mut link = SureLink::new(Blob::from_slice(alloc, text.as_bytes())?)?;
-    show(alloc, &receive(alloc, &mut link, limit.min(19))?)
-}
-
-const CHUNKED: &str =
-    "HTTP/1.1 200 OK\r\nTransfer-Encoding: chunked\r\n\r\n4\r\nx 1\n\r\n0\r\n\r\n";
-
-const REPLIES: &[(&str, u64, &str)] = &[
-    (CHUNKED, 4, "200 [x 1\n]"),
-    (CHUNKED, 3, "oversize"),
-    (
-        "HTTP/1.1 200 OK\r\nTransfer-Encoding: chunked\r\n\r\n4\r\nx 1",
-        9,
-        "garbled",
-    ),
-    (
-        "HTTP/1.1 404 Not Found\r\nContent-Length: 7\r\n\r\n",
-        9,
-        "404 []",
-    ),
-    (
-        "HTTP/1.1 100 Continue\r\n\r\nHTTP/1.1 200 OK\r\nContent-Length: 2\r\n\r\nhim",
-        9,
-        "200 [hi]",
-    ),
-    (
-        "HTTP/1.1 200 OK\r\nContent-Length: 2\r\ncontent-length: 2\r\n\r\nhim",
-        9,
-        "200 [hi]",
-    ),
-    (
-        "HTTP/1.1 200 OK\r\nContent-Length: 2\r\nContent-Length: 3\r\n\r\nhim",
-        9,
-        "garbled",
-    ),
-    (
-        "HTTP/1.1 200 OK\r\nContent-Length: 2\r\nContent-Length: 02\r\n\r\nhim",
-        9,
-        "200 [hi]",
-    ),
-    (
-        "HTTP/1.1 200 OK\r\nContent-Length: 3\r\n\r\nhi",
-        9,
-        "garbled",
-    ),
-    (
-        "HTTP/1.1 200 OK\r\nContent-Length: 10\r\n\r\nhi",
-        9,
-        "oversize",
-    ),
-    (
-        "HTTP/1.1 200 OK\r\nContent-Length: 9223372036854775807\r\n\r\nhi",
-        9,
-        "oversize",
-    ),
-    (
-        "HTTP/1.1 200 OK\r\nContent-Length: 9223372036854775808\r\n\r\nhi",
-        9,
-        "garbled",
-    ),
-    (
-        "HTTP/1.1 200 OK\r\nContent-Length: +2\r\n\r\nhi",
-        9,
-        "garbled",
-    ),
-    ("HTTP/1.1 200 OK\r\n\r\nhi", 2, "200 [hi]"),
-    ("HTTP/1.1 200 OK\r\n\r\nhim", 2, "oversize"),
-    (
-        "HTTP/1.1 200 OK\r\nContent-Encoding: gzip\r\nContent-Length: 10\r\n\r\nhim",
-        2,
-        "garbled",
-    ),
-    (
-        "HTTP/1.1 200 OK\r\nContent-Encoding: Identity\r\nContent-Length: 0\r\n\r\nhim",
-        2,
-        "200 []",
-    ),
-    (
-        "HTTP/1.1 200 OK\r\nTransfer-Encoding: chunked\r\ntransfer-encoding: chunked\r\n\r\n0\r\n\r\n",
-        2,
-        "garbled",
-    ),
-    (
-        "HTTP/1.1 200 OK\r\nTransfer-Encoding: gzip\r\n\r\n0\r\n\r\n",
-        2,
-        "garbled",
-    ),
-    (
-        "HTTP/1.1 200 OK\r\nTransfer-Encoding: Chunked\r\nContent-Length: 99\r\n\r\n1;x\r\na\r\n0\r\nA: b\r\n\r\n",
-        2,
-        "200 [a]",
-    ),
-    (
-        "HTTP/1.1 200 OK\r\nTransfer-Encoding: chunked\r\n\r\n1\r\na\r\nfff\r\n",
-        2,
-        "oversize",
-    ),
-    (
-        "HTTP/1.1 200 OK\r\nTransfer-Encoding: chunked\r\n\r\n1\r\na\r\nfff ",
-        2,
-        "garbled",
-    ),
-    (
-        "HTTP/1.1 099 OK\r\n\r\nHTTP/1.1 200 OK\r\n\r\n",
-        2,
-        "garbled",
-    ),
-    // Bodies of OpenMetrics.
-    (
-        "HTTP/1.1 200 OK\r\nContent-Type: application/openmetrics-text; version=1.0.0\r\n\r\na 1 2 # {} 1\n# EOF\n",
-        19,
-        "200 [a 1 2000\n]",
-    ),
-    (
-        "HTTP/1.1 200 OK\r\ncontent-type: \t Application/OpenMetrics-Text \t ;\r\nContent-Length: 5\r\n\r\n# EOF",
-        9,
-        "200 []",
-    ),
-    (
-        "HTTP/1.1 100 Go on\r\nContent-Type: text/plain\r\n\r\nHTTP/1.1 200 OK\r\n\
-Content-Type: application/openmetrics-text\r\nTransfer-Encoding: chunked\r\n\r\n4\r\na 1\n\r\n6\r\n# EOF\n\r\n0\r\n\r\n",
-        19,
-        "200 [a 1\n]",
-    ),
-    (
-        "HTTP/1.1 200 OK\r\nContent-Type: application/openmetrics-text\r\n\r\na 1\n",
-        9,
-        "garbled",
-    ),
-    (
-        "HTTP/1.1 200 OK\r\nContent-Type: application/openmetrics-text\r\n\r\na 1 9e9\n# EOF",
-        13,
-        "oversize",
-    ),
-    (
-        "HTTP/1.1 200 OK\r\nContent-Type: application/openmetrics-text\r\n\r\na 1\n# EOF\n",
-        9,
-        "oversize",
-    ),
-    (
-        "HTTP/1.1 200 OK\r\nContent-Type: text/plain\r\nContent-Type: application/openmetrics-text\r\n\r\na 1\n",
-        9,
-        "200 [a 1\n]",
-    ),
-    (
-        "HTTP/1.1 200 OK\r\nContent-Type: application/openmetrics-texts\r\n\r\na 1\n",
-        9,
-        "200 [a 1\n]",
-    ),
-    (
-        "HTTP/1.1 404 Not Found\r\nContent-Type: application/openmetrics-text\r\n\r\na 1\n",
-        9,
-        "404 []",
-    ),
-    ("", 2, "garbled"),
-];
-
-/// After how many bytes the decoder says that nothing changes any more, byte by byte.
-fn done_after(alloc: Global, text: &str, limit: u64) -> Result<Option<usize>, NoMemory> {
+/// The reply of bytes that come one by one, and at which the decoder says first that nothing changes any more.
+fn reply_of_bytes(
+    alloc: Global,
+    bytes: &[u8],
+    limit: u64,
+) -> Result<(Reply, Option<usize>), NoMemory> {
     let mut decoder = Decoder::new(alloc, limit)?;
-    let bytes = text.as_bytes();
+    let mut done = None;
     for count in 0..bytes.len() {
-        if decoder.feed(&bytes[count..=count])? == Fed::Done {
-            return Ok(Some(count));
+        if decoder.feed(&bytes[count..=count])? == Fed::Done && done.is_none() {
+            done = Some(count);
         }
     }
-    Ok(None)
+    Ok((decoder.end(alloc)?, done))
 }
 
-/// A reply of two bytes whose length its head tells.
-const SHORT: &str = "HTTP/1.1 200 OK\r\nContent-Length: 2\r\n\r\nhi";
+fn received(alloc: Global, bytes: &[u8], limit: u64) -> Result<Reply, NoMemory> {
+    let mut link = SureLink::new(Blob::from_slice(alloc, bytes)?)?;
+    receive(alloc, &mut link, limit.min(19))
+}
 
-/// Replies, their limits, and at which byte, counted from 0, each is whole; none where the end of the link has to be met. `CHUNKED` has
-/// 61 bytes and `SHORT` 40.
+/// Ends the test where a reply is told otherwise: whole, from a link, byte by byte, or in two pieces.
+fn is_told(
+    rt: &impl Abort,
+    alloc: Global,
+    bytes: &[u8],
+    row: Row<'_>,
+    body: &[u8],
+) -> Result<(), NoMemory> {
+    is_of(rt, &decode(alloc, bytes, row.limit)?, row, body);
+    is_of(rt, &received(alloc, bytes, row.limit)?, row, body);
+    if bytes.len() <= MOST_CUT {
+        is_of(rt, &reply_of_bytes(alloc, bytes, row.limit)?.0, row, body);
+        for at in 0..bytes.len() {
+            let (first, second) = bytes.split_at(at);
+            let reply = reply_of_pieces(alloc, first, second, row.limit)?;
+            is_of(rt, &reply, row, body);
+        }
+    }
+    Ok(())
+}
+
+/// Ends the test where the reply of a row is told otherwise.
+fn row_is_told(rt: &impl Abort, alloc: Global, line: &str) -> Result<(), NoMemory> {
+    let Some(row) = row_of(line) else {
+        panic!(rt; "misread: {line}");
+    };
+    let bytes = bytes_of(alloc, row.reply)?;
+    let body = bytes_of(alloc, row.body)?;
+    is_told(rt, alloc, &bytes, row, &body)
+}
+
+/// Ends the test where a reply is whole at another byte.
+fn is_done_at(
+    rt: &impl Abort,
+    alloc: Global,
+    text: &str,
+    limit: u64,
+    count: Option<usize>,
+) -> Result<(), NoMemory> {
+    let bytes = bytes_of(alloc, text)?;
+    let (_reply, done) = reply_of_bytes(alloc, &bytes, limit)?;
+    holds(rt, done == count, text);
+    Ok(())
+}
+
+/// Replies, their limits, and at which byte, counted from 0, each is whole; none where the end of the link has to be
+/// met. The first has 61 bytes and the third 40.
 const DONE: [(&str, u64, Option<usize>); 4] = [
-    (CHUNKED, 4, Some(60)),
-    (CHUNKED, 3, Some(49)),
-    (SHORT, 2, Some(39)),
-    ("HTTP/1.1 200 OK\r\n\r\nhi", 2, None),
+    ("!200 OK~%~~4~x 1^~0~~", 4, Some(60)),
+    ("!200 OK~%~~4~x 1^~0~~", 3, Some(49)),
+    ("!200 OK~Content-Length: 2~~hi", 2, Some(39)),
+    ("!200 OK~~hi", 2, None),
 ];
-
-fn a_whole_reply_is_known_at_its_last_byte(rt: &impl Abort, alloc: Global) -> Result<(), NoMemory> {
-    for (text, limit, count) in DONE {
-        holds(rt, done_after(alloc, text, limit)? == count, text);
-    }
-    Ok(())
-}
-
-/// Ends the test where a reply is told otherwise when it comes in two pieces.
-fn is_told_cut(
-    rt: &impl Abort,
-    alloc: Global,
-    text: &str,
-    limit: u64,
-    answer: &str,
-) -> Result<(), NoMemory> {
-    for at in 0..text.len() {
-        let told = cut(alloc, text, at, limit)?;
-        is_text(rt, told.as_str(), answer, text);
-    }
-    Ok(())
-}
-
-/// Ends the test where a whole reply is told otherwise.
-fn is_told_whole(
-    rt: &impl Abort,
-    alloc: Global,
-    text: &str,
-    limit: u64,
-    answer: &str,
-) -> Result<(), NoMemory> {
-    let told = whole(alloc, text, limit)?;
-    is_text(rt, told.as_str(), answer, text);
-    Ok(())
-}
-
-/// Ends the test where replies are told otherwise, whole or cut.
-fn are_told(rt: &impl Abort, alloc: Global, replies: &[(&str, u64, &str)]) -> Result<(), NoMemory> {
-    for &(text, limit, answer) in replies {
-        is_told_whole(rt, alloc, text, limit, answer)?;
-        is_told_cut(rt, alloc, text, limit, answer)?;
-    }
-    Ok(())
-}
-
-/// Ends the test where replies are told otherwise that are read from a link.
-fn are_received(
-    rt: &impl Abort,
-    alloc: Global,
-    replies: &[(&str, u64, &str)],
-) -> Result<(), NoMemory> {
-    for &(text, limit, answer) in replies {
-        let told = received(alloc, text, limit)?;
-        is_text(rt, told.as_str(), answer, text);
-    }
-    Ok(())
-}
 
 #[test]
 fn replies_whole_and_cut_at_each_place(rt: HostRuntime) -> Result<(), Fail> {
-    a_whole_reply_is_known_at_its_last_byte(&rt, rt.alloc())?;
-    are_told(&rt, rt.alloc(), REPLIES)?;
-    are_told(&rt, rt.alloc(), QUOTED)?;
-    are_received(&rt, rt.alloc(), REPLIES)?;
-    are_received(&rt, rt.alloc(), QUOTED)?;
+    for (text, limit, count) in DONE {
+        is_done_at(&rt, rt.alloc(), text, limit, count)?;
+    }
+    for rows in [REPLIES, HOSTILE] {
+        for line in rows.lines() {
+            if !line.is_empty() && !line.starts_with("--") {
+                row_is_told(&rt, rt.alloc(), line)?;
+            }
+        }
+    }
     Ok(())
 }

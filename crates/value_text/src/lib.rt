@@ -2,7 +2,7 @@
 //! how a duration is written, and which durations a configuration writes.
 //! A value is kept as the bytes that were read, at most 128 of them, since its magnitude is never judged and equal bytes are what makes two values equal.
 //! Contracts see a `ValueText` as the list of its bytes; the grammars stand in `specs/`.
-//! Tests: `tests_ground::values`.
+//! Cases: `scrape_cases::{bodies, fields, scripts}`.
 #![tactic(auto)]
 
 pub mod durations;

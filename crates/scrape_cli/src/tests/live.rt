@@ -1,17 +1,16 @@
-//! Live runs over objects in memory: control lines of each kind, and a reload while two fetches are held.
+//! A live run over objects in memory: a reload while two fetches are held.
 ghost use Rattle.std.specs.Prelude.{◌≡◌, vec_len, IfOk};
 
-use super::{ROOM, Ran, fails, files, means_of, run_over, words_of};
-use crate::tool::{Finished, tool};
-use label_set::{Blob, Name, NoMemory};
+use super::objects::{Put, SOUND, made_ready, replayed, run_ready};
+use super::{fails, holds, is_number, means_of};
+use label_set::{Blob, NoMemory};
 use outside::{
-    Clock, Fetch, Fetched, FetchedList, FileList, MemClock, MemFetch, MemShelf, MemSink, MemSource,
-    MomentList, Request, Source, SourceFault, StoredFile,
+    Clock, Fetch, Fetched, FetchedList, MemClock, MemFetch, MemSource, MomentList, Request, Source,
+    SourceFault,
 };
 use scrape_core::Means;
 use std::alloc::Global;
-use std::marker::{Send, Sync};
-use std::process::Abort;
+use std::marker::Sync;
 use std::sync::atomic::{AtomicU64, Ordering};
 use std::sync::{Arc, Wait};
 use std::test::Fail;
@@ -36,18 +35,11 @@ struct Stage {
 }
 
 impl Stage {
-    fn count(&self) -> (u64, u64) {
-        (
-            self.begun.load(Ordering::SeqCst),
-            self.reads.load(Ordering::SeqCst),
-        )
-    }
-
     /// Waits until so many fetches have begun and control was read so often, or gives up.
     fn hold(&self, begun: u64, reads: u64) {
         for _look in 0..MOST_LOOKS {
-            let (now_begun, now_reads) = self.count();
-            if now_begun >= begun && now_reads >= reads {
+            let has_begun = self.begun.load(Ordering::SeqCst) >= begun;
+            if has_begun && self.reads.load(Ordering::SeqCst) >= reads {
                 return;
             }
             yield_now();
@@ -145,21 +137,6 @@ fn held_clock(alloc: Global, stage: &Arc<Stage, Global>) -> Result<HeldClock, No
     })
 }
 
-fn held_fetches(alloc: Global, stage: &Arc<Stage, Global>) -> Result<Vec<HeldFetch>, NoMemory>
-    ensures { IfOk result (λ v. vec_len v ≡ 2) }
-{
-    let one = held_fetch(alloc, stage)?;
-    let other = held_fetch(alloc, stage)?;
-    Ok(vec![in alloc; one, other]?)
-}
-
-pub fn stored(alloc: Global, name: &str, text: &str) -> Result<StoredFile, NoMemory> {
-    Ok(StoredFile {
-        name: Name::from_str(alloc, name)?,
-        bytes: Blob::from_slice(alloc, text.as_bytes())?,
-    })
-}
-
 fn new_stage(alloc: Global) -> Result<Arc<Stage, Global>, NoMemory> {
     let stage = Stage {
         begun: AtomicU64::new(0),
@@ -169,68 +146,28 @@ fn new_stage(alloc: Global) -> Result<Arc<Stage, Global>, NoMemory> {
     Ok(Arc::new(alloc, stage)?)
 }
 
-/// What a run put to its outputs.
-#[derive(Drop)]
-pub struct Put {
-    pub status: u8,
-    pub out: MemSink,
-    pub err: MemSink,
-    pub trail: MemSink,
+fn held_fetches(alloc: Global, stage: &Arc<Stage, Global>) -> Result<Vec<HeldFetch>, NoMemory>
+    ensures { IfOk result (λ v. vec_len v ≡ 2) }
+{
+    let one = held_fetch(alloc, stage)?;
+    let other = held_fetch(alloc, stage)?;
+    Ok(vec![in alloc; one, other]?)
 }
 
-/// Runs `run --turns TURNS c.json`.
-fn run_of<W: Threads + Wait + Sync, C: Source, K: Clock + Send, F: Fetch + Send>(
+/// A run of two targets and two sweeps, between which a limit of one is loaded.
+fn held_run<W: Threads + Wait + Sync>(
     rt: &W,
     means: Means,
-    turns: &str,
-    files: FileList,
-    control: C,
-    clock: K,
-    fetchers: Vec<F>,
-) -> Result<Put, Fail>
-    requires { vec_len fetchers ≡ 2 }
-{
+    stage: &Arc<Stage, Global>,
+) -> Result<Put, Fail> {
     let alloc = means.alloc;
-    let words = words_of(alloc, &["run", "--turns", turns, "c.json"])?;
-    let mut shelf = MemShelf::new(files, fails(alloc, &[])?)?;
-    let mut out = MemSink::new(alloc, ROOM, fails(alloc, &[])?)?;
-    let mut err = MemSink::new(alloc, ROOM, fails(alloc, &[])?)?;
-    let mut trail = MemSink::new(alloc, ROOM, fails(alloc, &[])?)?;
-    let Finished { status, .. } = tool(
-        rt,
-        means,
-        words.as_slice(),
-        &mut shelf,
-        &mut out,
-        &mut err,
-        &mut trail,
-        control,
-        clock,
-        fetchers,
-    );
-    Ok(Put {
-        status,
-        out,
-        err,
-        trail,
-    })
-}
-
-/// What a trail replays to.
-pub fn replayed(rt: &impl Abort, means: Means, trail: &[u8]) -> Result<MemSink, Fail> {
-    let alloc = means.alloc;
-    let words = words_of(alloc, &["replay", "s"])?;
-    let mut shelf = MemShelf::new(files(alloc, trail)?, fails(alloc, &[])?)?;
-    let Ran { status, out, .. } = run_over(means, words.as_slice(), &mut shelf, ROOM, &[])?;
-    assert_eq!(rt; status, 0);
-    Ok(out)
-}
-
-/// The trail of a run replays to what the run printed.
-pub fn replays(rt: &impl Abort, means: Means, put: &Put) -> Result<(), Fail> {
-    let out = replayed(rt, means, put.trail.bytes())?;
-    assert!(rt; out.bytes() == put.out.bytes());
-    Ok(())
+    let fetchers = held_fetches(alloc, stage)?;
+    let control = held_source(alloc, stage)?;
+    let clock = held_clock(alloc, stage)?;
+    let named = [("c.json", TWO), ("d.json", LIMITED)];
+    let words = ["run", "--turns", "2", "c.json"];
+    let ready = made_ready(alloc, &words, &named, SOUND)?;
+    Ok(run_ready(rt, means, ready, control, clock, fetchers))
 }
 
 /// What two forced scrapes print, at the second sweep.
@@ -246,79 +183,20 @@ const FORCED: &str = r#"60000 0 report up{instance="a:1",job="j"} 0
 60000 1 report scrape_series_added{instance="b:1",job="j"} 0
 "#;
 
-/// Two fetches are in flight at once while a reload cancels both: their finishes are late, and the next sweep forces both scrapes.
+/// Two fetches are in flight at once while a reload cancels both: their finishes are late, and the next sweep forces
+/// both scrapes.
 #[test]
 fn run_with_held_fetches(rt: HostRuntime) -> Result<(), Fail> {
     let means = means_of(&rt)?;
-    let alloc = rt.alloc();
-    let stage = new_stage(alloc)?;
-    let one = held_fetch(alloc, &stage)?;
-    let other = held_fetch(alloc, &stage)?;
-    let items = vec![in alloc;
-        stored(alloc, "c.json", TWO)?,
-        stored(alloc, "d.json", LIMITED)?,
-    ]?;
-    let control = held_source(alloc, &stage)?;
-    let clock = held_clock(alloc, &stage)?;
-    let fetchers = vec![in alloc; one, other]?;
-    let put = run_of(
-        &rt,
-        means,
-        "2",
-        FileList { items },
-        control,
-        clock,
-        fetchers,
-    )?;
-    assert_eq!(&rt; put.status, 0);
-    assert!(&rt; stage.given_up.load(Ordering::SeqCst) == 0);
-    assert!(&rt; put.err.bytes().is_empty());
-    assert!(&rt; put.out.bytes() == FORCED.as_bytes());
-    replays(&rt, means, &put)
-}
-
-/// A configuration with a listed file.
-pub const LISTING: &str =
-    r#"{"scrape_configs":[{"job_name":"j","file_sd_configs":[{"files":["f.json"]}],"static_configs":[{"targets":["a:1"]}]}]}"#;
-
-/// Control lines that succeed, and one for each way not to but a file that is too long.
-pub const LINES: &str =
-    "load c.json\nload bad.json\nload no.json\nx\ntargets j f.json\ntargets k f.json\ntargets j c.json";
-
-const SAID: &str =
-    "control 2: refused NotJson\ncontrol 3: absent\ncontrol 4: not a command\ncontrol 6: no job\ncontrol 7: no file\n";
-
-fn lost_fetch(alloc: Global) -> Result<MemFetch, NoMemory> {
-    let items = Vec::new(alloc);
-    MemFetch::new(alloc, FetchedList { items }, fails(alloc, &[])?)
-}
-
-#[test]
-fn run_with_control_lines(rt: HostRuntime) -> Result<(), Fail> {
-    let means = means_of(&rt)?;
-    let alloc = rt.alloc();
-    let items = vec![in alloc;
-        stored(alloc, "c.json", LISTING)?,
-        stored(alloc, "f.json", r#"[{"targets":["c:1"]}]"#)?,
-        stored(alloc, "bad.json", "{")?,
-    ]?;
-    let text = Blob::from_slice(alloc, LINES.as_bytes())?;
-    let control = MemSource::new(text, fails(alloc, &[])?)?;
-    let moments = vec![in alloc; 0, 0, 60_000, 120_000]?;
-    let clock = MemClock::new(MomentList { items: moments })?;
-    let one = lost_fetch(alloc)?;
-    let other = lost_fetch(alloc)?;
-    let fetchers = vec![in alloc; one, other]?;
-    let put = run_of(
-        &rt,
-        means,
-        "3",
-        FileList { items },
-        control,
-        clock,
-        fetchers,
-    )?;
-    assert_eq!(&rt; put.status, 0);
-    assert!(&rt; put.err.bytes() == SAID.as_bytes());
-    replays(&rt, means, &put)
+    let stage = new_stage(rt.alloc())?;
+    let put = held_run(&rt, means, &stage)?;
+    is_number(&rt, put.status as u64, 0, "a held run");
+    let given_up = stage.given_up.load(Ordering::SeqCst);
+    is_number(&rt, given_up, 0, "gates that gave up");
+    holds(&rt, put.err.bytes().is_empty(), "nothing is said");
+    holds(&rt, put.out.bytes() == FORCED.as_bytes(), "both are forced");
+    let replayed = replayed(&rt, means, put.trail.bytes())?;
+    let is_so = replayed.out.bytes() == put.out.bytes();
+    holds(&rt, is_so, "the trail replays to that");
+    Ok(())
 }

@@ -1,11 +1,11 @@
 use Rattle.std.proofs.Common.{◌≡◌, ◌∙◌, List, map, subst}
 use Rattle.std.specs.Prelude.{IfOk}
-use Rattle.scrape_machine.specs.declared.lives.Verdict.{Verdict}
+use Rattle.scrape_machine.specs.declared.lives.Difference.{Difference}
 use Rattle.scrape_steps.specs.Plans.{fate_of}
 use Rattle.scrape_steps.specs.Concerned.{concerned}
 use Rattle.scrape_core.proofs.changes.fates_to.Goals as goal
 
 pub returns : goal.returns
 returns c =
-    subst (λ (vs : List Verdict). IfOk c.fates_of.result (λ v. v.items ≡ map (fate_of c.args.names.now c.args.news.now vs) (concerned c.args.lives.now)))
-    (c.deref.ensures.value ∙ c.in_ok-verdicts.ensures) c.fates_of.ensures
+    subst (λ (vs : List Difference). IfOk c.fates_of.result (λ v. v.items ≡ map (fate_of c.args.names.now c.args.news.now vs) (concerned c.args.lives.now)))
+    (c.deref.ensures.value ∙ c.in_ok-differences.ensures) c.fates_of.ensures

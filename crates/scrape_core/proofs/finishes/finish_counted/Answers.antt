@@ -7,7 +7,7 @@ use Rattle.report_samples.specs.declared.entries.Entry.{Entry}
 use Rattle.scrape_loop.specs.Tracked.{fault_of}
 use Rattle.scrape_machine.specs.declared.answers.Answer.TheVariants.{Counted}
 use Rattle.scrape_machine.specs.declared.lives.Life.{Life}
-use Rattle.scrape_machine.specs.declared.lives.Start.{Start}
+use Rattle.scrape_machine.specs.declared.lives.StartedScrape.{StartedScrape}
 use Rattle.scrape_machine.specs.Lives.{is_open, counted, counted_entries, outcome_for, IsRightLife}
 use Rattle.scrape_machine.specs.Machine.{world, finished}
 use Rattle.scrape_machine.specs.Runs.{scrape_runs}
@@ -38,8 +38,8 @@ returns-clause-state g c =
     let d = c.index_mut-one.result.now in
     let t = to_z-of_z w64 c.args.took c.ranges.took in
     let done : c.finish.new.started ≡ finished (slice_get s.started.items c.args.ticket) s.started.items c.args.ticket =
-    c.finish.ensures ∙ ap (λ (ss : List Start). finished (slice_get ss c.args.ticket) ss c.args.ticket) c.deref_mut.ensures.value in
-    let long = ap (λ (ss : List Start). length ss) done ∙ length-finished s.started.items c.args.ticket _ ∙ sym s.started.ok.0 in
+    c.finish.ensures ∙ ap (λ (ss : List StartedScrape). finished (slice_get ss c.args.ticket) ss c.args.ticket) c.deref_mut.ensures.value in
+    let long = ap (λ (ss : List StartedScrape). length ss) done ∙ length-finished s.started.items c.args.ticket _ ∙ sym s.started.ok.0 in
     ap (λ ss. world s.jobs.items (set s.lives.items c.args.life c.count.new.life) ss) (with_items_is s.started c.finish.new.started long)
     ∙ counted_world s.jobs.items s.lives.items s.started.items c.args.ticket c.args.took c.args.reply.now c.args.life c.args.moment c.requires.found
     c.finish.new.started d c.count.new.life c.requires.within

@@ -4,7 +4,7 @@ use Rattle.std.specs.Prelude.{slice_get}
 use Rattle.report_samples.specs.declared.entries.Entry.{Entry}
 use Rattle.scrape_machine.specs.declared.answers.Answer.TheVariants.{NoTicket, Late}
 use Rattle.scrape_machine.specs.declared.lives.Life.{Life}
-use Rattle.scrape_machine.specs.declared.lives.Start.{Start}
+use Rattle.scrape_machine.specs.declared.lives.StartedScrape.{StartedScrape}
 use Rattle.scrape_machine.specs.Machine.{world, finished, found, found_start}
 use Rattle.scrape_steps.specs.Scans.{IsMissed}
 use Rattle.scrape_steps.proofs.FinishLemmas.{missed_said, missed_step, missed_silent, missed_runs}
@@ -16,7 +16,7 @@ use Rattle.scrape_core.proofs.finishes.take_finish.Goals as goal
 none : (g : _) (c : goal.After-without_runs g) → IsMissed NoTicket (found (live c.args.state.now) c.args.ticket)
 none g c =
     subst (IsMissed NoTicket)
-    (c.in-NotStarted.ensures.value ∙ ap₂ (λ (ls : List Life) (ss : List Start). found_start ls c.args.ticket (slice_get ss c.args.ticket)) c.deref.ensures.value c.deref-2.ensures.value) refl
+    (c.in-NotStarted.ensures.value ∙ ap₂ (λ (ls : List Life) (ss : List StartedScrape). found_start ls c.args.ticket (slice_get ss c.args.ticket)) c.deref.ensures.value c.deref-2.ensures.value) refl
 
 pub returns-in-NotStarted-clause-answer : goal.returns-in-NotStarted-clause-answer
 returns-in-NotStarted-clause-answer g c =
@@ -27,8 +27,8 @@ pub returns-in-NotStarted-clause-state : goal.returns-in-NotStarted-clause-state
 returns-in-NotStarted-clause-state g c =
     let s = c.args.state.now in
     let done : c.finish.new.started ≡ finished (slice_get s.started.items c.args.ticket) s.started.items c.args.ticket =
-    c.finish.ensures ∙ ap (λ (ss : List Start). finished (slice_get ss c.args.ticket) ss c.args.ticket) c.deref_mut.ensures.value in
-    let long = ap (λ (ss : List Start). length ss) done ∙ length-finished s.started.items c.args.ticket _ ∙ sym s.started.ok.0 in
+    c.finish.ensures ∙ ap (λ (ss : List StartedScrape). finished (slice_get ss c.args.ticket) ss c.args.ticket) c.deref_mut.ensures.value in
+    let long = ap (λ (ss : List StartedScrape). length ss) done ∙ length-finished s.started.items c.args.ticket _ ∙ sym s.started.ok.0 in
     ap (λ ss. world s.jobs.items s.lives.items ss) (with_items_is s.started c.finish.new.started long ∙ done)
     ∙ sym (missed_step s.jobs.items s.lives.items s.started.items c.args.ticket c.args.took c.args.reply.now NoTicket (none g c))
 
@@ -42,7 +42,7 @@ returns-in-NotStarted-clause-book g c =
 late : (g : _) (c : goal.After-without_runs-in-Cancelled g) → IsMissed Late (found (live c.args.state.now) c.args.ticket)
 late g c =
     subst (IsMissed Late)
-    (c.in-Cancelled.ensures.value ∙ ap₂ (λ (ls : List Life) (ss : List Start). found_start ls c.args.ticket (slice_get ss c.args.ticket)) c.deref.ensures.value c.deref-2.ensures.value) refl
+    (c.in-Cancelled.ensures.value ∙ ap₂ (λ (ls : List Life) (ss : List StartedScrape). found_start ls c.args.ticket (slice_get ss c.args.ticket)) c.deref.ensures.value c.deref-2.ensures.value) refl
 
 pub returns-in-Cancelled-clause-answer : goal.returns-in-Cancelled-clause-answer
 returns-in-Cancelled-clause-answer g c =
@@ -53,8 +53,8 @@ pub returns-in-Cancelled-clause-state : goal.returns-in-Cancelled-clause-state
 returns-in-Cancelled-clause-state g c =
     let s = c.args.state.now in
     let done : c.finish-in-Cancelled.new.started ≡ finished (slice_get s.started.items c.args.ticket) s.started.items c.args.ticket =
-    c.finish-in-Cancelled.ensures ∙ ap (λ (ss : List Start). finished (slice_get ss c.args.ticket) ss c.args.ticket) c.deref_mut-in-Cancelled.ensures.value in
-    let long = ap (λ (ss : List Start). length ss) done ∙ length-finished s.started.items c.args.ticket _ ∙ sym s.started.ok.0 in
+    c.finish-in-Cancelled.ensures ∙ ap (λ (ss : List StartedScrape). finished (slice_get ss c.args.ticket) ss c.args.ticket) c.deref_mut-in-Cancelled.ensures.value in
+    let long = ap (λ (ss : List StartedScrape). length ss) done ∙ length-finished s.started.items c.args.ticket _ ∙ sym s.started.ok.0 in
     ap (λ ss. world s.jobs.items s.lives.items ss) (with_items_is s.started c.finish-in-Cancelled.new.started long ∙ done)
     ∙ sym (missed_step s.jobs.items s.lives.items s.started.items c.args.ticket c.args.took c.args.reply.now Late (late g c))
 

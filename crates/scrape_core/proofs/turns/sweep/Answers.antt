@@ -4,7 +4,7 @@ use Rattle.std.proofs.lemmas.List.{with_items_is}
 use Rattle.journal_text.specs.declared.events.Event.TheVariants.{Sweep}
 use Rattle.journal_text.specs.Lines.{number}
 use Rattle.scrape_machine.specs.declared.lives.Life.{Life}
-use Rattle.scrape_machine.specs.declared.lives.Start.{Start}
+use Rattle.scrape_machine.specs.declared.lives.StartedScrape.{StartedScrape}
 use Rattle.scrape_machine.specs.Machine.{world, lives_from, starts_from, gives, answer}
 use Rattle.scrape_steps.proofs.ScanLemmas.{sweep_step}
 use Rattle.scrape_machine.proofs.StepLemmas.{length-lives}
@@ -41,11 +41,11 @@ returns-clause-state c =
     let long : length c.sweep_lives.new.lives ≡ s.lives.len =
     ap (λ (ls : List Life). length ls) swept ∙ length-lives (live s) (Sweep m) 0 s.lives.items ∙ sym s.lives.ok.0 in
     let begun = c.in_ok-begun.ensures ∙ ap₂ (λ js ls. starts_from js (number m) 0 ls) c.deref-3.ensures.value (c.swept-lives.ensures.all ∙ c.deref-2.ensures.value) in
-    ap₂ (λ ls ss. world s.jobs.items ls ss) (with_items_is s.lives c.sweep_lives.new.lives long ∙ swept) (c.push_starts.ensures ∙ ap₂ (λ (xs ys : List Start). xs ++ ys) c.in_ok-reserve.ensures.items begun)
+    ap₂ (λ ls ss. world s.jobs.items ls ss) (with_items_is s.lives c.sweep_lives.new.lives long ∙ swept) (c.push_starts.ensures ∙ ap₂ (λ (xs ys : List StartedScrape). xs ++ ys) c.in_ok-reserve.ensures.items begun)
     ∙ sym (sweep_step s.jobs.items s.lives.items s.started.items m)
 
 pub returns-clause-book : goal.returns-clause-book
 returns-clause-book c =
     let s = c.args.state.now in
     c.in_ok-append_swept.ensures.book
-    ∙ ap (λ (ss : List Start). c.args.book.now.entries ++ gives (world s.jobs.items s.lives.items ss) (Sweep c.args.moment)) c.in_ok-reserve.ensures.items
+    ∙ ap (λ (ss : List StartedScrape). c.args.book.now.entries ++ gives (world s.jobs.items s.lives.items ss) (Sweep c.args.moment)) c.in_ok-reserve.ensures.items

@@ -3,7 +3,7 @@ use Rattle.std.proofs.lemmas.Option.{get_or_from_slice_get}
 use Rattle.journal_text.specs.Lines.{number}
 use Rattle.report_samples.specs.declared.entries.Entry.{Entry}
 use Rattle.scrape_machine.specs.declared.lives.Life.{Life}
-use Rattle.scrape_machine.specs.declared.lives.Start.{Start}
+use Rattle.scrape_machine.specs.declared.lives.StartedScrape.{StartedScrape}
 use Rattle.scrape_machine.specs.Lives.{is_open, starts, scanned_life, scan_entries}
 use Rattle.scrape_machine.specs.Machine.{world, is_over, started_by}
 use Rattle.scrape_steps.specs.Scans.{is_open_life}
@@ -24,12 +24,12 @@ returns-clause-state c =
     let found = found_there s.lives.items k x lt c.index-one.ensures in
     let is = ap is_open_life (sym found) ∙ c.requires.there in
     let over = c.is_over_in-over.ensures ∙ ap (λ js. is_over js x) c.deref.ensures.value in
-    let ticket = c.len-ticket.ensures ∙ c.reserve.new.self.ok.0 ∙ ap (λ (ss : List Start). length ss) c.in_ok-reserve.ensures.items in
+    let ticket = c.len-ticket.ensures ∙ c.reserve.new.self.ok.0 ∙ ap (λ (ss : List StartedScrape). length ss) c.in_ok-reserve.ensures.items in
     let one = c.index_mut.ensures.value ∙ get_or_from_slice_get s.lives.items k x c.index_mut.result.now found in
     let new = c.scan.ensures ∙ ap (λ (y : Life). scanned_life m c.len-ticket.result c.is_over_in-over.result y y.schedule.closed) one
     ∙ ap₂ (λ t o. scanned_life m t o x x.schedule.closed) ticket over in
     let begun = c.in_ok-begun.ensures ∙ ap (λ o. started_by (starts (number m) o x) k x) over in
-    ap₂ (λ y ss. world s.jobs.items (set s.lives.items k y) ss) new (c.push_starts.ensures ∙ ap₂ (λ (xs ys : List Start). xs ++ ys) c.in_ok-reserve.ensures.items begun)
+    ap₂ (λ y ss. world s.jobs.items (set s.lives.items k y) ss) new (c.push_starts.ensures ∙ ap₂ (λ (xs ys : List StartedScrape). xs ++ ys) c.in_ok-reserve.ensures.items begun)
     ∙ sym (scans.tick_open s.jobs.items s.lives.items s.started.items m k x found lt c.index-one.ensures is)
 
 pub returns-clause-book : goal.returns-clause-book
@@ -57,7 +57,7 @@ returns-clause-listed c =
     let found = found_there s.lives.items k x lt c.index-one.ensures in
     let is = ap is_open_life (sym found) ∙ c.requires.there in
     let over = c.is_over_in-over.ensures ∙ ap (λ js. is_over js x) c.deref.ensures.value in
-    let ticket = c.len-ticket.ensures ∙ c.reserve.new.self.ok.0 ∙ ap (λ (ss : List Start). length ss) c.in_ok-reserve.ensures.items in
+    let ticket = c.len-ticket.ensures ∙ c.reserve.new.self.ok.0 ∙ ap (λ (ss : List StartedScrape). length ss) c.in_ok-reserve.ensures.items in
     let one = c.index_mut.ensures.value ∙ get_or_from_slice_get s.lives.items k x c.index_mut.result.now found in
     let new = c.scan.ensures ∙ ap (λ (y : Life). scanned_life m c.len-ticket.result c.is_over_in-over.result y y.schedule.closed) one
     ∙ ap₂ (λ t o. scanned_life m t o x x.schedule.closed) ticket over in

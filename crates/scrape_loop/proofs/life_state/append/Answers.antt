@@ -11,5 +11,5 @@ returns-clause-entries c =
     let p = c.args.past.now in
     let moment = to_z-of_z w64 c.args.moment c.ranges.moment in
     let took = to_z-of_z w64 c.args.took c.ranges.took in
-    let entries = c.in_ok-entries.ensures ∙ ap₂ (λ (m t : ℤ). entries_of (life_of p.life p.target p.extra c.args.cache.now p.scraped) c.args.extra c.args.scrape m t) moment took in
+    let entries = c.in_ok-entries.ensures ∙ ap₂ (λ (m t : ℤ). entries_of (life_of p.life p.target p.extra c.args.cache.now p.scraped p.up) c.args.extra c.args.scrape m t) moment took in
     subst (λ (es : List Entry). OnOk c.append_all.result (c.append_all.new.self.entries ≡ c.args.book.now.entries ++ es)) entries c.append_all.ensures.ok

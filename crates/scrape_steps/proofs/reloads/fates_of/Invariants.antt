@@ -4,4 +4,4 @@ use Rattle.scrape_steps.specs.Concerned.{concerned}
 use Rattle.scrape_steps.proofs.reloads.fates_of.Given as goal
 
 abbrev pub invariant-loop-index : goal.invariant-loop-index
-invariant-loop-index l = l.fates.items ≡ map (fate_of l.names l.news l.verdicts) (take l.index (concerned l.lives))
+invariant-loop-index l = l.fates.items ≡ map (fate_of l.names l.news l.differences) (take l.index (concerned l.lives))

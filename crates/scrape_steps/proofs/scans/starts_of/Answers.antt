@@ -1,7 +1,7 @@
 use Rattle.std.proofs.Common.{◌<◌, ◌++◌, ◌∙◌, List, length, append-nil, sym, ap, ap₂, arith}
 use Rattle.std.proofs.lemmas.List.{drop_all}
 use Rattle.journal_text.specs.Lines.{number}
-use Rattle.scrape_machine.specs.declared.lives.Start.{Start}
+use Rattle.scrape_machine.specs.declared.lives.StartedScrape.{StartedScrape}
 use Rattle.scrape_machine.specs.Machine.{starts_from}
 use Rattle.scrape_steps.specs.Concerned.{concerns, concerned, places}
 use Rattle.scrape_steps.proofs.ConcernedLemmas.{apart_closed, closed_starts, starts_at, starts_next, starts_where, length-places}
@@ -12,7 +12,7 @@ loop-index-init c =
     let v = c.args.lives.now in
     let js = c.args.jobs.now in
     let m = number c.args.moment in
-    ap (λ (zs : List Start). zs ++ starts_at js m (places v) (concerned v)) c.new-begun.ensures.items
+    ap (λ (zs : List StartedScrape). zs ++ starts_at js m (places v) (concerned v)) c.new-begun.ensures.items
     ∙ starts_where js m (concerns v.moment) (λ l h. closed_starts js m l (apart_closed v.moment l h)) 0 v.all
 
 pub loop-index-preserved : goal.loop-index-preserved
@@ -32,6 +32,6 @@ returns c =
     let n = c.count-index-end.ensures in
     let p = length-places (concerns v.moment) 0 v.all in
     sym (append-nil c.loop-index.begun.items)
-    ∙ ap (λ (zs : List Start). c.loop-index.begun.items ++ zs)
+    ∙ ap (λ (zs : List StartedScrape). c.loop-index.begun.items ++ zs)
     (sym (ap₂ (starts_at c.args.jobs.now m) (drop_all c.loop-index.index (places v) (omega (arith, le, n, p))) (drop_all c.loop-index.index (concerned v) (omega (arith, le, n)))))
     ∙ c.loop-index.invariant

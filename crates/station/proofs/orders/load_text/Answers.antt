@@ -3,7 +3,7 @@ use Rattle.std.specs.Prelude.{Result, IfSome}
 use Rattle.turn_lock.specs.Passes.{own_of}
 use Rattle.jobs_in_force.specs.Jobs.{loaded}
 use Rattle.run_lock.specs.Callers.{IsAnswered, jobs_known}
-use Rattle.run_lock.specs.declared.tasks.Order.TheVariants.{Load}
+use Rattle.run_lock.specs.declared.tasks.ControlOrder.TheVariants.{Load}
 use Rattle.station.specs.Control.{Does, load_taken}
 use Rattle.station.specs.declared.ends.Stop.{Stop}
 use Rattle.station.proofs.OrderLemmas.{if_some_is, on_some, load_refused, load_done, taken_of}

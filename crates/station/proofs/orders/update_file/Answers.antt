@@ -1,7 +1,7 @@
 use Rattle.turn_lock.specs.Passes.{own_of}
 use Rattle.jobs_in_force.specs.Jobs.{updated}
 use Rattle.run_lock.specs.Callers.{IsAnswered, jobs_known}
-use Rattle.run_lock.specs.declared.tasks.Order.TheVariants.{Update}
+use Rattle.run_lock.specs.declared.tasks.ControlOrder.TheVariants.{Update}
 use Rattle.station.proofs.OrderLemmas.{if_some_is, on_some, update_done}
 use Rattle.station.proofs.orders.update_file.Goals as goal
 

@@ -21,7 +21,7 @@ returns-in-Ok-clause-state g c =
     let p = c.self.inside.past in
     let took : to_z w64 (of_z w64 c.args.took) ≡ c.args.took = to_z-of_z w64 c.args.took c.ranges.took in
     let s = c.in_ok-scrape in
-    reply_state p.life p.target c.set-target.result.now p.extra p.scraped c.self.inside.cache c.seed.new.cache c.shown_rows.new.cache c.args.rules.now c.args.metric.now c.args.reply.now
+    reply_state p.life p.target c.set-target.result.now p.extra p.scraped p.up c.self.inside.cache c.seed.new.cache c.shown_rows.new.cache c.args.rules.now c.args.metric.now c.args.reply.now
     c.args.took (to_z w64 (of_z w64 c.args.took)) s.field-0.scrape c.args.self.now c.self.view_is c.set-target.ensures.value c.seed.ensures.same took s.ensures.outcome s.ensures.undone c.is_none-good.result
     c.turn.new.self (sym (ap is_some c.fault_in-fault.ensures) ∙ c.is_none-good.ensures) s.ensures.shows s.ensures.cache c.turn.ensures.turned c.turn.ensures.was
 
@@ -37,7 +37,7 @@ invariant_of-self-in-Ok g c =
     let s = c.in_ok-scrape in
     let good : c.is_none-good.result ≡ is_good (outcome_for c.args.self.now c.args.rules.now c.args.metric.now c.args.reply.now c.args.took) =
     good_told s.field-0.scrape c.is_none-good.result (sym (ap is_some c.fault_in-fault.ensures) ∙ c.is_none-good.ensures)
-    ∙ ap is_good (reply_told p.life p.target c.set-target.result.now p.extra p.scraped c.self.inside.cache c.seed.new.cache c.shown_rows.new.cache c.args.rules.now c.args.metric.now c.args.reply.now
+    ∙ ap is_good (reply_told p.life p.target c.set-target.result.now p.extra p.scraped p.up c.self.inside.cache c.seed.new.cache c.shown_rows.new.cache c.args.rules.now c.args.metric.now c.args.reply.now
     c.args.took (to_z w64 (of_z w64 c.args.took)) s.field-0.scrape c.args.self.now c.self.view_is c.set-target.ensures.value c.seed.ensures.same took s.ensures.outcome s.ensures.undone) in
     let form : c.form_after-self-inside.result ≡ cond (is_good (outcome_for c.args.self.now c.args.rules.now c.args.metric.now c.args.reply.now c.args.took)) (form_of c.args.reply.now) c.self.inside.form =
     c.form_after-self-inside.ensures ∙ ap₂ (λ (b : Bool) (f : Form). cond b f c.self.inside.form) good c.form.ensures in (
@@ -50,7 +50,7 @@ invariant_of-self-in-Ok g c =
     )
 
 entries : (g : _) (c : goal.After-turn g) →
-    entries_of (life_of c.self.inside.past.life c.self.inside.past.target c.self.inside.past.extra c.shown_rows.new.cache c.self.inside.past.scraped) c.extra_in-extra.result c.in_ok-scrape.field-0.scrape (to_z w64 (of_z w64 c.args.moment))
+    entries_of (life_of c.self.inside.past.life c.self.inside.past.target c.self.inside.past.extra c.shown_rows.new.cache c.self.inside.past.scraped c.self.inside.past.up) c.extra_in-extra.result c.in_ok-scrape.field-0.scrape (to_z w64 (of_z w64 c.args.moment))
     (to_z w64 (of_z w64 c.args.took))
     ≡ entries_of c.args.self.now (extra_for c.args.rules.now (outcome_for c.args.self.now c.args.rules.now c.args.metric.now c.args.reply.now c.args.took) c.args.reply.now) (outcome_for c.args.self.now c.args.rules.now c.args.metric.now c.args.reply.now c.args.took) c.args.moment c.args.took
 entries g c =
@@ -63,8 +63,8 @@ entries g c =
     to_z-of_z w64 c.size_in.result fits ∙ c.size_in.ensures ∙ ap (size_of s.field-0.scrape) c.size.ensures.value in
     let extra : c.extra_in-extra.result ≡ extra_for c.args.rules.now s.field-0.scrape c.args.reply.now =
     c.extra_in-extra.ensures.value ∙ ap (extra_of c.args.rules.now) size in
-    ap (λ (e : Option ExtraCounts). entries_of (life_of p.life p.target p.extra c.shown_rows.new.cache p.scraped) e s.field-0.scrape (to_z w64 (of_z w64 c.args.moment)) (to_z w64 (of_z w64 c.args.took))) extra
-    ∙ reply_entries p.life p.target c.set-target.result.now p.extra p.scraped c.self.inside.cache c.seed.new.cache c.shown_rows.new.cache c.args.rules.now c.args.metric.now c.args.reply.now
+    ap (λ (e : Option ExtraCounts). entries_of (life_of p.life p.target p.extra c.shown_rows.new.cache p.scraped p.up) e s.field-0.scrape (to_z w64 (of_z w64 c.args.moment)) (to_z w64 (of_z w64 c.args.took))) extra
+    ∙ reply_entries p.life p.target c.set-target.result.now p.extra p.scraped p.up c.self.inside.cache c.seed.new.cache c.shown_rows.new.cache c.args.rules.now c.args.metric.now c.args.reply.now
     c.args.took (to_z w64 (of_z w64 c.args.took)) s.field-0.scrape c.args.self.now c.self.view_is c.set-target.ensures.value c.seed.ensures.same took s.ensures.outcome s.ensures.undone c.args.moment
     (to_z w64 (of_z w64 c.args.moment)) moment s.ensures.was
 

@@ -16,18 +16,18 @@ invariant_of-self c = (
 
 pub returns-clause-state : goal.returns-clause-state
 returns-clause-state c =
-    force_state c.self.inside.past.life c.self.inside.past.target c.self.inside.past.extra c.self.inside.past.scraped c.self.inside.cache c.turn.new.self c.args.self.now c.self.view_is c.turn.ensures.turned
+    force_state c.self.inside.past.life c.self.inside.past.target c.self.inside.past.extra c.self.inside.past.scraped c.self.inside.past.up c.self.inside.cache c.turn.new.self c.args.self.now c.self.view_is c.turn.ensures.turned
     c.turn.ensures.was
 
 pub returns-clause-none_tracked : goal.returns-clause-none_tracked
 returns-clause-none_tracked c =
-    force_state c.self.inside.past.life c.self.inside.past.target c.self.inside.past.extra c.self.inside.past.scraped c.self.inside.cache c.turn.new.self c.args.self.now c.self.view_is c.turn.ensures.turned
+    force_state c.self.inside.past.life c.self.inside.past.target c.self.inside.past.extra c.self.inside.past.scraped c.self.inside.past.up c.self.inside.cache c.turn.new.self c.args.self.now c.self.view_is c.turn.ensures.turned
     c.turn.ensures.was
 
 pub returns-clause-right : goal.returns-clause-right
 returns-clause-right c = λ honor metric h.
     (subst (λ (v : LifeView). AreRight honor metric v.target v.cache.texts)
     (sym
-    (force_state c.self.inside.past.life c.self.inside.past.target c.self.inside.past.extra c.self.inside.past.scraped c.self.inside.cache c.turn.new.self c.args.self.now c.self.view_is
+    (force_state c.self.inside.past.life c.self.inside.past.target c.self.inside.past.extra c.self.inside.past.scraped c.self.inside.past.up c.self.inside.cache c.turn.new.self c.args.self.now c.self.view_is
     c.turn.ensures.turned c.turn.ensures.was))
     (forced_right honor metric c.args.self.now.target c.args.self.now h))
