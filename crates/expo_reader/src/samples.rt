@@ -83,7 +83,7 @@ impl<'a> SampleRow<'a> {
     ///
     /// # Errors
     ///
-    /// Only want of memory refuses, where the name has an escape.
+    /// The only error is out of memory, where the name has an escape.
     pub fn name(&self, alloc: Global) -> Result<LentText<'a>, NoMemory>
         ensures { IfOk result (λ n. n ≡ self.now.name) }
     {

@@ -79,7 +79,7 @@ fn settled_set(
 ///
 /// # Errors
 ///
-/// Only want of memory refuses, and what was lent stays as it was.
+/// The only error is out of memory, and what was lent stays as it was.
 ///
 /// # Example
 ///
@@ -106,7 +106,7 @@ pub fn merge(
 ///
 /// # Errors
 ///
-/// Only want of memory refuses.
+/// The only error is out of memory.
 pub fn merge_lent<'a>(
     alloc: Global,
     name: &'a str,

@@ -33,7 +33,7 @@ impl<'l, 'a> Model for LentTarget<'l, 'a> {
 ///
 /// # Errors
 ///
-/// Only want of memory refuses.
+/// The only error is out of memory.
 pub fn labels_in<'a>(alloc: Global, set: &'a LabelSet) -> Result<Vec<Label<'a>>, NoMemory>
     ensures labels { IfOk result (λ v. map pair_of v.items ≡ set.now) }
     ensures set { IfOk result (λ v. IsSet (map pair_of v.items)) }
@@ -48,7 +48,7 @@ impl<'l, 'a> LentTarget<'l, 'a> {
     ///
     /// # Errors
     ///
-    /// Only want of memory refuses; where the labels are few, none is taken.
+    /// The only error is out of memory; where the labels are few, none is taken.
     pub fn of(alloc: Global, labels: &'l [Label<'a>]) -> Result<LentTarget<'l, 'a>, NoMemory>
         requires { IsSet (map pair_of labels.now) }
         ensures { IfOk result (λ t. t ≡ map pair_of labels.now) }

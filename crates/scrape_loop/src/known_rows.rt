@@ -215,7 +215,7 @@ fn of_page<L: Ledger>(
 ///
 /// # Errors
 ///
-/// Only want of memory refuses; what was put and shown can then be taken back.
+/// The only error is out of memory; what was put and shown can then be taken back.
 #[tactic(auto, unfolding(sample_rows::specs::Outcomes::outcome))]
 fn known_rows<L: Ledger>(
     alloc: Global,
@@ -244,7 +244,7 @@ fn known_rows<L: Ledger>(
 ///
 /// # Errors
 ///
-/// Only want of memory refuses; the cache is then as before.
+/// The only error is out of memory; the cache is then as before.
 pub fn shown_rows<L: Ledger>(
     alloc: Global,
     terms: &ScrapeRules<'_>,

@@ -43,7 +43,7 @@ fn body_of(alloc: Global, core: &Core, page: Page) -> Result<Vec<u8>, NoMemory>
 ///
 /// # Errors
 ///
-/// Only want of memory refuses; a front of the answer may stand in the text then.
+/// The only error is out of memory; a front of the answer may stand in the text then.
 pub fn push_answer(
     alloc: Global,
     text: &mut Vec<u8>,

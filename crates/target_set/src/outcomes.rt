@@ -50,7 +50,7 @@ fn scheme_cause(
 ///
 /// # Errors
 ///
-/// Only want of memory refuses.
+/// The only error is out of memory.
 #[tactic(auto, unfolding(crate::specs::Outcomes::cause_of))]
 pub fn cause_in(alloc: Global, set: &LabelSet) -> Result<Option<TargetCause>, NoMemory>
     ensures { IfOk result (λ o. o ≡ spec.cause_of set.now) }
