@@ -18,7 +18,7 @@ abbrev pub places_where : (Life → Bool) → ℕ → List Life → List ℕ
 places_where p n [] = []
 places_where p n (l ∷ ls) = if p l then n ∷ places_where p (n + 1) ls else places_where p (n + 1) ls
 
--- what contracts see of lives that are lent with the places of those that an event concerns
+-- what contracts see of lives that are borrowed with the places of those that an event concerns
 pub record LivesView : Type 0 where
   pub all : List Life
   pub moment : Option ℤ

@@ -1,6 +1,6 @@
 use Rattle.std.proofs.Common.{◌≡◌, [], List, Bool, true, sym, ap, ◌∙◌, ◌++◌, subst}
 use Rattle.std.specs.Prelude.{map}
-use Rattle.label_set.specs.Lent.{pair_of}
+use Rattle.label_set.specs.Borrowed.{pair_of}
 use Rattle.label_set.specs.Sets.{IsSet}
 use Rattle.label_set.specs.Lasts.{with_labels}
 use Rattle.label_set.specs.declared.texts.Pair.{Pair}
@@ -9,7 +9,7 @@ use Rattle.label_conflict.specs.Merging as spec
 use Rattle.label_conflict.specs.Merging.{settled, joined, merged, name_label, apart_from}
 use Rattle.label_conflict.proofs.MergeLemmas.{merged_put}
 use Rattle.label_conflict.proofs.SortLemmas.{no_labels, sorted_fits, sorted_merges}
-use Rattle.label_conflict.proofs.sample.merge_lent.Goals as goal
+use Rattle.label_conflict.proofs.sample.merge_borrowed.Goals as goal
 
 pub from_labels-requires : goal.from_labels-requires
 from_labels-requires c =

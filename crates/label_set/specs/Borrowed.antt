@@ -1,4 +1,4 @@
--- Labels that are lent.
+-- Labels that are borrowed.
 use Rattle.label_set.specs.declared.texts.Pair.{Pair}
 use Rattle.label_set.specs.declared.labels.Label.{Label}
 

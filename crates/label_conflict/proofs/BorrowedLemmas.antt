@@ -1,10 +1,10 @@
--- Labels that are lent, seen as pairs.
+-- Labels that are borrowed, seen as pairs.
 use Rattle.std.proofs.Common.{arith, ◌≡◌, ℕ, ◌+◌, ◌<◌, List, [], ◌∷◌, ◌++◌, ap, sym, ◌∙◌, drop, get_or, add-one, suc, drop-cons, append_assoc, subst, Some}
 use Rattle.std.specs.Prelude.{map, length}
 use Rattle.std.specs.List.Sorted.{IsSorted}
 use Rattle.std.proofs.lemmas.List.{get_or-map, length-map}
 use Rattle.std.specs.declared.cmp.Ordering.{Ordering}
-use Rattle.label_set.specs.Lent.{pair_of}
+use Rattle.label_set.specs.Borrowed.{pair_of}
 use Rattle.label_set.specs.declared.texts.Pair.{Pair}
 use Rattle.label_set.specs.declared.labels.Label.{Label}
 use Rattle.label_conflict.specs.Merging.{settled, with_free, free_name}
