@@ -1,1 +1,5 @@
 pub mod TargetLemmas
+pub mod ConnectionLemmas
+pub mod FlowLemmas
+pub mod StepLemmas
+pub mod ServeLemmas

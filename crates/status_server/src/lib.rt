@@ -4,9 +4,13 @@
 #![tactic(auto)]
 
 pub mod answers;
+pub mod connections;
+pub mod reloads;
 pub mod replies;
+pub mod serving;
 pub mod targets;
 
 pub use answers::{ends, push_answer};
 pub use replies::{Status, push_reply};
+pub use serving::{ServeEnd, Served, serve};
 pub use targets::push_targets;
