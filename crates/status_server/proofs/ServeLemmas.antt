@@ -1,13 +1,11 @@
 -- From one read of a connection to the next.
 use Rattle.std.proofs.Common.{◌≡◌, inl, inr, ℕ, zero, suc, ◌+◌, ◌-◌, ◌<◌, ◌≤◌, min, List, [], ◌∷◌, ◌++◌, length, take, drop, refl, sym, ap, subst, ◌∙◌, arith, append_assoc, append-nil}
-use Rattle.std.specs.Prelude.{true, false, ◌⊎◌, Option, Some, None, IfSome, codes}
-use Rattle.std.proofs.lemmas.List.{length-append, length-take-le, take-append-drop, take-take, take_min}
-use Rattle.httparse.specs.Grammar.{RequestHead, lf, print_request}
+use Rattle.std.specs.Prelude.{true, false, ◌⊎◌, Option, Some, None, IfSome}
+use Rattle.std.proofs.lemmas.List.{length-append, length-take-le, take-append-drop, take-take, take_at, take_min}
 use Rattle.journal_text.specs.declared.events.Event.{Event}
 use Rattle.outside.specs.Objects.{ShelfSeen, SinkSeen, Use, used, Took, Cut, Rose}
 use Rattle.outside.specs.Sources.{SourceSeen, FailedToGive, Gave, Gives, IsAtEnd}
-use Rattle.request_heads.specs.Fronts.{IsTorn, NoHead}
-use Rattle.request_heads.proofs.FrontLemmas.{request-some}
+use Rattle.request_heads.specs.Fronts.{IsTorn}
 use Rattle.status_server.specs.Connections.{Answered, AreFirst, IsBegun, IsClosed, IsOpen}
 use Rattle.status_server.specs.Reloads.{Site}
 use Rattle.status_server.specs.Serving.{EndsSo, HasGiven, IsEmptied, IsSound, Serves, Touched, end_of, touched}
@@ -19,20 +17,9 @@ use Rattle.status_server.specs.declared.serving.ServeEnd.TheVariants.{Done, Read
 use Rattle.status_server.proofs.ConnectionLemmas.{answered-append, answered-none, answered-then, begun-then, closed-then, first-then}
 use Rattle.status_server.proofs.FlowLemmas.{given-none, given-then, took-none, took-then, cut-then}
 
--- before a connection's first byte
-no-head : NoHead []
-no-head h rest at = omega (arith, request-some h, ap length at.reads.1, length-append (print_request h) rest)
-
-least : RequestHead
-least = record { blank = []; method = codes "GET"; target = codes "/"; minor = 1; line_end = lf; fields = []; last = lf }
-
-pub torn-none : IsTorn []
-unfolding print_request is_token_byte
-torn-none = record {
-  none = no-head;
-  may = inl (codes "GET / HTTP/1.1\n\n", least, (record { method = (omega arith, tt); target = (omega arith, tt); target_text = refl; minor = omega arith; fields = tt }, refl));
-  short = omega arith;
-}
+-- the room of a read, behind it
+pub room-is : (len : ℕ) (room rest all : List ℕ) → all ≡ take len (room ++ rest) → length room ≡ len → all ≡ room
+room-is len room rest all is same = is ∙ take_at room rest len same
 
 -- what a connection came to by a read
 pub record Has (es : List Event) (file : List ℕ) (given : ℕ) (waiting : List ℕ) (core : List Event) (t : Touched) : Type 0 where
@@ -43,11 +30,22 @@ pub record Has (es : List Event) (file : List ℕ) (given : ℕ) (waiting : List
   pub count : length bytes ≡ given
   pub few : given ≤ 1048576
   pub answered : Answered es (site t.shelf.before file) bytes replies waiting loads
-  pub torn : IsTorn waiting
+  pub torn : (waiting ≡ []) ⊎ IsTorn waiting
   pub put : Took replies t.sink
   pub journal : core ≡ es ++ loads
   pub sound : IsSound t.shelf t.source
   pub files : t.shelf.after.files ≡ t.shelf.before.files
+
+-- nothing was served
+pub none-served : (es : List Event) (file : List ℕ) (s : ShelfSeen) (c : SourceSeen) (o : SinkSeen) → Serves NoMemory es file (touched (used s s) (used c c) (used o o)) es
+none-served es file s c o = record {
+  bytes = [];
+  given = given-none c;
+  replies = [];
+  loads = [];
+  so = (inl (record { rest = []; answered = answered-none es (site s file) [] }), record { shelf_same = refl; source_same = refl }, took-none o o refl);
+  journal = ([], sym (append-nil (es ++ []) ∙ append-nil es));
+}
 
 pub has-none : (es : List Event) (file waiting : List ℕ) (s : ShelfSeen) (c : SourceSeen) (o : SinkSeen) → waiting ≡ [] → Has es file 0 waiting es (touched (used s s) (used c c) (used o o))
 has-none es file waiting s c o e = record {
@@ -58,7 +56,7 @@ has-none es file waiting s c o e = record {
   count = refl;
   few = omega arith;
   answered = subst (λ w. Answered es (site s file) [] [] w []) (sym e) (answered-none es (site s file) []);
-  torn = subst IsTorn (sym e) torn-none;
+  torn = inl e;
   put = took-none o o refl;
   journal = sym (append-nil es);
   sound = record { shelf_same = refl; source_same = refl };
@@ -66,9 +64,11 @@ has-none es file waiting s c o e = record {
 }
 
 take-over : (n : ℕ) (xs ys : List ℕ) → length xs ≤ n → take n (xs ++ ys) ≡ xs ++ take (n - length xs) ys
-take-over n [] ys h = refl
+take-over n [] ys h = (let e : n ≡ n - 0 = omega arith in ap (λ m. take m ys) e)
 take-over zero (x ∷ xs) ys h = absurd (omega arith)
-take-over (suc n) (x ∷ xs) ys h = ap (λ t. x ∷ t) (take-over n xs ys (omega arith))
+take-over (suc n) (x ∷ xs) ys h =
+    let e : n - length xs ≡ suc n - suc (length xs) = omega arith in
+    ap (λ t. x ∷ t) (take-over n xs ys (omega arith)) ∙ ap (λ m. x ∷ (xs ++ take m ys)) e
 
 -- what is kept of a piece are its bytes within the first 1 MiB
 pub kept-is : (bytes room : List ℕ) (given count kept : ℕ) → length bytes ≡ given → given ≤ 1048576 → count ≤ length room → kept ≡ min count (1048576 - given) →
@@ -128,7 +128,7 @@ module _ (es : List Event) (file : List ℕ) (given : ℕ) (waiting : List ℕ) 
 
   -- a piece of which some bytes are kept
   module _ (room : List ℕ) (count kept : ℕ) (within : count ≤ length room) (k : kept ≡ min count (1048576 - given)) (gave : Gave (take count room) (used c1 c2)) where
-    all : List ℕ
+    abbrev all : List ℕ
     all = h.bytes ++ take count room
 
     given-all : HasGiven all (used c0 c2)
@@ -243,7 +243,7 @@ module _ (es : List Event) (file : List ℕ) (given : ℕ) (waiting : List ℕ) 
           record {
             rest = drop len (waiting ++ take kept room);
             answered = subst (λ t. Answered es (site s0 file) t (h.replies ++ w.replies) (drop len (waiting ++ take kept room)) (h.loads ++ w.loads)) (sym is) (more len w);
-            torn = w.torn;
+            torn = inr w.torn;
           },
           omega (arith, lt, k, h.few, h.count, length-append h.bytes (take count room), length-take-le count room within),
           sound-by s2 b.faults,
@@ -265,7 +265,7 @@ module _ (es : List Event) (file : List ℕ) (given : ℕ) (waiting : List ℕ) 
             count = omega (arith, h.count, same, length-append h.bytes (take kept room), length-take-le kept room (omega (arith, same, within)));
             few = omega (arith, k, h.few);
             answered = more len w;
-            torn = w.torn;
+            torn = inr w.torn;
             put = took-then h.replies w.replies o0 o1 o2 h.put w.put;
             journal = journal-is w.loads w.journal;
             sound = sound-by s2 b.faults;

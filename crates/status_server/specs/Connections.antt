@@ -50,11 +50,11 @@ pub record Answered (es : List Event) (site : Site) (text replies rest : List �
   pub replies_are : replies ≡ flat_map reply_of exchanges
   pub loads_are : loads ≡ flat_map loads_of exchanges
 
--- each request is answered so, and the text may go on: it ends within a head, or before one
+-- each request is answered so, and the text may go on: it ends before a head, or within one
 pub record IsOpen (es : List Event) (site : Site) (text replies : List ℕ) (loads : List Event) : Type 0 where
   pub rest : List ℕ
   pub answered : Answered es site text replies rest loads
-  pub torn : IsTorn rest
+  pub torn : (rest ≡ []) ⊎ IsTorn rest
 
 -- what ends a connection: a request in front, behind which it ends; or what isn't one, whatever follows
 pub record IsLastExchange (es : List Event) (site : Site) (text replies : List ℕ) (loads : List Event) : Type 0 where

@@ -85,9 +85,9 @@ fn serve_all<L: Ledger, S: Shelf, C: Source, O: Sink>(
             return ServeEnd::Done;
         }
         let kept = count.min(MOST_BYTES - given);
-        if waiting.extend_from_slice(&room[..kept]).is_err() {
+        let Ok(()) = waiting.extend_from_slice(&room[..kept]) else {
             return ServeEnd::NoMemory;
-        }
+        };
         match answer_all(server, file, shelf, &waiting, sink) {
             Err(stop) => return end_of(stop),
             Ok(None) => return ServeEnd::Done,
@@ -101,17 +101,35 @@ fn serve_all<L: Ledger, S: Shelf, C: Source, O: Sink>(
     unreachable!()
 }
 
-/// A server over a core, with a count of steps that nobody reads.
-fn server_over<L: Ledger>(alloc: Global, core: Core, blank: Blank) -> Server<L>
-    requires name { blank.name ≡ L.name }
-    requires parts { blank.parts ≡ L.parts }
-    requires some { 0 < blank.parts }
-    ensures { result.core ≡ core }
+/// A core that is to be served, and the file of its configuration.
+#[derive(Drop)]
+struct Start<'a> {
+    core: Core,
+    file: &'a str,
+}
+
+/// Serves a connection, with a count of steps that nobody reads.
+fn serve_from<L: Ledger, S: Shelf, C: Source, O: Sink>(
+    alloc: Global,
+    blank: Blank,
+    start: Start<'_>,
+    shelf: &mut S,
+    source: &mut C,
+    sink: &mut O,
+) -> Served
+    requires blank { (blank.name ≡ L.name) × (blank.parts ≡ L.parts) × (0 < blank.parts) }
+    ensures { Serves result.end start.entry.core start.entry.file.now (touched (used (S.seen shelf.old) (S.seen shelf.new))
+        (used (C.seen source.old) (C.seen source.new)) (used (O.seen sink.old) (O.seen sink.new))) result.core }
 {
-    Server {
+    let mut server: Server<L> = Server {
         alloc,
-        core,
+        core: start.core,
         steps: Steps::open(blank),
+    };
+    let end = serve_all(&mut server, start.file, shelf, source, sink);
+    Served {
+        end,
+        core: server.core,
     }
 }
 
@@ -139,10 +157,6 @@ pub fn serve<S: Shelf, C: Source, O: Sink>(
     ensures { Serves result.end core file.now (touched (used (S.seen shelf.old) (S.seen shelf.new))
         (used (C.seen source.old) (C.seen source.new)) (used (O.seen sink.old) (O.seen sink.new))) result.core }
 {
-    let mut server = server_over::<Brand>(alloc, core, Blank::new(1));
-    let end = serve_all(&mut server, file, shelf, source, sink);
-    Served {
-        end,
-        core: server.core,
-    }
+    let start = Start { core, file };
+    serve_from::<Brand, S, C, O>(alloc, Blank::new(1), start, shelf, source, sink)
 }
