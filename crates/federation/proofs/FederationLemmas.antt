@@ -63,7 +63,8 @@ module _ (selectors : List SelectorParts) (selector : SelectorParts) where
       list_any-append (λ (s : SelectorParts). selects s set) selectors (selector ∷ [])
       ∙ ap (λ b. selected_by_some selectors set || b) (or_false (selects selector set))
 
-  module _ (entries : List Entry) (t : ℤ) (left right rows : List ViewRow) (seen : IsFederated entries selectors t left) (more : IsInstantView entries selector t right)
+  module _ (entries : List Entry) (t : ℤ) (left right rows : List ViewRow) (seen : IsFederated entries selectors t left)
+      (more : IsInstantView entries selector t right)
       (merged : IsMerged left right rows) where
     each_of : (row : ViewRow) → IsOf left right row → (selected_by_some (selectors ++ selector ∷ []) row.series ≡ true) × IsRow entries t row
     each_of row (inl is) =
@@ -73,7 +74,8 @@ module _ (selectors : List SelectorParts) (selector : SelectorParts) where
         let h = more.each row is in
         (selected_more row.series ∙ second_so (selected_by_some selectors row.series) (selects selector row.series) h.0, h.1)
 
-    of_either : (row : ViewRow) → IsRow entries t row → (selected_by_some selectors row.series ≡ true) ⊎ (selects selector row.series ≡ true) → IsOf left right row
+    of_either : (row : ViewRow) → IsRow entries t row → (selected_by_some selectors row.series ≡ true) ⊎ (selects selector row.series ≡ true) →
+        IsOf left right row
     of_either row r (inl s) = inl (seen.all row s r)
     of_either row r (inr s) = inr (more.all row s r)
 
@@ -87,14 +89,16 @@ module _ (selectors : List SelectorParts) (selector : SelectorParts) where
       rising = merged.rising;
       each = λ row is. each_of row (merged.each row is);
       all = λ row s r.
-          found row r (merged.all row (of_either row r (either (selected_by_some selectors row.series) (selects selector row.series) (sym (selected_more row.series) ∙ s))));
+          found row r (merged.all row (of_either row r (either (selected_by_some selectors row.series) (selects selector row.series)
+          (sym (selected_more row.series) ∙ s))));
     }
 
 -- the same of each book that a view stands for
 pub federation_none : (view : ViewOf) (t : ℤ) (rows : List ViewRow) → rows ≡ [] → IsFederationOf view [] t rows
 federation_none view t rows none = λ entries stands. federated_none (take view.count entries) t rows none
 
-pub federation_more : (view : ViewOf) (selectors : List SelectorParts) (selector : SelectorParts) (t : ℤ) (left right rows : List ViewRow) → IsFederationOf view selectors t left →
+pub federation_more : (view : ViewOf) (selectors : List SelectorParts) (selector : SelectorParts) (t : ℤ) (left right rows : List ViewRow) →
+    IsFederationOf view selectors t left →
     IsViewOf view selector t right → (AreRising left → AreRising right → IsMerged left right rows) → IsFederationOf view (selectors ++ selector ∷ []) t rows
 federation_more view selectors selector t left right rows seen more merged = λ entries stands.
     (let l = seen entries stands in

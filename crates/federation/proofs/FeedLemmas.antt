@@ -35,7 +35,8 @@ cut_line (b ∷ line) rest e =
 -- bytes that pass a test which a line feed doesn't
 no_feed : (test : ℕ → Bool) → test 10 ≡ false → (b : ℕ) → test b ≡ true → not (b == 10) ≡ true
 no_feed test none b e =
-    ⊎_elim (λ (q : (b == 10) ≡ true). absurd (true≢false (sym e ∙ ap test (eqb-true b 10 q) ∙ none))) (λ (q : (b == 10) ≡ false). ap not q) (cases_Bool (b == 10))
+    ⊎_elim (λ (q : (b == 10) ≡ true). absurd (true≢false (sym e ∙ ap test (eqb-true b 10 q) ∙ none))) (λ (q : (b == 10) ≡ false). ap not q)
+    (cases_Bool (b == 10))
 
 no_feeds : (test : ℕ → Bool) → test 10 ≡ false → (bs : List ℕ) → list_all test bs ≡ true → NoFeed bs
 no_feeds test none [] e = refl
@@ -82,7 +83,8 @@ name-none name =
     (let is : name_text name ≡ name = ap (λ (b : Bool). if b then name else codes "\"" ++ (escaped name ++ codes "\"")) q in
     subst NoFeed (sym is) (label_name-none name q)))
     (λ (q : is_label_name name ≡ false).
-    (let is : name_text name ≡ codes "\"" ++ (escaped name ++ codes "\"") = ap (λ (b : Bool). if b then name else codes "\"" ++ (escaped name ++ codes "\"")) q in
+    (let is : name_text name ≡ codes "\"" ++ (escaped name ++ codes "\"") =
+    ap (λ (b : Bool). if b then name else codes "\"" ++ (escaped name ++ codes "\"")) q in
     subst NoFeed (sym is) (quoted-none name)))
     (cases_Bool (is_label_name name))
 

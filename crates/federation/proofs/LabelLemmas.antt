@@ -62,7 +62,8 @@ module _ (name : List ℕ) (some : name ≢ []) (utf8 : IsUtf8 name) (other : by
       (let is : name_text name ≡ name = ap (λ (b : Bool). if b then name else codes "\"" ++ (escaped name ++ codes "\"")) q in
       inl (exposed_name q, is)))
       (λ (q : is_label_name name ≡ false).
-      (let is : codes "\"" ++ (escaped name ++ codes "\"") ≡ name_text name = sym (ap (λ (b : Bool). if b then name else codes "\"" ++ (escaped name ++ codes "\"")) q) in
+      (let is : codes "\"" ++ (escaped name ++ codes "\"") ≡ name_text name =
+      sym (ap (λ (b : Bool). if b then name else codes "\"" ++ (escaped name ++ codes "\"")) q) in
       inr (refl, quoted_name, subst (λ (s : List ℕ). IsQuote s name) is (quote_is name utf8))))
       (cases_Bool (is_label_name name))
 
@@ -101,7 +102,8 @@ pub others_are : (ps : List Pair) → AllByRecursion IsNamedText ps → AllByRec
 others_are [] h = tt
 others_are (p ∷ ps) h = by (others_are ps h.1) (bytes_eq p.name metric_label) refl
   where
-    by : AllByRecursion IsOther (other_labels ps) → (b : Bool) → bytes_eq p.name metric_label ≡ b → AllByRecursion IsOther (cond (not b) (p ∷ other_labels ps) (other_labels ps))
+    by : AllByRecursion IsOther (other_labels ps) → (b : Bool) → bytes_eq p.name metric_label ≡ b →
+        AllByRecursion IsOther (cond (not b) (p ∷ other_labels ps) (other_labels ps))
     by rest true e = rest
     by rest false e = ((h.0, e), rest)
 
@@ -110,7 +112,8 @@ pub value_utf8 : (ps : List Pair) (name value : List ℕ) → AllByRecursion IsN
 value_utf8 [] name value h e = absurd cc
 value_utf8 (p ∷ ps) name value h e = by (λ later. value_utf8 ps name value h.1 later) (bytes_eq p.name name) e
   where
-    by : (value_of ps name ≡ Some value → IsUtf8 value) → (b : Bool) → option_map (λ (q : Pair). q.value) (cond b (Some p) (find (λ (q : Pair). bytes_eq q.name name) ps)) ≡ Some value →
+    by : (value_of ps name ≡ Some value → IsUtf8 value) → (b : Bool) →
+        option_map (λ (q : Pair). q.value) (cond b (Some p) (find (λ (q : Pair). bytes_eq q.name name) ps)) ≡ Some value →
         IsUtf8 value
     by rest true e = let same : p.value ≡ value = cc e in subst IsUtf8 same h.0.value
     by rest false e = rest e
@@ -136,7 +139,8 @@ seen_more name last (s ∷ seen) h e = (h.0, seen_more name last seen h.1 e)
 abbrev AreAbove : List (List ℕ) → List Pair → Type 0
 AreAbove seen ps = AllByRecursion (λ (p : Pair). AllByRecursion (λ (s : List ℕ). bytes_cmp s p.name ≡ Less) seen) ps
 
-above_more : (last : List ℕ) (seen : List (List ℕ)) (ps : List Pair) → AreAbove seen ps → AllByRecursion (λ (p : Pair). bytes_cmp last p.name ≡ Less) ps → AreAbove (seen ++ last ∷ []) ps
+above_more : (last : List ℕ) (seen : List (List ℕ)) (ps : List Pair) → AreAbove seen ps →
+    AllByRecursion (λ (p : Pair). bytes_cmp last p.name ≡ Less) ps → AreAbove (seen ++ last ∷ []) ps
 above_more last seen [] h e = tt
 above_more last seen (p ∷ ps) h e = (seen_more p.name last seen h.0 e.0, above_more last seen ps h.1 e.1)
 

@@ -24,7 +24,8 @@ gone [] n o e v none = refl
 gone (row ∷ rows) n o e v none = absurd (true≢false (sym (subst (λ (u : Option ViewRow). IsSome u) none (v.1 (omega (arith, e))))))
 
 -- a list of which no row is taken, and one of which the last is
-all_left : (row : ViewRow) (rows : List ViewRow) → AreRising rows → ((other : ViewRow) → IsAmong rows other → set_cmp other.series row.series ≡ Less) → IsLeftBelow row rows rows
+all_left : (row : ViewRow) (rows : List ViewRow) → AreRising rows → ((other : ViewRow) → IsAmong rows other → set_cmp other.series row.series ≡ Less) →
+    IsLeftBelow row rows rows
 all_left row rows rising below = record { rising = rising; still = λ other is. is; below = below; taken = λ other is. inl is }
 
 but_last : (row last : ViewRow) (rows : List ViewRow) → AreRising (rows ++ last ∷ []) → last.series ≡ row.series → IsLeftBelow row (rows ++ last ∷ []) rows
@@ -40,7 +41,8 @@ but_last row last rows rising same = record {
     by other (inr e) = inr (ap (λ (r : ViewRow). r.series) (sym e) ∙ same)
 
 -- the ends of two lists by their order
-none_right : (o : Option ViewRow) (row : ViewRow) → row_order o (Some row) ≡ Less → (o ≡ None) ⊎ ((last : ViewRow) × (o ≡ Some last) × (set_cmp last.series row.series ≡ Less))
+none_right : (o : Option ViewRow) (row : ViewRow) → row_order o (Some row) ≡ Less →
+    (o ≡ None) ⊎ ((last : ViewRow) × (o ≡ Some last) × (set_cmp last.series row.series ≡ Less))
 none_right None row e = inl refl
 none_right (Some last) row e = inr (last, refl, e)
 
@@ -48,17 +50,21 @@ none_left : (o : Option ViewRow) → row_order o None ≡ Less → o ≡ None
 none_left None e = refl
 none_left (Some row) e = absurd cc
 
-below_right : (o : Option ViewRow) (row : ViewRow) → row_order (Some row) o ≡ Greater → (o ≡ None) ⊎ ((last : ViewRow) × (o ≡ Some last) × (set_cmp last.series row.series ≡ Less))
+below_right : (o : Option ViewRow) (row : ViewRow) → row_order (Some row) o ≡ Greater →
+    (o ≡ None) ⊎ ((last : ViewRow) × (o ≡ Some last) × (set_cmp last.series row.series ≡ Less))
 below_right None row e = inl refl
 below_right (Some last) row e = inr (last, refl, turned row.series last.series e)
 
-below_end : (rows : List ViewRow) (row : ViewRow) → AreRising rows → (last_row rows ≡ None) ⊎ ((last : ViewRow) × (last_row rows ≡ Some last) × (set_cmp last.series row.series ≡ Less)) →
+below_end : (rows : List ViewRow) (row : ViewRow) → AreRising rows →
+    (last_row rows ≡ None) ⊎ ((last : ViewRow) × (last_row rows ≡ Some last) × (set_cmp last.series row.series ≡ Less)) →
     (other : ViewRow) → IsAmong rows other → set_cmp other.series row.series ≡ Less
-below_end rows row rising (inl none) other is = none_among other (set_cmp other.series row.series ≡ Less) (subst (λ (l : List ViewRow). IsAmong l other) (no_last rows none) is)
+below_end rows row rising (inl none) other is =
+    none_among other (set_cmp other.series row.series ≡ Less) (subst (λ (l : List ViewRow). IsAmong l other) (no_last rows none) is)
 below_end rows row rising (inr h) other is = all_below rows h.0 other row.series rising h.1 h.2 is
 
 -- the last row of the second list is taken
-pub right_taken : (left right fewer : List ViewRow) (o : Option ViewRow) → Less ≡ row_order (last_row left) (last_row right) → right ≡ fewer ++ option_to_list o →
+pub right_taken : (left right fewer : List ViewRow) (o : Option ViewRow) → Less ≡ row_order (last_row left) (last_row right) →
+    right ≡ fewer ++ option_to_list o →
     (o ≡ None → right ≡ []) → IsTaken left right left fewer o
 right_taken left right fewer None order is gone =
     let empty = gone refl in
@@ -76,7 +82,8 @@ right_taken left right fewer (Some row) order is gone = λ left_rising right_ris
     })
 
 -- the last row of the first list is taken
-pub left_taken : (left right fewer : List ViewRow) (o : Option ViewRow) → Greater ≡ row_order (last_row left) (last_row right) → left ≡ fewer ++ option_to_list o →
+pub left_taken : (left right fewer : List ViewRow) (o : Option ViewRow) → Greater ≡ row_order (last_row left) (last_row right) →
+    left ≡ fewer ++ option_to_list o →
     (o ≡ None → left ≡ []) → IsTaken left right fewer right o
 left_taken left right fewer None order is gone =
     let none : Greater ≡ Less = order ∙ ap (λ (l : List ViewRow). row_order (last_row l) (last_row right)) (gone refl) in
@@ -94,7 +101,8 @@ left_taken left right fewer (Some row) order is gone = λ left_rising right_risi
 
 -- the last rows of both are
 pub both_taken : (left right fewer_left fewer_right : List ViewRow) (o u : Option ViewRow) → Equal ≡ row_order (last_row left) (last_row right) →
-    left ≡ fewer_left ++ option_to_list o → right ≡ fewer_right ++ option_to_list u → (o ≡ None → left ≡ []) → (u ≡ None → right ≡ []) → IsTaken left right fewer_left fewer_right u
+    left ≡ fewer_left ++ option_to_list o → right ≡ fewer_right ++ option_to_list u → (o ≡ None → left ≡ []) →
+    (u ≡ None → right ≡ []) → IsTaken left right fewer_left fewer_right u
 both_taken left right fewer_left fewer_right None u order l r gone empty =
     let none : Equal ≡ Less = order ∙ ap (λ (rows : List ViewRow). row_order (last_row rows) (last_row right)) (gone refl) in
     absurd cc
@@ -113,7 +121,8 @@ both_taken left right fewer_left fewer_right (Some last) (Some row) order l r go
     let rising_right : AreRising (fewer_right ++ row ∷ []) = subst AreRising r right_rising in
     record {
       from = inr (subst (λ (rows : List ViewRow). IsAmong rows row) (sym r) (length fewer_right, get_end fewer_right row));
-      left_below = subst (λ (rows : List ViewRow). IsLeftBelow row rows fewer_left) (sym l) (but_last row last fewer_left rising_left (same_series last.series row.series tied));
+      left_below = subst (λ (rows : List ViewRow). IsLeftBelow row rows fewer_left) (sym l)
+          (but_last row last fewer_left rising_left (same_series last.series row.series tied));
       right_below = subst (λ (rows : List ViewRow). IsLeftBelow row rows fewer_right) (sym r) (but_last row row fewer_right rising_right refl);
     })
 
@@ -142,15 +151,18 @@ module _ (left right now_left now_right rows : List ViewRow) (was : IsMerging le
     of_below other (inl is) = took.left_below.below other is
     of_below other (inr is) = took.right_below.below other is
 
-    left_of : (other : ViewRow) → IsAmong fewer_left other ⊎ (other.series ≡ row.series) → IsOf fewer_left fewer_right other ⊎ HasSeries (row ∷ rows) other.series
+    left_of : (other : ViewRow) → IsAmong fewer_left other ⊎ (other.series ≡ row.series) →
+        IsOf fewer_left fewer_right other ⊎ HasSeries (row ∷ rows) other.series
     left_of other (inl is) = inl (inl is)
     left_of other (inr same) = inr (row, (0, refl), sym same)
 
-    right_of : (other : ViewRow) → IsAmong fewer_right other ⊎ (other.series ≡ row.series) → IsOf fewer_left fewer_right other ⊎ HasSeries (row ∷ rows) other.series
+    right_of : (other : ViewRow) → IsAmong fewer_right other ⊎ (other.series ≡ row.series) →
+        IsOf fewer_left fewer_right other ⊎ HasSeries (row ∷ rows) other.series
     right_of other (inl is) = inl (inr is)
     right_of other (inr same) = inr (row, (0, refl), sym same)
 
-    all_of : (other : ViewRow) → IsOf now_left now_right other ⊎ HasSeries rows other.series → IsOf fewer_left fewer_right other ⊎ HasSeries (row ∷ rows) other.series
+    all_of : (other : ViewRow) → IsOf now_left now_right other ⊎ HasSeries rows other.series →
+        IsOf fewer_left fewer_right other ⊎ HasSeries (row ∷ rows) other.series
     all_of other (inl (inl is)) = left_of other (took.left_below.taken other is)
     all_of other (inl (inr is)) = right_of other (took.right_below.taken other is)
     all_of other (inr has) = inr (has.0, (suc has.1.0, has.1.1), has.2)

@@ -45,11 +45,20 @@ is_there (Some name) h = refl
 -- what follows the value
 end_is : (moment : ℤ) → is_in_range moment ≡ true → IsLineEnd (32 ∷ signed_decimal moment) (Some moment)
 unfolding is_blank
-end_is moment r =
-    (32 ∷ [], signed_decimal moment, [], refl, some 32 [], refl, millis_printed moment r, ap (λ (s : List ℕ). 32 ∷ s) (sym (append-nil (signed_decimal moment))))
+end_is moment r = (
+  32 ∷ [],
+  signed_decimal moment,
+  [],
+  refl,
+  some 32 [],
+  refl,
+  millis_printed moment r,
+  ap (λ (s : List ℕ). 32 ∷ s) (sym (append-nil (signed_decimal moment))),
+)
 
 -- labels behind a metric name
-middle_is : (ps : List Pair) → AllByRecursion IsOther ps → names_differ ps ≡ true → IsMiddle Quoted (braces_if_any (labels_after ps) ++ 32 ∷ []) (braces_if_any (labels_after ps)) ps
+middle_is : (ps : List Pair) → AllByRecursion IsOther ps → names_differ ps ≡ true →
+    IsMiddle Quoted (braces_if_any (labels_after ps) ++ 32 ∷ []) (braces_if_any (labels_after ps)) ps
 unfolding is_blank
 middle_is [] h d = inl (refl, some 32 [], refl, refl)
 middle_is (p ∷ ps) h d = inr ([], between (p ∷ ps), 32 ∷ [], refl, refl, labels_are (p ∷ ps) h, d, refl, refl)
@@ -104,20 +113,47 @@ module _ (row : ViewRow) (h : HasMetric row) where
   named number q =
       let braces = braces_if_any (labels_after labels) in
       let raw : set_text row.series ≡ name ++ braces = text_is ∙ ap chosen q in
-      let whole : line_of row ≡ name ++ ((braces ++ 32 ∷ []) ++ (row.value ++ after)) = ap (λ (s : List ℕ). s ++ 32 ∷ (row.value ++ after)) raw ∙ simp append_assoc in
-      ([], braces ++ 32 ∷ [], braces, after, refl, refl, q, middle_is labels others apart, raw, value-sound row.value h.value, end_is row.moment h.moment, whole)
+      let whole : line_of row ≡ name ++ ((braces ++ 32 ∷ []) ++ (row.value ++ after)) =
+      ap (λ (s : List ℕ). s ++ 32 ∷ (row.value ++ after)) raw ∙ simp append_assoc in (
+        [],
+        braces ++ 32 ∷ [],
+        braces,
+        after,
+        refl,
+        refl,
+        q,
+        middle_is labels others apart,
+        raw,
+        value-sound row.value h.value,
+        end_is row.moment h.moment,
+        whole,
+      )
 
   braced : (number : ℕ) → is_metric_name name ≡ false → IsBraced number (line_of row) (body_row number row)
   unfolding is_blank
   braced number q =
       let inside = (34 ∷ (escaped name ++ 34 ∷ [])) ++ labels_after labels in
       let spelled : quoted ≡ 123 ∷ (inside ++ 125 ∷ []) = simp append_assoc in
-      let raw : set_text row.series ≡ 123 ∷ (inside ++ 125 ∷ []) = text_is ∙ ap chosen q ∙ spelled in
-      ([], inside, 32 ∷ [], after, refl, refl, refl, inside_is name labels h.metric name_utf8 others, apart, raw, value-sound row.value h.value, end_is row.moment h.moment, refl)
+      let raw : set_text row.series ≡ 123 ∷ (inside ++ 125 ∷ []) = text_is ∙ ap chosen q ∙ spelled in (
+        [],
+        inside,
+        32 ∷ [],
+        after,
+        refl,
+        refl,
+        refl,
+        inside_is name labels h.metric name_utf8 others,
+        apart,
+        raw,
+        value-sound row.value h.value,
+        end_is row.moment h.moment,
+        refl,
+      )
 
   sample_is : (number : ℕ) → IsSample Quoted number (line_of row) (body_row number row)
   sample_is number =
-      ⊎_elim (λ (q : is_metric_name name ≡ true). inl (named number q)) (λ (q : is_metric_name name ≡ false). inr (refl, braced number q)) (cases_Bool (is_metric_name name))
+      ⊎_elim (λ (q : is_metric_name name ≡ true). inl (named number q)) (λ (q : is_metric_name name ≡ false). inr (refl, braced number q))
+      (cases_Bool (is_metric_name name))
 
 lines_are : (number : ℕ) (rows : List ViewRow) → AllByRecursion HasMetric rows → AreLines Quoted number (lines_of (rows_text rows)) (body_rows number rows)
 unfolding lines_of

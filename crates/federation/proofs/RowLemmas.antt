@@ -52,7 +52,8 @@ below_last rows row other rising is =
     rising is.0 (length rows) other row w (get_front rows (row ∷ []) is.0 w ∙ is.1) (get_end rows row)
 
 -- all rows of a rising list are below what its last row is below
-pub all_below : (rows : List ViewRow) (last other : ViewRow) (set : List Pair) → AreRising rows → slice_get rows (length rows - 1) ≡ Some last → set_cmp last.series set ≡ Less →
+pub all_below : (rows : List ViewRow) (last other : ViewRow) (set : List Pair) → AreRising rows → slice_get rows (length rows - 1) ≡ Some last →
+    set_cmp last.series set ≡ Less →
     IsAmong rows other → set_cmp other.series set ≡ Less
 all_below rows last other set rising at less is = by (three is.0 (length rows - 1))
   where
@@ -72,7 +73,8 @@ no_last (row ∷ rows) e =
     absurd (none-some h.0 (sym e ∙ h.1))
 
 -- a row in front of rows that are above it
-pub rising_more : (row : ViewRow) (rows : List ViewRow) → ((other : ViewRow) → IsAmong rows other → set_cmp row.series other.series ≡ Less) → AreRising rows → AreRising (row ∷ rows)
+pub rising_more : (row : ViewRow) (rows : List ViewRow) → ((other : ViewRow) → IsAmong rows other → set_cmp row.series other.series ≡ Less) →
+    AreRising rows → AreRising (row ∷ rows)
 rising_more row rows above rising i zero r s lt a b = absurd (omega arith)
 rising_more row rows above rising zero (suc j) r s lt a b = subst (λ (q : ViewRow). set_cmp q.series s.series ≡ Less) (same_Some row r a) (above s (j, b))
 rising_more row rows above rising (suc i) (suc j) r s lt a b = rising i j r s (omega arith) a b

@@ -7,8 +7,8 @@ use instant_view::{Selector, View, ViewRows};
 use label_set::NoMemory;
 use std::alloc::Global;
 
-/// What these selectors see at a moment in each book that the view stands for, among the entries that the view has gone over: a row for each series
-/// that one of them selects at least, by rising label set.
+/// What these selectors see at a moment in each book that the view stands for, among the entries that the view has
+/// gone over: a row for each series that one of them at least selects and that is seen, by rising label set.
 ///
 /// # Errors
 ///

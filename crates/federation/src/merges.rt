@@ -21,7 +21,8 @@ fn order_of_ends(left: &[ViewRow], right: &[ViewRow]) -> Ordering
     left.series.cmp(&right.series)
 }
 
-/// Takes the row with the greatest label set from the ends of two lists, where there is one. Where both end with that set, both lose their row.
+/// Takes the row with the greatest label set from the ends of two lists, where there is one. Where both end with that
+/// set, both lose their row.
 fn take_last(left: &mut Vec<ViewRow>, right: &mut Vec<ViewRow>) -> Option<ViewRow>
     ensures taken { spec.IsTaken left.old.items right.old.items left.new.items right.new.items result }
     ensures fewer { IfSome result (λ _. vec_len left.new + vec_len right.new < vec_len left.old + vec_len right.old) }

@@ -26,7 +26,7 @@ fn push_row(text: &mut Vec<u8>, row: &ViewRow) -> Result<(), NoMemory>
 ///
 /// # Errors
 ///
-/// The only error is out of memory. Some of the lines may stand in the text then.
+/// The only error is out of memory. A front of the lines may stand in the text then.
 pub fn push_rows(text: &mut Vec<u8>, rows: &[ViewRow]) -> Result<(), NoMemory>
     ensures { OnOk result (text.new.items ≡ text.old.items ++ spec.rows_text rows.now) }
 {
@@ -36,7 +36,8 @@ pub fn push_rows(text: &mut Vec<u8>, rows: &[ViewRow]) -> Result<(), NoMemory>
     Ok(())
 }
 
-/// The law that the text of rows whose series have a metric name reads, in the form with names in quotes, as just these rows. It does nothing.
+/// The law that the text of rows whose series have a metric name reads, in the form with names in quotes, as just
+/// these rows. It does nothing.
 pub fn reads_back()
     ensures { ReadsBack }
 {}

@@ -40,4 +40,5 @@ returns-clause-rows c =
     let i = c.loop-selector.selector-index in
     let all : take i c.args.selectors.now ≡ c.args.selectors.now = take_all i c.args.selectors.now c.loop-selector-test.false in
     subst (λ t. IsFederationOf c.args.view.now c.args.selectors.now t c.loop-selector.rows.items) (to_z-of_z w64 c.args.moment c.ranges.moment)
-    (subst (λ (s : List SelectorParts). IsFederationOf c.args.view.now s (to_z w64 (of_z w64 c.args.moment)) c.loop-selector.rows.items) all c.loop-selector.invariant.seen)
+    (subst (λ (s : List SelectorParts). IsFederationOf c.args.view.now s (to_z w64 (of_z w64 c.args.moment)) c.loop-selector.rows.items) all
+    c.loop-selector.invariant.seen)

@@ -13,7 +13,8 @@ loop-row-preserved c = λ left_rising right_rising.
     let fewer_left = c.take_last.new.left.items in
     let fewer_right = c.take_last.new.right.items in
     let row = c.in-Some.row in
-    let rows : reverse c.push.new.self.items ≡ row ∷ reverse c.loop-row.rows.items = ap reverse c.in_ok-push.ensures.items ∙ reverse-append c.loop-row.rows.items (row ∷ []) in
+    let rows : reverse c.push.new.self.items ≡ row ∷ reverse c.loop-row.rows.items =
+    ap reverse c.in_ok-push.ensures.items ∙ reverse-append c.loop-row.rows.items (row ∷ []) in
     subst (IsMerging left right fewer_left fewer_right) (sym rows)
     (merging_more left right c.loop-row.left.items c.loop-row.right.items (reverse c.loop-row.rows.items) was fewer_left fewer_right row
     (c.in-Some.ensures.taken was.left_rising was.right_rising)))
@@ -24,4 +25,5 @@ returns c = λ left_rising right_rising.
     let right = c.args.right.now.items in
     let none = c.in_default.ensures.taken in
     subst (IsMerged left right) (sym c.reverse.ensures.items)
-    (merging_end left right c.loop-row.left.items c.loop-row.right.items (reverse c.loop-row.rows.items) (c.loop-row.invariant left_rising right_rising) none.0 none.1))
+    (merging_end left right c.loop-row.left.items c.loop-row.right.items (reverse c.loop-row.rows.items)
+    (c.loop-row.invariant left_rising right_rising) none.0 none.1))

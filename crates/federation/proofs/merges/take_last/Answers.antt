@@ -11,7 +11,8 @@ returns-in-Less-clause-taken c =
     let right = c.args.right.now in
     let order : Less ≡ row_order (last_row left.items) (last_row right.items) =
     c.in-Less.ensures ∙ ap₂ (λ (l r : List ViewRow). row_order (last_row l) (last_row r)) c.deref.ensures.value c.deref-2.ensures.value in
-    right_taken left.items right.items c.pop.new.self.items c.pop.result order c.pop.ensures.items (gone right.items (vec_len right) c.pop.result right.ok.0 c.pop.ensures.variant)
+    right_taken left.items right.items c.pop.new.self.items c.pop.result order c.pop.ensures.items
+    (gone right.items (vec_len right) c.pop.result right.ok.0 c.pop.ensures.variant)
 
 pub returns-in-Equal-clause-taken : goal.returns-in-Equal-clause-taken
 returns-in-Equal-clause-taken c =
@@ -19,8 +20,10 @@ returns-in-Equal-clause-taken c =
     let right = c.args.right.now in
     let order : Equal ≡ row_order (last_row left.items) (last_row right.items) =
     c.in-Equal.ensures ∙ ap₂ (λ (l r : List ViewRow). row_order (last_row l) (last_row r)) c.deref.ensures.value c.deref-2.ensures.value in
-    both_taken left.items right.items c.pop-same.new.self.items c.pop-in-Equal.new.self.items c.pop-same.result c.pop-in-Equal.result order c.pop-same.ensures.items c.pop-in-Equal.ensures.items
-    (gone left.items (vec_len left) c.pop-same.result left.ok.0 c.pop-same.ensures.variant) (gone right.items (vec_len right) c.pop-in-Equal.result right.ok.0 c.pop-in-Equal.ensures.variant)
+    both_taken left.items right.items c.pop-same.new.self.items c.pop-in-Equal.new.self.items c.pop-same.result c.pop-in-Equal.result
+    order c.pop-same.ensures.items c.pop-in-Equal.ensures.items
+    (gone left.items (vec_len left) c.pop-same.result left.ok.0 c.pop-same.ensures.variant)
+    (gone right.items (vec_len right) c.pop-in-Equal.result right.ok.0 c.pop-in-Equal.ensures.variant)
 
 pub returns-in-Greater-clause-taken : goal.returns-in-Greater-clause-taken
 returns-in-Greater-clause-taken c =
