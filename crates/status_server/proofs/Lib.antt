@@ -3,3 +3,5 @@ pub mod ConnectionLemmas
 pub mod FlowLemmas
 pub mod StepLemmas
 pub mod ServeLemmas
+pub mod ServerLemmas
+pub mod FederateLemmas

@@ -5,12 +5,13 @@ use Rattle.std.proofs.lemmas.List.{drop-drop, length-drop}
 use Rattle.journal_text.specs.declared.events.Event.{Event}
 use Rattle.outside.specs.Objects.{ShelfSeen, SinkSeen, Use, used, Took, Cut}
 use Rattle.request_heads.specs.Fronts.{HasRequest, IsTorn}
-use Rattle.request_heads.specs.Requests.{page_of, closes}
+use Rattle.request_heads.specs.Requests.{closes, page_of, query_of}
 use Rattle.request_heads.specs.declared.fronts.Request.{Request}
 use Rattle.request_heads.specs.declared.pages.Page.{Page}
 use Rattle.request_heads.specs.declared.pages.Page.TheVariants as pages
 use Rattle.status_server.specs.Answers as answers
 use Rattle.status_server.specs.Connections.{Answered, AreFirst, Exchange, IsAnswered, IsClosed, IsLast}
+use Rattle.status_server.specs.Federates.{IsFederate}
 use Rattle.status_server.specs.Reloads.{IsReload, Site}
 use Rattle.status_server.specs.Steps.{AnsweredBy, CutStep, Ended, IsStep, JournalBy, NoStep, PutStep, Reached, ShelfStays, Stepped, StoppedCut, StoppedWhole, StopsIn, StopsStep, site}
 use Rattle.status_server.specs.declared.connections.Step.{Step}
@@ -20,34 +21,45 @@ use Rattle.status_server.specs.declared.connections.Stop.TheVariants.{ReadFault,
 use Rattle.status_server.proofs.ConnectionLemmas.{answered-none, answered-one, answered-then, begun-then, closed-last, closed-then, first-then}
 use Rattle.status_server.proofs.FlowLemmas.{took-none, took-then, cut-then}
 
--- a request for a reload, and one for another page
-pub answered-reload : (es : List Event) (site : Site) (page : Page) (c : Bool) (text : List ℕ) (loads : List Event) → answers.is_reload page ≡ true → IsReload es site (answers.ends page c) text loads →
-    IsAnswered es site page c text loads
-answered-reload es site pages.Reload c text loads e r = r
-answered-reload es site pages.Targets c text loads e r = absurd (true≢false (sym e))
-answered-reload es site pages.Federate c text loads e r = absurd (true≢false (sym e))
-answered-reload es site pages.OtherMethod c text loads e r = absurd (true≢false (sym e))
-answered-reload es site pages.OtherPath c text loads e r = absurd (true≢false (sym e))
-answered-reload es site pages.Body c text loads e r = absurd (true≢false (sym e))
+-- a request for a reload, one for federation, and one for another page
+pub answered-reload : (es : List Event) (site : Site) (page : Page) (q : List ℕ) (c : Bool) (text : List ℕ) (loads : List Event) → page ≡ pages.Reload → IsReload es site (answers.ends page c) text loads →
+    IsAnswered es site page q c text loads
+answered-reload es site pages.Targets q c text loads e r = absurd cc
+answered-reload es site pages.Federate q c text loads e r = absurd cc
+answered-reload es site pages.Reload q c text loads e r = r
+answered-reload es site pages.OtherMethod q c text loads e r = absurd cc
+answered-reload es site pages.OtherPath q c text loads e r = absurd cc
+answered-reload es site pages.Body q c text loads e r = absurd cc
 
-pub answered-other : (es : List Event) (site : Site) (page : Page) (c : Bool) (text : List ℕ) → answers.is_reload page ≡ false → text ≡ answers.answer es page c → IsAnswered es site page c text []
-answered-other es site pages.Reload c text e r = absurd (true≢false e)
-answered-other es site pages.Targets c text e r = (r, refl)
-answered-other es site pages.Federate c text e r = (r, refl)
-answered-other es site pages.OtherMethod c text e r = (r, refl)
-answered-other es site pages.OtherPath c text e r = (r, refl)
-answered-other es site pages.Body c text e r = (r, refl)
+pub answered-federate : (es : List Event) (site : Site) (page : Page) (q : List ℕ) (c : Bool) (text : List ℕ) (loads : List Event) → page ≡ pages.Federate → IsFederate es q (answers.ends page c) text × (loads ≡ []) →
+    IsAnswered es site page q c text loads
+answered-federate es site pages.Targets q c text loads e r = absurd cc
+answered-federate es site pages.Federate q c text loads e r = r
+answered-federate es site pages.Reload q c text loads e r = absurd cc
+answered-federate es site pages.OtherMethod q c text loads e r = absurd cc
+answered-federate es site pages.OtherPath q c text loads e r = absurd cc
+answered-federate es site pages.Body q c text loads e r = absurd cc
+
+pub answered-plain : (es : List Event) (site : Site) (page : Page) (q : List ℕ) (c : Bool) (text : List ℕ) → answers.is_plain page ≡ true → text ≡ answers.answer es page c → IsAnswered es site page q c text []
+answered-plain es site pages.Targets q c text e r = (r, refl)
+answered-plain es site pages.Federate q c text e r = absurd (true≢false (sym e))
+answered-plain es site pages.Reload q c text e r = absurd (true≢false (sym e))
+answered-plain es site pages.OtherMethod q c text e r = (r, refl)
+answered-plain es site pages.OtherPath q c text e r = (r, refl)
+answered-plain es site pages.Body q c text e r = (r, refl)
 
 -- a request whose head was read, and that was answered
 pub stepped-whole : (es : List Event) (site : Site) (bytes : List ℕ) (r : Request) (len : ℕ) (reply : List ℕ) (after : List Event) →
-    HasRequest bytes r len → AnsweredBy es site r.page r.closes reply after → Stepped es site bytes (if answers.ends r.page r.closes then Ends else GoesOn len) reply after
+    HasRequest bytes r len → AnsweredBy es site r reply after → Stepped es site bytes (if answers.ends r.page r.closes then Ends else GoesOn len) reply after
 stepped-whole es site bytes r len reply after h a = by (answers.ends r.page r.closes) refl
   where
     x : Exchange
     x = record { head = h.head; reply = reply; loads = a.loads }
 
-    is : IsAnswered es site (page_of h.head) (closes h.head) reply a.loads
-    is = subst (λ p. IsAnswered es site p (closes h.head) reply a.loads) h.page_is (subst (λ c. IsAnswered es site r.page c reply a.loads) h.closes_is a.is)
+    is : IsAnswered es site (page_of h.head) (query_of h.head.target) (closes h.head) reply a.loads
+    is =
+        subst (λ p. IsAnswered es site p (query_of h.head.target) (closes h.head) reply a.loads) h.page_is
+        (subst (λ q. IsAnswered es site r.page q (closes h.head) reply a.loads) h.query_is (subst (λ c. IsAnswered es site r.page r.query.now c reply a.loads) h.closes_is a.is))
 
     end_is : answers.ends (page_of h.head) (closes h.head) ≡ answers.ends r.page r.closes
     end_is = ap (λ p. answers.ends p (closes h.head)) (sym h.page_is) ∙ ap (λ c. answers.ends r.page c) (sym h.closes_is)

@@ -1,5 +1,4 @@
 -- What a request is answered ("HTTP API" of the Prometheus documentation, targets; RFC 9110, sections 15.5.1, 15.5.5 and 15.5.6, for what isn't).
--- The page of federation isn't served yet: it counts as another path.
 use Rattle.std.specs.Prelude.{ℕ, Bool, true, false, ◌||◌, List, []}
 use Rattle.journal_text.specs.declared.events.Event.{Event}
 use Rattle.request_heads.specs.declared.pages.Page.{Page}
@@ -9,12 +8,13 @@ use Rattle.status_server.specs.Targets.{page}
 use Rattle.status_server.specs.declared.replies.Status.{Status}
 use Rattle.status_server.specs.declared.replies.Status.TheVariants.{Done, BadRequest, NotFound, OtherMethod}
 
--- a page asks for a reload, which is answered by what it comes to
-abbrev pub is_reload : Page → Bool
-is_reload pages.Reload = true
-is_reload _ = false
+-- a page is answered by itself: for federation a query is asked, and a reload is answered by what it comes to
+abbrev pub is_plain : Page → Bool
+is_plain pages.Federate = false
+is_plain pages.Reload = false
+is_plain _ = true
 
--- the status of the answer to a request for another page
+-- the status of the answer to a request for such a page
 abbrev pub status_of : Page → Status
 status_of pages.Targets = Done
 status_of pages.OtherMethod = OtherMethod

@@ -5,10 +5,11 @@ use Rattle.std.specs.List.{flat_map}
 use Rattle.httparse.specs.Grammar.{RequestHead}
 use Rattle.journal_text.specs.declared.events.Event.{Event}
 use Rattle.request_heads.specs.Fronts.{HeadAt, IsTorn, NoHead}
-use Rattle.request_heads.specs.Requests.{page_of, closes}
+use Rattle.request_heads.specs.Requests.{closes, page_of, query_of}
 use Rattle.request_heads.specs.declared.pages.Page.{Page}
 use Rattle.request_heads.specs.declared.pages.Page.TheVariants as pages
 use Rattle.status_server.specs.Answers as answers
+use Rattle.status_server.specs.Federates.{IsFederate}
 use Rattle.status_server.specs.Reloads.{IsReload, Site}
 use Rattle.status_server.specs.Replies.{reply}
 use Rattle.status_server.specs.declared.replies.Status.TheVariants.{BadRequest}
@@ -25,13 +26,14 @@ reply_of x = x.reply
 abbrev pub loads_of : Exchange → List Event
 loads_of x = x.loads
 
--- after a journal, a request for a page is answered so, and makes these loads
-abbrev pub IsAnswered : List Event → Site → Page → Bool → List ℕ → List Event → Type 0
-IsAnswered es site pages.Reload closes text loads = IsReload es site (answers.ends pages.Reload closes) text loads
-IsAnswered es site page closes text loads = (text ≡ answers.answer es page closes) × (loads ≡ [])
+-- after a journal, a request for a page with this query is answered so, and makes these loads
+abbrev pub IsAnswered : List Event → Site → Page → List ℕ → Bool → List ℕ → List Event → Type 0
+IsAnswered es site pages.Reload query closes text loads = IsReload es site (answers.ends pages.Reload closes) text loads
+IsAnswered es site pages.Federate query closes text loads = IsFederate es query (answers.ends pages.Federate closes) text × (loads ≡ [])
+IsAnswered es site page query closes text loads = (text ≡ answers.answer es page closes) × (loads ≡ [])
 
 abbrev pub IsExchange : List Event → Site → Exchange → Type 0
-IsExchange es site x = IsAnswered es site (page_of x.head) (closes x.head) x.reply x.loads
+IsExchange es site x = IsAnswered es site (page_of x.head) (query_of x.head.target) (closes x.head) x.reply x.loads
 
 -- the connection ends behind the reply to a request
 abbrev pub ends : RequestHead → Bool

@@ -4,6 +4,7 @@ use Rattle.journal_text.specs.declared.events.Event.{Event}
 use Rattle.outside.specs.Objects.{ShelfSeen, SinkSeen, Use, Took, Cut, Rose, IsUntouched}
 use Rattle.request_heads.specs.Fronts.{HeadAt, IsTorn}
 use Rattle.status_server.specs.Connections.{Answered, AreFirst, Exchange, IsBegun, IsClosed, IsExchange, IsLast, ends, IsAnswered}
+use Rattle.request_heads.specs.declared.fronts.Request.{Request}
 use Rattle.request_heads.specs.declared.pages.Page.{Page}
 use Rattle.status_server.specs.Answers as answers
 use Rattle.status_server.specs.Reloads.{CameTo, Site}
@@ -23,10 +24,10 @@ pub record Reloaded (es : List Event) (site : Site) (r : Reload) (after : List E
   pub came : CameTo es site r loads
   pub journal : after ≡ es ++ loads
 
--- a request for a page was answered so, with this journal behind it
-pub record AnsweredBy (es : List Event) (site : Site) (page : Page) (closes : Bool) (reply : List ℕ) (after : List Event) : Type 0 where
+-- a request was answered so, with this journal behind it
+pub record AnsweredBy (es : List Event) (site : Site) (r : Request) (reply : List ℕ) (after : List Event) : Type 0 where
   pub loads : List Event
-  pub is : IsAnswered es site page closes reply loads
+  pub is : IsAnswered es site r.page r.query.now r.closes reply loads
   pub journal : after ≡ es ++ loads
 
 -- what follows behind its reply

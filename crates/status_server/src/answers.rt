@@ -1,5 +1,5 @@
 //! What a request is answered.
-ghost use Rattle.std.specs.Prelude.{◌≡◌, ◌++◌, false, IfOk, OnOk};
+ghost use Rattle.std.specs.Prelude.{◌≡◌, ◌++◌, true, IfOk, OnOk};
 ghost use Rattle.status_server.specs.Answers as spec;
 
 use crate::replies::{Status, push_reply};
@@ -9,27 +9,17 @@ use request_heads::Page;
 use scrape_core::Core;
 use std::alloc::Global;
 
-/// Whether a page asks for a reload, which is answered by what it comes to.
-pub fn is_reload(page: Page) -> bool
-    ensures { result ≡ spec.is_reload page }
-{
-    match page {
-        Page::Reload => true,
-        _ => false,
-    }
-}
-
-/// The status of the answer to a request for another page.
+/// The status of the answer to a request for a page that is answered by itself.
 fn status_of(page: Page) -> Status
-    requires { spec.is_reload page ≡ false }
+    requires { spec.is_plain page ≡ true }
     ensures { result ≡ spec.status_of page }
 {
     match page {
         Page::Targets => Status::Done,
         Page::Body => Status::BadRequest,
         Page::OtherMethod => Status::OtherMethod,
-        Page::Federate | Page::OtherPath => Status::NotFound,
-        Page::Reload => unreachable!(),
+        Page::OtherPath => Status::NotFound,
+        Page::Federate | Page::Reload => unreachable!(),
     }
 }
 
@@ -51,7 +41,8 @@ fn body_of(alloc: Global, core: &Core, page: Page) -> Result<Vec<u8>, NoMemory>
     Ok(body)
 }
 
-/// Appends what a request for a page that asks for no reload is answered by a core; `closes` is what the request says of the connection.
+/// Appends what a request for a page is answered by a core, where that is neither federation nor a reload; `closes` is what the request says of
+/// the connection.
 ///
 /// # Errors
 ///
@@ -63,7 +54,7 @@ pub fn push_answer(
     page: Page,
     closes: bool,
 ) -> Result<(), NoMemory>
-    requires { spec.is_reload page ≡ false }
+    requires { spec.is_plain page ≡ true }
     ensures added { OnOk result (text.new.items ≡ text.old.items ++ spec.answer core.now page closes) }
 {
     let body = body_of(alloc, core, page)?;

@@ -6,23 +6,15 @@ ghost use Rattle.status_server.specs.Connections.{IsAnswered};
 ghost use Rattle.status_server.specs.Reloads as reloads;
 ghost use Rattle.status_server.specs.Steps as spec;
 
-use crate::answers::{ends, is_reload, push_answer};
-use crate::reloads::{Reload, load, push_reload};
+use crate::answers::{ends, push_answer};
+use crate::federates::push_federate;
+use crate::reloads::{Reload, push_reload};
 use crate::replies::{Status, push_reply};
-use label_set::{NoMemory, Steps};
+use crate::server::Server;
+use label_set::NoMemory;
 use outside::{MOST_TEXT_BYTES, Shelf, ShelfError, Sink};
-use request_heads::{Front, Request, front_at};
-use scrape_core::Core;
-use std::alloc::Global;
+use request_heads::{Front, Page, Request, front_at};
 use std::sync::ledger::Ledger;
-
-/// A core that is asked, and what it takes memory and counts steps by.
-#[derive(Drop)]
-pub struct Server<L: Ledger> {
-    pub alloc: Global,
-    pub core: Core,
-    pub steps: Steps<L>,
-}
 
 /// Why serving stopped.
 #[derive(Clone, Copy, PartialEq, Eq, Debug)]
@@ -63,12 +55,12 @@ fn reload<L: Ledger, S: Shelf>(
     file: &str,
     shelf: &mut S,
 ) -> Result<Reload, Stop>
-    ensures came { IfOk result (λ r. spec.Reloaded server.old.core (spec.site (S.seen shelf.old) file.now) r server.new.core) }
+    ensures came { IfOk result (λ r. spec.Reloaded server.old (spec.site (S.seen shelf.old) file.now) r server.new) }
     ensures stays { OnOk result (spec.ShelfStays (used (S.seen shelf.old) (S.seen shelf.new))) }
-    ensures stopped { IfErr result (λ stop. spec.StopsAnswer stop server.old.core server.new.core (used (S.seen shelf.old) (S.seen shelf.new))) }
+    ensures stopped { IfErr result (λ stop. spec.StopsAnswer stop server.old server.new (used (S.seen shelf.old) (S.seen shelf.new))) }
 {
-    match shelf.read_file(server.alloc, file, MOST_TEXT_BYTES as usize) {
-        Ok(text) => Ok(load(server.alloc, &mut server.core, &mut server.steps, text)?),
+    match shelf.read_file(server.alloc(), file, MOST_TEXT_BYTES as usize) {
+        Ok(text) => Ok(server.load(text)?),
         Err(ShelfError::Absent) => Ok(Reload::Absent),
         Err(ShelfError::TooLong) => Ok(Reload::TooLong),
         Err(ShelfError::Failed) => Err(Stop::ReadFault),
@@ -85,17 +77,19 @@ fn answer_request<L: Ledger, S: Shelf>(
     reply: &mut Vec<u8>,
 ) -> Result<(), Stop>
     requires { reply.old.items ≡ [] }
-    ensures answered { OnOk result (spec.AnsweredBy server.old.core (spec.site (S.seen shelf.old) file.now) request.now.page request.now.closes
-        reply.new.items server.new.core) }
+    ensures answered { OnOk result (spec.AnsweredBy server.old (spec.site (S.seen shelf.old) file.now) request.now
+        reply.new.items server.new) }
     ensures stays { OnOk result (spec.ShelfStays (used (S.seen shelf.old) (S.seen shelf.new))) }
-    ensures stopped { IfErr result (λ stop. spec.StopsAnswer stop server.old.core server.new.core (used (S.seen shelf.old) (S.seen shelf.new))) }
+    ensures stopped { IfErr result (λ stop. spec.StopsAnswer stop server.old server.new (used (S.seen shelf.old) (S.seen shelf.new))) }
 {
-    let Request { page, closes, .. } = *request;
-    if is_reload(page) {
-        let came = reload(server, file, shelf)?;
-        push_reload(server.alloc, reply, ends(page, closes), &came)?;
-    } else {
-        push_answer(server.alloc, reply, &server.core, page, closes)?;
+    let closes = ends(request.page, request.closes);
+    match request.page {
+        Page::Reload => {
+            let came = reload(server, file, shelf)?;
+            push_reload(server.alloc(), reply, closes, &came)?;
+        }
+        Page::Federate => push_federate(server, reply, request.query, closes)?,
+        page => push_answer(server.alloc(), reply, server.core(), page, request.closes)?,
     }
     Ok(())
 }
@@ -120,10 +114,10 @@ fn make_reply<L: Ledger, S: Shelf>(
     reply: &mut Vec<u8>,
 ) -> Result<Step, Stop>
     requires { reply.old.items ≡ [] }
-    ensures stepped { IfOk result (λ step. spec.Stepped server.old.core (spec.site (S.seen shelf.old) file.now) bytes.now step
-        reply.new.items server.new.core) }
+    ensures stepped { IfOk result (λ step. spec.Stepped server.old (spec.site (S.seen shelf.old) file.now) bytes.now step
+        reply.new.items server.new) }
     ensures stays { OnOk result (spec.ShelfStays (used (S.seen shelf.old) (S.seen shelf.new))) }
-    ensures stopped { IfErr result (λ stop. spec.StopsAnswer stop server.old.core server.new.core (used (S.seen shelf.old) (S.seen shelf.new))) }
+    ensures stopped { IfErr result (λ stop. spec.StopsAnswer stop server.old server.new (used (S.seen shelf.old) (S.seen shelf.new))) }
 {
     match front_at(bytes) {
         Front::Waiting => Ok(Step::Waits),
@@ -146,14 +140,14 @@ fn answer_front<L: Ledger, S: Shelf, O: Sink>(
     bytes: &[u8],
     sink: &mut O,
 ) -> Result<Step, Stop>
-    ensures put { IfOk result (λ step. spec.PutStep server.old.core (spec.site (S.seen shelf.old) file.now) bytes.now step
-        server.new.core (used (O.seen sink.old) (O.seen sink.new))) }
+    ensures put { IfOk result (λ step. spec.PutStep server.old (spec.site (S.seen shelf.old) file.now) bytes.now step
+        server.new (used (O.seen sink.old) (O.seen sink.new))) }
     ensures stays { OnOk result (spec.ShelfStays (used (S.seen shelf.old) (S.seen shelf.new))) }
-    ensures stopped { IfErr result (λ stop. spec.StopsStep stop server.old.core (spec.site (S.seen shelf.old) file.now) bytes.now
-        server.new.core (used (O.seen sink.old) (O.seen sink.new))) }
+    ensures stopped { IfErr result (λ stop. spec.StopsStep stop server.old (spec.site (S.seen shelf.old) file.now) bytes.now
+        server.new (used (O.seen sink.old) (O.seen sink.new))) }
     ensures shelf { IfErr result (λ stop. spec.ShelfBy stop (used (S.seen shelf.old) (S.seen shelf.new))) }
 {
-    let mut reply = Vec::new(server.alloc);
+    let mut reply = Vec::new(server.alloc());
     let step = make_reply(server, file, shelf, bytes, &mut reply)?;
     if step == Step::Waits {
         return Ok(step);
@@ -172,11 +166,11 @@ pub fn answer_all<L: Ledger, S: Shelf, O: Sink>(
     bytes: &[u8],
     sink: &mut O,
 ) -> Result<Option<usize>, Stop>
-    ensures reached { IfOk result (λ reach. spec.Reaches server.old.core (spec.site (S.seen shelf.old) file.now) bytes.now reach
-        server.new.core (used (O.seen sink.old) (O.seen sink.new))) }
+    ensures reached { IfOk result (λ reach. spec.Reaches server.old (spec.site (S.seen shelf.old) file.now) bytes.now reach
+        server.new (used (O.seen sink.old) (O.seen sink.new))) }
     ensures stays { OnOk result (spec.ShelfStays (used (S.seen shelf.old) (S.seen shelf.new))) }
-    ensures stopped { IfErr result (λ stop. spec.StopsIn stop server.old.core (spec.site (S.seen shelf.old) file.now) bytes.now
-        server.new.core (used (O.seen sink.old) (O.seen sink.new))) }
+    ensures stopped { IfErr result (λ stop. spec.StopsIn stop server.old (spec.site (S.seen shelf.old) file.now) bytes.now
+        server.new (used (O.seen sink.old) (O.seen sink.new))) }
     ensures shelf { IfErr result (λ stop. spec.ShelfBy stop (used (S.seen shelf.old) (S.seen shelf.new))) }
 {
     let mut len = 0;

@@ -5,12 +5,11 @@
 
 pub mod answers;
 pub mod connections;
+pub mod federates;
 pub mod reloads;
 pub mod replies;
+pub mod server;
 pub mod serving;
 pub mod targets;
 
-pub use answers::{ends, push_answer};
-pub use replies::{Status, push_reply};
 pub use serving::{ServeEnd, Served, serve};
-pub use targets::push_targets;

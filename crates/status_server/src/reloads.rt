@@ -1,20 +1,14 @@
 //! Reloads: the file of the configuration is read anew, and a load of it made.
-ghost use Rattle.std.specs.Prelude.{◌≡◌, ◌≤◌, ◌++◌, ◌∷◌, [], length, string_bytes, IfOk, OnErr, OnOk};
-ghost use Rattle.control_lines.specs.Faults.{fault_text};
-ghost use Rattle.outside.specs.Objects.{used};
-ghost use Rattle.outside.specs.Sizes.{most_text_bytes};
-ghost use Rattle.scrape_machine.specs.Machine.{answer, world_of};
+ghost use Rattle.std.specs.Prelude.{◌≡◌, ◌++◌, string_bytes, IfOk, OnOk};
 ghost use Rattle.status_server.specs.Reloads as spec;
 ghost use Rattle.status_server.specs.declared.reloads.Reload.TheVariants as reloads;
 
 use crate::replies::{Status, push_reply};
 use config_fields::ConfFault;
 use control_lines::faults::push_fault;
-use journal_text::Event;
-use label_set::{Blob, NoMemory, Steps};
-use scrape_core::{Answer, Core};
+use label_set::NoMemory;
+use scrape_core::Answer;
 use std::alloc::Global;
-use std::sync::ledger::Ledger;
 
 /// What a reload came to.
 #[derive(Drop, Debug)]
@@ -32,7 +26,7 @@ pub enum Reload {
 }
 
 /// What a load came to, by its answer.
-fn loaded(answer: Answer) -> Reload
+pub fn loaded(answer: Answer) -> Reload
     ensures { result ≡ spec.loaded answer }
 {
     match answer {
@@ -40,23 +34,6 @@ fn loaded(answer: Answer) -> Reload
         Answer::Halted => Reload::Halted,
         _ => Reload::Loaded,
     }
-}
-
-/// Loads the text of a configuration at the last moment of the journal.
-pub fn load<L: Ledger>(
-    alloc: Global,
-    core: &mut Core,
-    steps: &mut Steps<L>,
-    text: Blob,
-) -> Result<Reload, NoMemory>
-    requires { length text ≤ most_text_bytes }
-    ensures came { IfOk result (λ r. r ≡ spec.loaded (answer (world_of core.old) (spec.load_after core.old text))) }
-    ensures joined { OnOk result (core.new ≡ core.old ++ spec.load_after core.old text ∷ []) }
-    ensures err { OnErr result (core.new ≡ core.old) }
-{
-    let moment = core.moment().ms();
-    let answer = core.take(alloc, Event::Load { moment, text }, steps)?;
-    Ok(loaded(answer))
 }
 
 /// The status of a reload's reply.

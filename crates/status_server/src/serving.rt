@@ -4,7 +4,8 @@ ghost use Rattle.outside.specs.Objects.{used};
 ghost use Rattle.status_server.specs.Serving.{Serves, touched};
 ghost use Rattle.status_server.specs.Serving as spec;
 
-use crate::connections::{Server, Stop, answer_all};
+use crate::connections::{Stop, answer_all};
+use crate::server::Server;
 use label_set::Steps;
 use outside::{Shelf, Sink, Source};
 use scrape_core::Core;
@@ -69,13 +70,13 @@ fn serve_all<L: Ledger, S: Shelf, C: Source, O: Sink>(
     source: &mut C,
     sink: &mut O,
 ) -> ServeEnd
-    ensures { Serves result server.old.core file.now (touched (used (S.seen shelf.old) (S.seen shelf.new))
-        (used (C.seen source.old) (C.seen source.new)) (used (O.seen sink.old) (O.seen sink.new))) server.new.core }
+    ensures { Serves result server.old file.now (touched (used (S.seen shelf.old) (S.seen shelf.new))
+        (used (C.seen source.old) (C.seen source.new)) (used (O.seen sink.old) (O.seen sink.new))) server.new }
 {
-    let Ok(mut room) = Vec::from_elem(server.alloc, 0u8, ROOM) else {
+    let Ok(mut room) = Vec::from_elem(server.alloc(), 0u8, ROOM) else {
         return ServeEnd::NoMemory;
     };
-    let mut waiting = Vec::new(server.alloc);
+    let mut waiting = Vec::new(server.alloc());
     let mut given: usize = 0;
     for _ in 0..MOST_BYTES + 1 {
         let Ok(count) = source.read(&mut room) else {
@@ -121,15 +122,12 @@ fn serve_from<L: Ledger, S: Shelf, C: Source, O: Sink>(
     ensures { Serves result.end start.entry.core start.entry.file.now (touched (used (S.seen shelf.old) (S.seen shelf.new))
         (used (C.seen source.old) (C.seen source.new)) (used (O.seen sink.old) (O.seen sink.new))) result.core }
 {
-    let mut server: Server<L> = Server {
-        alloc,
-        core: start.core,
-        steps: Steps::open(blank),
-    };
+    let steps: Steps<L> = Steps::open(blank);
+    let mut server = Server::over(alloc, start.core, steps);
     let end = serve_all(&mut server, start.file, shelf, source, sink);
     Served {
         end,
-        core: server.core,
+        core: server.into_core(),
     }
 }
 

@@ -6,7 +6,7 @@ use Rattle.status_server.proofs.connections.answer_all.Given as goal
 
 abbrev pub invariant-loop-stop : goal.invariant-loop-stop
 invariant-loop-stop g l = record {
-  run : Run l.fn.server.core (site (g.S.Shelf.seen l.fn.shelf) l.fn.file) l.bytes l.len l.server.core (used (g.O.Sink.seen l.fn.sink) (g.O.Sink.seen l.sink));
+  run : Run l.fn.server (site (g.S.Shelf.seen l.fn.shelf) l.fn.file) l.bytes l.len l.server (used (g.O.Sink.seen l.fn.sink) (g.O.Sink.seen l.sink));
   stays : ShelfStays (used (g.S.Shelf.seen l.fn.shelf) (g.S.Shelf.seen l.shelf));
 }
 

@@ -16,11 +16,11 @@ returns-in_ok-push_reply-in-Never-clause-stepped g c = record {
     replies_are = c.in_ok-push_reply-in-Never.ensures.added ∙ ap (λ t. t ++ reply BadRequest true []) c.requires;
     loads_are = refl;
   });
-  journal = sym (append-nil c.args.server.now.core);
+  journal = sym (append-nil c.args.server.now);
 }
 
 pub returns-in_ok-answer_request-in-Whole-clause-stepped : goal.returns-in_ok-answer_request-in-Whole-clause-stepped
 returns-in_ok-answer_request-in-Whole-clause-stepped g c =
-    subst (λ step. Stepped c.args.server.now.core (site (g.S.Shelf.seen c.args.shelf.now) c.args.file.now) c.args.bytes.now step c.answer_request.new.reply.items c.answer_request.new.server.core)
+    subst (λ step. Stepped c.args.server.now (site (g.S.Shelf.seen c.args.shelf.now) c.args.file.now) c.args.bytes.now step c.answer_request.new.reply.items c.answer_request.new.server)
     (sym c.behind.ensures)
     (stepped-whole _ _ c.args.bytes.now c.in-Whole.request c.in-Whole.len _ _ (subst (IsFront c.args.bytes.now) c.in-Whole.is c.front_at.ensures) c.in_ok-answer_request-in-Whole.ensures.answered)
