@@ -48,6 +48,14 @@ answered-plain es site pages.OtherMethod q c text e r = (r, refl)
 answered-plain es site pages.OtherPath q c text e r = (r, refl)
 answered-plain es site pages.Body q c text e r = (r, refl)
 
+pub plain-page : (page : Page) → (page ≡ pages.Federate → ⊥) → (page ≡ pages.Reload → ⊥) → answers.is_plain page ≡ true
+plain-page pages.Targets f r = refl
+plain-page pages.Federate f r = absurd (f refl)
+plain-page pages.Reload f r = absurd (r refl)
+plain-page pages.OtherMethod f r = refl
+plain-page pages.OtherPath f r = refl
+plain-page pages.Body f r = refl
+
 -- a request whose head was read, and that was answered
 pub stepped-whole : (es : List Event) (site : Site) (bytes : List ℕ) (r : Request) (len : ℕ) (reply : List ℕ) (after : List Event) →
     HasRequest bytes r len → AnsweredBy es site r reply after → Stepped es site bytes (if answers.ends r.page r.closes then Ends else GoesOn len) reply after

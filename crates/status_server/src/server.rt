@@ -66,7 +66,7 @@ impl<L: Ledger> Server<L> {
 
     /// The core, which is served no more.
     pub fn into_core(self) -> Core
-        ensures { result ≡ self.entry }
+        ensures { result ≡ self }
     {
         self.core
     }
