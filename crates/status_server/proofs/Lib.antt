@@ -1,1 +1,7 @@
 pub mod TargetLemmas
+pub mod ConnectionLemmas
+pub mod FlowLemmas
+pub mod StepLemmas
+pub mod ServeLemmas
+pub mod ServerLemmas
+pub mod FederateLemmas

@@ -4,9 +4,12 @@
 #![tactic(auto)]
 
 pub mod answers;
+pub mod connections;
+pub mod federates;
+pub mod reloads;
 pub mod replies;
+pub mod server;
+pub mod serving;
 pub mod targets;
 
-pub use answers::{ends, push_answer};
-pub use replies::{Status, push_reply};
-pub use targets::push_targets;
+pub use serving::{ServeEnd, Served, serve};
