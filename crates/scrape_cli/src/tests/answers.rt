@@ -21,11 +21,34 @@ y 2
 
 "#;
 
+/// The reply with all series of the journal's scrape, for selectors that take some of them twice.
+const SERIES: &[u8] =
+    b"HTTP/1.1 200 OK\r\nContent-Type: text/plain; version=1.0.0; escaping=allow-utf-8\r\nContent-Length: 312\r\n\r\n\
+scrape_duration_seconds{instance=\"a:1\",job=\"j\"} 0.015 0\n\
+scrape_samples_post_metric_relabeling{instance=\"a:1\",job=\"j\"} 2 0\n\
+scrape_samples_scraped{instance=\"a:1\",job=\"j\"} 2 0\n\
+scrape_series_added{instance=\"a:1\",job=\"j\"} 2 0\n\
+up{instance=\"a:1\",job=\"j\"} 1 0\n\
+x{instance=\"a:1\",job=\"j\"} 1 0\n\
+y{instance=\"a:1\",job=\"j\"} 2 0\n";
+
 /// Requests of one connection, and what each is answered; the last one ends it.
 const EXCHANGES: &[(&[u8], &[u8])] = &[
     (
         b"GET /targets?x HTTP/1.1\r\n\r\n",
         b"HTTP/1.1 200 OK\r\nContent-Type: text/plain; version=1.0.0; escaping=allow-utf-8\r\nContent-Length: 65\r\n\r\n0 up {instance=\"a:1\",job=\"j\"}\n1 unknown {instance=\"b:1\",job=\"j\"}\n",
+    ),
+    (
+        b"GET /federate?match%5B%5D=x HTTP/1.1\r\n\r\n",
+        b"HTTP/1.1 200 OK\r\nContent-Type: text/plain; version=1.0.0; escaping=allow-utf-8\r\nContent-Length: 30\r\n\r\nx{instance=\"a:1\",job=\"j\"} 1 0\n",
+    ),
+    (
+        b"GET /federate?match[]={job=\"j\"}&match[]=y&match[]=up HTTP/1.1\r\n\r\n",
+        SERIES,
+    ),
+    (
+        b"GET /federate HTTP/1.1\r\n\r\n",
+        b"HTTP/1.1 400 Bad Request\r\nContent-Type: text/plain; version=1.0.0; escaping=allow-utf-8\r\nContent-Length: 0\r\n\r\n",
     ),
     (
         b"POST /targets HTTP/1.1\r\n\r\n",
