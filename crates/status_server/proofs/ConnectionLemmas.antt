@@ -1,12 +1,12 @@
 -- Exchanges one after another.
-use Rattle.std.proofs.Common.{◌≡◌, inl, inr, ℕ, ◌<◌, ◌≤◌, List, [], ◌∷◌, ◌++◌, length, take, drop, refl, sym, ap, subst, ◌∙◌, arith, append_assoc, append-nil}
-use Rattle.std.specs.Prelude.{Bool, true, false, ◌⊎◌}
+use Rattle.std.proofs.Common.{◌≡◌, inl, inr, ℕ, List, [], ◌∷◌, ◌++◌, refl, sym, ap, subst, ◌∙◌, append_assoc, append-nil}
+use Rattle.std.specs.Prelude.{false}
 use Rattle.std.specs.List.{flat_map}
-use Rattle.httparse.specs.Grammar.{RequestHead, ReadsRequest}
+use Rattle.httparse.specs.Grammar.{RequestHead}
 use Rattle.httparse.proofs.GrammarLemmas.{ReadsRequest-append}
 use Rattle.journal_text.specs.declared.events.Event.{Event}
 use Rattle.request_heads.specs.Fronts.{HeadAt, NoHead}
-use Rattle.status_server.specs.Connections.{Answered, AreFirst, Asks, Exchange, IsBegun, IsClosed, IsExchange, IsLast, IsLastExchange, IsNoRequest, IsOpen, ends, loads_of, reply_of}
+use Rattle.status_server.specs.Connections.{Answered, AreFirst, Asks, Exchange, IsBegun, IsClosed, IsExchange, IsLast, ends, loads_of, reply_of}
 use Rattle.status_server.specs.Reloads.{Site}
 
 -- a head at the front stays there, whatever follows

@@ -2,7 +2,7 @@
 use Rattle.std.proofs.Common.{◌≡◌, ℕ, ◌+◌, List, [], ◌++◌, length, refl, sym, ap, subst, ◌∙◌, arith, append_assoc, append-nil}
 use Rattle.std.specs.Prelude.{Option, Some, None, IfSome}
 use Rattle.std.proofs.lemmas.List.{length-append}
-use Rattle.outside.specs.Objects.{SinkSeen, Use, used, Adds, Took, Cut, Rose, IsUntouched}
+use Rattle.outside.specs.Objects.{SinkSeen, used, Adds, Took, Cut, Rose}
 use Rattle.outside.specs.Sources.{SourceSeen, Gives}
 use Rattle.status_server.specs.Serving.{HasGiven}
 

@@ -1,19 +1,17 @@
 -- From one read of a connection to the next.
 use Rattle.std.proofs.Common.{◌≡◌, inl, inr, ℕ, zero, suc, ◌+◌, ◌-◌, ◌<◌, ◌≤◌, min, List, [], ◌∷◌, ◌++◌, length, take, drop, refl, sym, ap, subst, ◌∙◌, arith, append_assoc, append-nil}
-use Rattle.std.specs.Prelude.{true, false, ◌⊎◌, Option, Some, None, IfSome}
-use Rattle.std.proofs.lemmas.List.{length-append, length-take-le, take-append-drop, take-take, take_at, take_min}
+use Rattle.std.specs.Prelude.{◌⊎◌, Option, Some, None, IfSome}
+use Rattle.std.proofs.lemmas.List.{length-append, length-take-le, take-take, take_at, take_min}
 use Rattle.journal_text.specs.declared.events.Event.{Event}
-use Rattle.outside.specs.Objects.{ShelfSeen, SinkSeen, Use, used, Took, Cut, Rose}
+use Rattle.outside.specs.Objects.{ShelfSeen, SinkSeen, used, Took, Rose}
 use Rattle.outside.specs.Sources.{SourceSeen, FailedToGive, Gave, Gives, IsAtEnd}
 use Rattle.request_heads.specs.Fronts.{IsTorn}
-use Rattle.status_server.specs.Connections.{Answered, AreFirst, IsBegun, IsClosed, IsOpen}
-use Rattle.status_server.specs.Reloads.{Site}
-use Rattle.status_server.specs.Serving.{EndsSo, HasGiven, IsEmptied, IsSound, Serves, Touched, end_of, touched}
+use Rattle.status_server.specs.Connections.{Answered, AreFirst, IsBegun, IsClosed}
+use Rattle.status_server.specs.Serving.{HasGiven, IsSound, Serves, Touched, end_of, touched}
 use Rattle.status_server.specs.Steps.{Ended, Reached, ShelfBy, ShelfStays, StopsIn, site}
 use Rattle.status_server.specs.declared.connections.Stop.{Stop}
 use Rattle.status_server.specs.declared.connections.Stop.TheVariants as stops
-use Rattle.status_server.specs.declared.serving.ServeEnd.{ServeEnd}
-use Rattle.status_server.specs.declared.serving.ServeEnd.TheVariants.{Done, ReadFault, WriteFault, TooLong, NoMemory}
+use Rattle.status_server.specs.declared.serving.ServeEnd.TheVariants.{Done, ReadFault, TooLong, NoMemory}
 use Rattle.status_server.proofs.ConnectionLemmas.{answered-append, answered-none, answered-then, begun-then, closed-then, first-then}
 use Rattle.status_server.proofs.FlowLemmas.{given-none, given-then, took-none, took-then, cut-then}
 

@@ -1,16 +1,16 @@
 -- From one reply to the next.
-use Rattle.std.proofs.Common.{◌≡◌, inl, inr, ℕ, ◌+◌, ◌<◌, ◌≤◌, List, [], ◌++◌, length, take, drop, refl, sym, ap, subst, ◌∙◌, arith, append_assoc, append-nil, true≢false}
-use Rattle.std.specs.Prelude.{Bool, true, false, if◌then◌else◌, ◌⊎◌, Option, Some, None}
+use Rattle.std.proofs.Common.{◌≡◌, inl, inr, ℕ, ◌+◌, ◌≤◌, List, [], ◌++◌, length, drop, refl, sym, ap, subst, ◌∙◌, arith, append_assoc, append-nil, true≢false}
+use Rattle.std.specs.Prelude.{Bool, true, false, if◌then◌else◌}
 use Rattle.std.proofs.lemmas.List.{drop-drop, length-drop}
 use Rattle.journal_text.specs.declared.events.Event.{Event}
-use Rattle.outside.specs.Objects.{ShelfSeen, SinkSeen, Use, used, Took, Cut}
-use Rattle.request_heads.specs.Fronts.{HasRequest, IsTorn}
+use Rattle.outside.specs.Objects.{ShelfSeen, SinkSeen, Use, used, Took}
+use Rattle.request_heads.specs.Fronts.{HasRequest}
 use Rattle.request_heads.specs.Requests.{closes, page_of, query_of}
 use Rattle.request_heads.specs.declared.fronts.Request.{Request}
 use Rattle.request_heads.specs.declared.pages.Page.{Page}
 use Rattle.request_heads.specs.declared.pages.Page.TheVariants as pages
 use Rattle.status_server.specs.Answers as answers
-use Rattle.status_server.specs.Connections.{Answered, AreFirst, Exchange, IsAnswered, IsClosed, IsLast}
+use Rattle.status_server.specs.Connections.{Answered, AreFirst, Exchange, IsAnswered, IsClosed}
 use Rattle.status_server.specs.Federates.{IsFederate}
 use Rattle.status_server.specs.Reloads.{IsReload, Site}
 use Rattle.status_server.specs.Steps.{AnsweredBy, CutStep, Ended, IsStep, JournalBy, NoStep, PutStep, Reached, ShelfStays, Stepped, StoppedCut, StoppedWhole, StopsIn, StopsStep, site}
@@ -18,7 +18,7 @@ use Rattle.status_server.specs.declared.connections.Step.{Step}
 use Rattle.status_server.specs.declared.connections.Step.TheVariants.{GoesOn, Ends, Waits}
 use Rattle.status_server.specs.declared.connections.Stop.{Stop}
 use Rattle.status_server.specs.declared.connections.Stop.TheVariants.{ReadFault, WriteFault, NoMemory}
-use Rattle.status_server.proofs.ConnectionLemmas.{answered-none, answered-one, answered-then, begun-then, closed-last, closed-then, first-then}
+use Rattle.status_server.proofs.ConnectionLemmas.{answered-none, answered-one, answered-then, closed-last, closed-then, first-then}
 use Rattle.status_server.proofs.FlowLemmas.{took-none, took-then, cut-then}
 
 -- a request for a reload, one for federation, and one for another page

@@ -1,5 +1,5 @@
 -- What a reload is answered ("Management API" of the Prometheus documentation: reload; "Configuration", what a reload does).
-use Rattle.std.specs.Prelude.{◌≡◌, ◌<◌, ◌≤◌, ◌⊎◌, ℕ, pos, Bool, List, [], ◌∷◌, ◌++◌, length, codes, Option, Some, None, IfSome, IsSomeAnd}
+use Rattle.std.specs.Prelude.{◌≡◌, ◌<◌, ◌≤◌, ℕ, pos, Bool, List, [], ◌∷◌, ◌++◌, length, codes, Option, Some, None, IfSome, IsSomeAnd}
 use Rattle.control_lines.specs.Faults.{fault_text}
 use Rattle.journal_text.specs.Events.{now_of}
 use Rattle.journal_text.specs.declared.events.Event.{Event}

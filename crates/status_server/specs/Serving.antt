@@ -1,5 +1,5 @@
 -- What serving a connection comes to, by what its source gave and what its sink took.
-use Rattle.std.specs.Prelude.{◌≡◌, ◌<◌, ◌≤◌, ◌⊎◌, ℕ, ◌+◌, ◌^◌, List, [], ◌++◌, length, take, Option, Some, IfSome}
+use Rattle.std.specs.Prelude.{◌≡◌, ◌<◌, ◌≤◌, ◌⊎◌, ℕ, ◌+◌, List, [], ◌++◌, length, take, Some, IfSome}
 use Rattle.journal_text.specs.declared.events.Event.{Event}
 use Rattle.outside.specs.Objects.{ShelfSeen, SinkSeen, Use, Took, Cut, Rose}
 use Rattle.outside.specs.Sources.{SourceSeen, Gives}

@@ -1,5 +1,5 @@
 -- What the bytes of a connection that wait come to.
-use Rattle.std.specs.Prelude.{◌≡◌, ◌≢◌, ◌<◌, ◌≤◌, ℕ, Bool, if◌then◌else◌, true, false, List, [], ◌++◌, length, drop, Option, Some, None}
+use Rattle.std.specs.Prelude.{◌≡◌, ◌≢◌, ◌<◌, ◌≤◌, ℕ, Bool, if◌then◌else◌, false, List, [], ◌++◌, length, drop, Option, Some, None}
 use Rattle.journal_text.specs.declared.events.Event.{Event}
 use Rattle.outside.specs.Objects.{ShelfSeen, SinkSeen, Use, Took, Cut, Rose, IsUntouched}
 use Rattle.request_heads.specs.Fronts.{HeadAt, IsTorn}

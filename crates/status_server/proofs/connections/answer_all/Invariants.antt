@@ -1,4 +1,4 @@
-use Rattle.std.proofs.Common.{◌≤◌, ◌-◌, length}
+use Rattle.std.proofs.Common.{◌-◌, length}
 use Rattle.outside.specs.Objects.{used}
 use Rattle.status_server.specs.Steps.{ShelfStays, site}
 use Rattle.status_server.proofs.StepLemmas.{Run}

@@ -1,5 +1,5 @@
 use Rattle.std.proofs.Common.{◌≡◌, ◌∙◌, ap, append-nil, refl, subst, sym}
-use Rattle.std.specs.Prelude.{[], ◌++◌, List, ℕ}
+use Rattle.std.specs.Prelude.{[], ◌++◌, List}
 use Rattle.status_server.proofs.StepLemmas.{answered-federate, answered-plain, answered-reload, plain-page}
 use Rattle.journal_text.specs.declared.events.Event.{Event}
 use Rattle.status_server.specs.Answers.{answer, ends}
@@ -40,9 +40,9 @@ returns-in_ok-push_federate-in-Federate-clause-answered g c =
 pub returns-in_ok-push_answer-in_default : goal.returns-in_ok-push_answer-in_default
 returns-in_ok-push_answer-in_default g c =
     let text : c.push_answer.new.text.items ≡ answer c.args.server.now c.args.request.now.page c.args.request.now.closes =
-        c.in_ok-push_answer-in_default.ensures.added
-        ∙ (ap (λ t. t ++ answer c.core.result.now c.args.request.now.page c.args.request.now.closes) c.requires
-        ∙ ap (λ (es : List Event). answer es c.args.request.now.page c.args.request.now.closes) c.core.ensures) in
+    c.in_ok-push_answer-in_default.ensures.added
+    ∙ (ap (λ t. t ++ answer c.core.result.now c.args.request.now.page c.args.request.now.closes) c.requires
+    ∙ ap (λ (es : List Event). answer es c.args.request.now.page c.args.request.now.closes) c.core.ensures) in
     record {
       answered = record {
         loads = [];

@@ -1,5 +1,5 @@
 use Rattle.std.proofs.Common.{◌∙◌, ap, append-nil, inr, refl, subst, sym}
-use Rattle.std.specs.Prelude.{[], ◌++◌, List}
+use Rattle.std.specs.Prelude.{[], ◌++◌}
 use Rattle.status_server.proofs.StepLemmas.{stepped-whole}
 use Rattle.status_server.specs.Replies.{reply}
 use Rattle.status_server.specs.Steps.{Stepped, site}

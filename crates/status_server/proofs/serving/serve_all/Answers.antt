@@ -2,7 +2,7 @@ use Rattle.std.proofs.Common.{◌≡◌, ◌∙◌, ◌+◌, ◌++◌, Ok, ap, a
 use Rattle.outside.specs.Objects.{used}
 use Rattle.status_server.specs.Serving.{Serves, touched}
 use Rattle.status_server.specs.Steps.{Ended, Reached, Reaches, StopsIn, site}
-use Rattle.status_server.proofs.ServeLemmas.{Has, at-end, ended, failed, goes-on, has-none, long, no-room, none-served, room-is, stopped}
+use Rattle.status_server.proofs.ServeLemmas.{Has, at-end, ended, goes-on, has-none, long, no-room, none-served, room-is, stopped}
 use Rattle.status_server.proofs.serving.serve_all.Goals as goal
 
 pub returns-in_default : goal.returns-in_default
