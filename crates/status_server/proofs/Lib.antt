@@ -5,3 +5,4 @@ pub mod StepLemmas
 pub mod ServeLemmas
 pub mod ServerLemmas
 pub mod FederateLemmas
+pub mod WholeLemmas

@@ -3,7 +3,7 @@ use Rattle.std.specs.Prelude.{◌≡◌, ◌<◌, ◌≤◌, ◌⊎◌, ℕ, ◌
 use Rattle.journal_text.specs.declared.events.Event.{Event}
 use Rattle.outside.specs.Objects.{ShelfSeen, SinkSeen, Use, Took, Cut, Rose}
 use Rattle.outside.specs.Sources.{SourceSeen, Gives}
-use Rattle.status_server.specs.Connections.{AreFirst, IsBegun, IsClosed, IsOpen}
+use Rattle.status_server.specs.Connections.{AreFirst, IsBegun, IsClosed, IsOpen, IsServed}
 use Rattle.status_server.specs.Reloads.{Site}
 use Rattle.status_server.specs.Steps.{site}
 use Rattle.status_server.specs.declared.connections.Stop.{Stop}
@@ -78,3 +78,16 @@ pub record Serves (end : ServeEnd) (es : List Event) (file : List ℕ) (t : Touc
   pub loads : List Event
   pub so : EndsSo end es (site t.shelf.before file) bytes replies loads t
   pub journal : JournalBehind end (es ++ loads) after
+
+-- each request of these bytes is answered, behind a journal, with these puts, and this journal behind it
+pub record IsServedWhole (es : List Event) (site : Site) (bytes : List ℕ) (sink : Use SinkSeen) (after : List Event) : Type 0 where
+  pub replies : List ℕ
+  pub loads : List Event
+  pub served : IsServed es site bytes replies loads
+  pub put : Took replies sink
+  pub journal : after ≡ es ++ loads
+
+-- where a source tells what it has, a connection that was served to its end is answered by all of that
+abbrev pub ServesAll : Type 0
+ServesAll = (es : List Event) (file : List ℕ) (t : Touched) (after : List Event) → Serves Done es file t after →
+    IfSome t.source.before.left (λ had. IsServedWhole es (site t.shelf.before file) had t.sink after)

@@ -12,4 +12,4 @@ pub mod server;
 pub mod serving;
 pub mod targets;
 
-pub use serving::{ServeEnd, Served, serve};
+pub use serving::{ServeEnd, Served, serve, serves_all};

@@ -1,7 +1,7 @@
 //! A connection, from its first byte to its end.
 ghost use Rattle.std.specs.Prelude.{◌≡◌, ◌≤◌, ◌<◌, length, drop};
 ghost use Rattle.outside.specs.Objects.{used};
-ghost use Rattle.status_server.specs.Serving.{Serves, touched};
+ghost use Rattle.status_server.specs.Serving.{Serves, ServesAll, touched};
 ghost use Rattle.status_server.specs.Serving as spec;
 
 use crate::connections::{Stop, answer_all};
@@ -158,3 +158,8 @@ pub fn serve<S: Shelf, C: Source, O: Sink>(
     let start = Start { core, file };
     serve_from::<Brand, S, C, O>(alloc, Blank::new(1), start, shelf, source, sink)
 }
+
+/// The law that a connection which was served to its end is answered by all that its source had, where the source tells that. It does nothing.
+pub fn serves_all()
+    ensures { ServesAll }
+{}
