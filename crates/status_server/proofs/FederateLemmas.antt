@@ -1,12 +1,11 @@
 -- Selectors one after another.
 use Rattle.std.proofs.Common.{◌≡◌, ℕ, ◌+◌, ◌<◌, List, [], ◌∷◌, ◌++◌, length, get_or, map, take, sym, ap, ◌∙◌}
 use Rattle.std.proofs.lemmas.List.{map_more, take-map}
-use Rattle.status_server.specs.Federates.{AreSelectors}
+use Rattle.status_server.specs.Federates.{AreSelectors, IsTaken}
 use Rattle.instant_view.specs.declared.matchers.SelectorParts.{SelectorParts}
-use Rattle.instant_view.specs.Grammar.{IsSelector}
 
 -- a selector more
-pub selectors-more : (texts : List (List ℕ)) (text : List ℕ) (parts : List SelectorParts) (one : SelectorParts) → AreSelectors texts parts → IsSelector text one → AreSelectors (texts ++ text ∷ []) (parts ++ one ∷ [])
+pub selectors-more : (texts : List (List ℕ)) (text : List ℕ) (parts : List SelectorParts) (one : SelectorParts) → AreSelectors texts parts → IsTaken text one → AreSelectors (texts ++ text ∷ []) (parts ++ one ∷ [])
 selectors-more [] text [] one a s = (s, tt)
 selectors-more (t ∷ texts) text (p ∷ parts) one a s = (a.0, selectors-more texts text parts one a.1 s)
 selectors-more [] text (p ∷ parts) one a s = absurd a

@@ -1,11 +1,11 @@
 -- What a request for federation is answered ("Federation" of the Prometheus documentation: each match[] is an instant vector selector, and at least
 -- one is needed).
-use Rattle.std.specs.Prelude.{◌≡◌, ◌≢◌, ◌⊎◌, ℕ, pos, Bool, List, [], ◌∷◌, ◌++◌, Option, Some, None}
+use Rattle.std.specs.Prelude.{◌≡◌, ◌≢◌, ◌⊎◌, ℕ, pos, Bool, false, All, List, [], ◌∷◌, ◌++◌, Option, Some, None}
 use Rattle.std.specs.List.{Any}
 use Rattle.federation.specs.Federations.{IsFederated}
 use Rattle.federation.specs.Texts.{rows_text}
 use Rattle.instant_view.specs.Grammar.{IsSelector}
-use Rattle.instant_view.specs.Selectors.{Refuses}
+use Rattle.instant_view.specs.Selectors.{IsBuilt, Refuses, is_bare}
 use Rattle.instant_view.specs.declared.matchers.SelectorError.TheVariants.{Bare, Pattern, Syntax}
 use Rattle.instant_view.specs.declared.matchers.SelectorParts.{SelectorParts}
 use Rattle.instant_view.specs.declared.rows.ViewRow.{ViewRow}
@@ -16,10 +16,16 @@ use Rattle.scrape_machine.specs.Machine.{book_of}
 use Rattle.status_server.specs.Replies.{reply}
 use Rattle.status_server.specs.declared.replies.Status.TheVariants.{BadRequest, Done}
 
--- each text is written as a selector of these parts, in order
+-- a text is a selector of these parts: it is written so, each of its patterns is one, and it isn't bare
+pub record IsTaken (text : List ℕ) (parts : SelectorParts) : Type 0 where
+  pub written : IsSelector text parts
+  pub patterns : All IsBuilt parts.matchers
+  pub some : is_bare parts ≡ false
+
+-- so is each text, in order
 abbrev pub AreSelectors : List (List ℕ) → List SelectorParts → Type 0
 AreSelectors [] [] = Unit {0}
-AreSelectors (text ∷ texts) (parts ∷ more) = IsSelector text parts × AreSelectors texts more
+AreSelectors (text ∷ texts) (parts ∷ more) = IsTaken text parts × AreSelectors texts more
 AreSelectors [] (parts ∷ more) = ⊥
 AreSelectors (text ∷ texts) [] = ⊥
 
@@ -49,7 +55,7 @@ IsFederate es query closes text =
 -- what a text, some texts and a query come to: the parts of selectors, or that there are none
 abbrev pub IsRead : List ℕ → Option SelectorParts → Type 0
 IsRead text None = IsRefused text
-IsRead text (Some parts) = IsSelector text parts
+IsRead text (Some parts) = IsTaken text parts
 
 abbrev pub AreRead : List (List ℕ) → Option (List SelectorParts) → Type 0
 AreRead texts None = Any IsRefused texts
