@@ -3,7 +3,7 @@
 use super::{ROOM, fails, files_of, holds, means_of};
 use journal_text::read_journal;
 use label_set::{Blob, NoMemory};
-use outside::{MemSink, SureShelf, SureSource};
+use outside::{MemShelf, MemSink, MemSource, SureShelf, SureSource};
 use scrape_core::{Core, Means, replay};
 use status_server::{ServeEnd, serve};
 use std::alloc::Global;
@@ -121,6 +121,99 @@ fn put_for(means: Means, bytes: &[u8]) -> Result<MemSink, NoMemory> {
         return Err(NoMemory);
     }
     Ok(sink)
+}
+
+/// The calls at which each object of a connection fails, how that ends, and to how many requests whole replies are put then.
+#[derive(Clone, Copy)]
+struct Fault<'a> {
+    source: &'a [u64],
+    shelf: &'a [u64],
+    sink: &'a [u64],
+    end: ServeEnd,
+    whole: usize,
+}
+
+const FAULTS: &[Fault<'static>] = &[
+    Fault {
+        source: &[0],
+        shelf: &[],
+        sink: &[],
+        end: ServeEnd::ReadFault,
+        whole: 0,
+    },
+    Fault {
+        source: &[1],
+        shelf: &[],
+        sink: &[],
+        end: ServeEnd::ReadFault,
+        whole: 8,
+    },
+    Fault {
+        source: &[],
+        shelf: &[0],
+        sink: &[],
+        end: ServeEnd::ReadFault,
+        whole: 6,
+    },
+    Fault {
+        source: &[],
+        shelf: &[],
+        sink: &[0],
+        end: ServeEnd::WriteFault,
+        whole: 0,
+    },
+    Fault {
+        source: &[],
+        shelf: &[],
+        sink: &[7],
+        end: ServeEnd::WriteFault,
+        whole: 7,
+    },
+];
+
+/// How long the first requests are.
+fn length_of(count: usize) -> usize {
+    let mut length: usize = 0;
+    for exchange in &EXCHANGES[..count.min(EXCHANGES.len())] {
+        length = length.saturating_add(exchange.0.len());
+    }
+    length
+}
+
+/// How a connection ends of which an object fails, without the request that ends it.
+fn end_with(means: Means, fault: Fault<'_>, sink: &mut MemSink) -> Result<ServeEnd, NoMemory> {
+    let text = requests(means.alloc)?;
+    let text = Blob::from_slice(means.alloc, &text[..length_of(8)])?;
+    let files = files_of(means.alloc, &[("c.json", "{}")])?;
+    let mut shelf = MemShelf::new(files, fails(means.alloc, fault.shelf)?)?;
+    let mut source = MemSource::new(text, fails(means.alloc, fault.source)?)?;
+    let core = core_of(means)?;
+    let served = serve(means.alloc, core, "c.json", &mut shelf, &mut source, sink);
+    served.core.let_go();
+    Ok(served.end)
+}
+
+/// Ends the test where a connection of which an object fails ends otherwise.
+fn ends_so(rt: &impl Abort, means: Means, fault: Fault<'_>) -> Result<(), NoMemory> {
+    let mut sink = MemSink::new(means.alloc, ROOM, fails(means.alloc, fault.sink)?)?;
+    let end = end_with(means, fault, &mut sink)?;
+    holds(rt, end == fault.end, "the end of a fault");
+    let wanted = replies(means.alloc, length_of(fault.whole))?;
+    holds(
+        rt,
+        sink.bytes() == wanted.as_slice(),
+        "the replies before a fault",
+    );
+    Ok(())
+}
+
+#[test]
+fn a_fault_ends_a_connection(rt: HostRuntime) -> Result<(), Fail> {
+    let means = means_of(&rt)?;
+    for fault in FAULTS {
+        ends_so(&rt, means, *fault)?;
+    }
+    Ok(())
 }
 
 #[test]
