@@ -183,7 +183,7 @@ fn length_of(count: usize) -> usize {
 /// How a connection ends of which an object fails, without the request that ends it.
 fn end_with(means: Means, fault: Fault<'_>, sink: &mut MemSink) -> Result<ServeEnd, NoMemory> {
     let text = requests(means.alloc)?;
-    let text = Blob::from_slice(means.alloc, &text[..length_of(8)])?;
+    let text = Blob::from_slice(means.alloc, &text[..length_of(8).min(text.len())])?;
     let files = files_of(means.alloc, &[("c.json", "{}")])?;
     let mut shelf = MemShelf::new(files, fails(means.alloc, fault.shelf)?)?;
     let mut source = MemSource::new(text, fails(means.alloc, fault.source)?)?;
