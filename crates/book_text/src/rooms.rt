@@ -1,7 +1,7 @@
 //! How much room the parts of a line take at most, told without writing them.
 ghost use Rattle.std.specs.Prelude.{◌≡◌, ◌+◌, ◌<◌, ◌≤◌, ◌^◌, length, sum_by, IfOk, IfSome};
 ghost use Rattle.std.specs.Fmt.{decimal, signed_decimal};
-ghost use Rattle.label_set.specs.Lent.{pair_of};
+ghost use Rattle.label_set.specs.Borrowed.{pair_of};
 ghost use Rattle.book_text.specs.Rooms as spec;
 ghost use Rattle.label_set.specs.SetText.{set_text};
 

@@ -91,7 +91,7 @@ fn placed(flaw: Flaw, place: Name) -> ConfFault
 }
 
 /// Notes a flaw of the value at a place. The fault is made only where it is told rather than the one found so far;
-/// an error is want of memory for it.
+/// an error is out of memory for it.
 pub fn note(
     alloc: Global,
     found: &mut Option<ConfFault>,

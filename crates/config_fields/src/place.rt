@@ -6,7 +6,7 @@ ghost use Rattle.config_fields.specs.Places.{field_place, item_place, escaped, e
 use label_set::{Name, NoMemory};
 use std::alloc::Global;
 
-/// The place of a field of the object at a place. In the key `~` is written `~0`, and `/` is written `~1`. An error is want of memory.
+/// The place of a field of the object at a place. In the key `~` is written `~0`, and `/` is written `~1`. An error is out of memory.
 #[tactic(auto, unfolding(crate::specs::Places::field_place))]
 pub fn at_field(alloc: Global, place: &str, key: &str) -> Result<Name, NoMemory>
     ensures { IfOk result (λ n. n ≡ field_place place.now key.now) }
@@ -42,7 +42,7 @@ fn push_escaped(text: &mut String, key: &str) -> Result<(), NoMemory>
     Ok(())
 }
 
-/// The place of an item of the list at a place, counted from 0. An error is want of memory.
+/// The place of an item of the list at a place, counted from 0. An error is out of memory.
 #[tactic(auto, unfolding(crate::specs::Places::item_place))]
 pub fn at_item(alloc: Global, place: &str, index: usize) -> Result<Name, NoMemory>
     ensures { IfOk result (λ n. n ≡ item_place place.now index) }

@@ -1,5 +1,5 @@
 //! The walk through the objects that hold no further objects. Each step keeps in `found` the fault that is told so far;
-//! an error is want of memory.
+//! an error is out of memory.
 ghost use Rattle.std.specs.Prelude.{◌≡◌, OnOk, IfOk};
 ghost use Rattle.serde_json.specs.View.{view, members_view, items_view};
 ghost use Rattle.config_fields.specs.Faults.{best};

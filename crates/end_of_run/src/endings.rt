@@ -42,7 +42,7 @@ impl Endings {
     ///
     /// # Errors
     ///
-    /// Only want of memory refuses.
+    /// The only error is out of memory.
     pub fn new(alloc: Global) -> Result<Endings, NoMemory>
         ensures { IfOk result (λ e. e.endings ≡ []) }
     {
@@ -55,7 +55,7 @@ impl Endings {
     ///
     /// # Errors
     ///
-    /// Only want of memory refuses.
+    /// The only error is out of memory.
     pub fn reserve(&mut self, more: usize) -> Result<(), NoMemory>
         ensures room { OnOk result (more ≤ self.new.spare) }
         ensures endings { self.new.endings ≡ self.old.endings }
@@ -68,7 +68,7 @@ impl Endings {
     ///
     /// # Errors
     ///
-    /// Only want of memory refuses, and only where there is no room; the closing is dropped, and all else stays.
+    /// The only error is out of memory, and only where there is no room; the closing is dropped, and all else stays.
     #[tactic(auto, using(crate::proofs::EndingLemmas::one_added))]
     pub fn add(&mut self, closing: Closing) -> Result<(), NoMemory>
         requires first { spec.ending_of closing.life self.old.endings ≡ None }
@@ -94,7 +94,7 @@ impl Endings {
     ///
     /// # Errors
     ///
-    /// Only want of memory refuses.
+    /// The only error is out of memory.
     pub fn entries(&self, alloc: Global, life: u64) -> Result<EntryList, NoMemory>
         ensures { IfOk result (λ l. l ≡ spec.life_entries life self.now.endings) }
     {

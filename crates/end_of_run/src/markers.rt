@@ -33,7 +33,7 @@ fn set_markers(
 ///
 /// # Errors
 ///
-/// Only want of memory refuses.
+/// The only error is out of memory.
 pub fn ending_entries(alloc: Global, closing: &Closing) -> Result<EntryList, NoMemory>
     requires { spec.IsInLimits closing.now }
     ensures { IfOk result (λ l. l ≡ spec.ending_entries closing.now) }

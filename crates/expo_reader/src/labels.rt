@@ -11,19 +11,19 @@ use crate::faults::Fault;
 use crate::names::is_exposed_name;
 use crate::parts::{Part, mark_in, quick_name, word_in};
 use crate::quotes::{quote_in, quoted_name};
-use crate::texts::{LentText, utf8_text, whole_text};
+use crate::texts::{BorrowedText, utf8_text, whole_text};
 use label_set::{Form, Name, NoMemory, Pair, PairList};
 use std::alloc::Global;
 use std::marker::Model;
 
 /// A label that borrows from a body. Contracts see the label.
 #[derive(Drop, Debug)]
-pub struct LentLabel<'b> {
-    name: LentText<'b>,
-    value: LentText<'b>,
+pub struct BorrowedLabel<'b> {
+    name: BorrowedText<'b>,
+    value: BorrowedText<'b>,
 }
 
-impl<'b> Model for LentLabel<'b> {
+impl<'b> Model for BorrowedLabel<'b> {
     ghost use Rattle.label_set.specs.declared.texts.Pair.{Pair};
 
     ghost Value = { Pair };
@@ -31,7 +31,7 @@ impl<'b> Model for LentLabel<'b> {
     ghost view = { λ l. record { name = l.name; value = l.value } };
 }
 
-impl<'b> LentLabel<'b> {
+impl<'b> BorrowedLabel<'b> {
     /// The name.
     pub fn name(&self) -> &str
         ensures { result.now ≡ self.now.name }
@@ -65,7 +65,7 @@ impl<'b> LentLabel<'b> {
 }
 
 /// Copies of labels.
-pub fn copies(alloc: Global, labels: &[LentLabel<'_>]) -> Result<PairList, NoMemory>
+pub fn copies(alloc: Global, labels: &[BorrowedLabel<'_>]) -> Result<PairList, NoMemory>
     ensures { IfOk result (λ l. l ≡ labels.now) }
 {
     let mut items = Vec::with_capacity(alloc, labels.len())?;
@@ -105,7 +105,7 @@ fn exposed_in(text: &[u8]) -> Option<Part<'_>>
 }
 
 /// A bare name as it is.
-fn bare_text(name: &[u8]) -> LentText<'_>
+fn bare_text(name: &[u8]) -> BorrowedText<'_>
     requires { IsTrue (named.is_exposed_name name.now) }
     ensures { result ≡ name.now }
 {
@@ -116,9 +116,9 @@ fn bare_text(name: &[u8]) -> LentText<'_>
 #[inline(always)]
 fn push_valued<'b>(
     alloc: Global,
-    name: LentText<'b>,
+    name: BorrowedText<'b>,
     rest: &'b [u8],
-    labels: &mut Vec<LentLabel<'b>>,
+    labels: &mut Vec<BorrowedLabel<'b>>,
 ) -> Result<&'b [u8], Fault>
     ensures label { let said = spec.label_behind name.entry rest.now in MatchResult result
         (λ after. (p : Pair) × (said ≡ Some (p, after.now)) × (labels.new.items ≡ labels.old.items ++ p ∷ [])) (λ f. FaultIs f said) }
@@ -130,7 +130,7 @@ fn push_valued<'b>(
     match quote_in(alloc, quoted) {
         Ok((value, after)) => {
             labels.reserve(1)?;
-            labels.push_reserved(LentLabel { name, value });
+            labels.push_reserved(BorrowedLabel { name, value });
             Ok(after)
         }
         Err(fault) => Err(fault),
@@ -142,7 +142,7 @@ fn push_valued<'b>(
 fn push_quoted<'b>(
     alloc: Global,
     text: &'b [u8],
-    labels: &mut Vec<LentLabel<'b>>,
+    labels: &mut Vec<BorrowedLabel<'b>>,
 ) -> Result<&'b [u8], Fault>
     ensures label { let said = spec.named_label (named.quoted_name text.now) in MatchResult result
         (λ rest. (p : Pair) × (said ≡ Some (p, rest.now)) × (labels.new.items ≡ labels.old.items ++ p ∷ [])) (λ f. FaultIs f said) }
@@ -160,7 +160,7 @@ fn push_label<'b>(
     alloc: Global,
     form: Form,
     text: &'b [u8],
-    labels: &mut Vec<LentLabel<'b>>,
+    labels: &mut Vec<BorrowedLabel<'b>>,
 ) -> Result<&'b [u8], Fault>
     ensures label { MatchResult result (λ rest. (p : Pair) × (spec.label_in form text.now ≡ Some (p, rest.now))
         × (labels.new.items ≡ labels.old.items ++ p ∷ [])) (λ f. FaultIs f (spec.label_in form text.now)) }
@@ -181,7 +181,7 @@ pub fn labels_in<'b>(
     alloc: Global,
     form: Form,
     text: &'b [u8],
-    labels: &mut Vec<LentLabel<'b>>,
+    labels: &mut Vec<BorrowedLabel<'b>>,
 ) -> Result<&'b [u8], Fault>
     ensures labels { MatchResult result (λ rest. (more : List Pair) × (spec.all_labels_in form text.now ≡ Some (more, rest.now))
         × (labels.new.items ≡ labels.old.items ++ more)) (λ f. FaultIs f (spec.all_labels_in form text.now)) }
@@ -207,7 +207,7 @@ pub fn labels_in<'b>(
 pub fn labels_after<'b>(
     alloc: Global,
     text: &'b [u8],
-    labels: &mut Vec<LentLabel<'b>>,
+    labels: &mut Vec<BorrowedLabel<'b>>,
 ) -> Result<&'b [u8], Fault>
     ensures labels { MatchResult result (λ rest. (more : List Pair) × (spec.labels_after text.now ≡ Some (more, rest.now))
         × (labels.new.items ≡ labels.old.items ++ more)) (λ f. FaultIs f (spec.labels_after text.now)) }

@@ -7,7 +7,7 @@ ghost use Rattle.expo_reader.specs.Like.{GoesIn, IsLike, IsRawText};
 ghost use Rattle.expo_reader.specs.Spans as seen;
 
 use crate::faults::Fault;
-use crate::labels::LentLabel;
+use crate::labels::BorrowedLabel;
 use crate::lines::behind;
 use crate::samples::front_of;
 use crate::spans::{LineSpan, line_parts, parts_of};
@@ -211,7 +211,7 @@ pub(crate) fn like_parts<'b, T: RawTexts>(
     line: &'b [u8],
     like: &T,
     expected: &mut Expected,
-    labels: &mut Vec<LentLabel<'b>>,
+    labels: &mut Vec<BorrowedLabel<'b>>,
 ) -> Result<(LineSpan, u32), Fault>
     requires bare { blank_len line.now ≡ 0 }
     requires few { length line.now < 2 ^ 32 }

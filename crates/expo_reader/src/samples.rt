@@ -7,12 +7,12 @@ ghost use Rattle.expo_reader.specs.Names.{braced_name};
 ghost use Rattle.expo_reader.specs.Spans as seen;
 
 use crate::faults::Fault;
-use crate::labels::{LentLabel, copies, labels_after, labels_in};
+use crate::labels::{BorrowedLabel, copies, labels_after, labels_in};
 use crate::parts::{mark_in, word_in};
 use crate::quotes::braced_name;
 use crate::rows::BodyRow;
 use crate::spans::{LineSpan, RowSpan};
-use crate::texts::{LentText, utf8_text, whole_text};
+use crate::texts::{BorrowedText, utf8_text, whole_text};
 use label_set::{Blob, Form, Name, NoMemory, PairList};
 use std::alloc::Global;
 use std::marker::Model;
@@ -83,15 +83,15 @@ impl<'a> SampleRow<'a> {
     ///
     /// # Errors
     ///
-    /// Only want of memory refuses, where the name has an escape.
-    pub fn name(&self, alloc: Global) -> Result<LentText<'a>, NoMemory>
+    /// The only error is out of memory, where the name has an escape.
+    pub fn name(&self, alloc: Global) -> Result<BorrowedText<'a>, NoMemory>
         ensures { IfOk result (λ n. n ≡ self.now.name) }
     {
         name_at(alloc, self.text)
     }
 
     /// The labels in the order of the text. They are read again.
-    pub fn labels(&self, alloc: Global) -> Result<Vec<LentLabel<'a>>, NoMemory>
+    pub fn labels(&self, alloc: Global) -> Result<Vec<BorrowedLabel<'a>>, NoMemory>
         ensures { IfOk result (λ v. v.items ≡ self.now.labels) }
     {
         labels_at(alloc, self.text)
@@ -166,7 +166,7 @@ fn part_of(text: &[u8], place: usize, len: usize) -> &[u8]
 
 /// The name of a line.
 #[tactic(auto, unfolding(crate::specs::Spans::name_at))]
-fn name_at<'b>(alloc: Global, line: &'b [u8]) -> Result<LentText<'b>, NoMemory>
+fn name_at<'b>(alloc: Global, line: &'b [u8]) -> Result<BorrowedText<'b>, NoMemory>
     requires { IsUtf8 (seen.name_at line.now) }
     ensures { IfOk result (λ n. n ≡ seen.name_at line.now) }
 {
@@ -182,7 +182,7 @@ fn name_at<'b>(alloc: Global, line: &'b [u8]) -> Result<LentText<'b>, NoMemory>
 
 /// The labels of a line.
 #[tactic(auto, unfolding(crate::specs::Spans::labels_at))]
-fn labels_at<'b>(alloc: Global, line: &'b [u8]) -> Result<Vec<LentLabel<'b>>, NoMemory>
+fn labels_at<'b>(alloc: Global, line: &'b [u8]) -> Result<Vec<BorrowedLabel<'b>>, NoMemory>
     ensures { IfOk result (λ v. v.items ≡ seen.labels_at line.now) }
 {
     let Some(name) = word_in(line) else {
@@ -200,7 +200,7 @@ fn labels_at<'b>(alloc: Global, line: &'b [u8]) -> Result<Vec<LentLabel<'b>>, No
 }
 
 /// The labels of a line that begins with braces.
-fn braced_labels<'b>(alloc: Global, line: &'b [u8]) -> Result<Vec<LentLabel<'b>>, NoMemory>
+fn braced_labels<'b>(alloc: Global, line: &'b [u8]) -> Result<Vec<BorrowedLabel<'b>>, NoMemory>
     ensures { IfOk result (λ v. v.items ≡ seen.braced_labels (braced_name line.now)) }
 {
     let mut labels = Vec::new(alloc);

@@ -12,7 +12,7 @@ ghost use Rattle.value_text.specs.Values.{is_value};
 
 use crate::bodies::BodyCause;
 use crate::faults::Fault;
-use crate::labels::{LentLabel, labels_after, labels_in};
+use crate::labels::{BorrowedLabel, labels_after, labels_in};
 use crate::like::{Expected, RawTexts, like_parts};
 use crate::lines::{behind, line_end, metric_in};
 use crate::parts::{Part, mark_in, quick_value, start_of, word_in};
@@ -97,7 +97,7 @@ fn place_of(line: &[u8], word: &[u8], rest: &[u8]) -> usize
 fn labelled_parts(
     alloc: Global,
     line: &[u8],
-    labels: &[LentLabel<'_>],
+    labels: &[BorrowedLabel<'_>],
     rest: &[u8],
 ) -> Result<LineSpan, Fault>
     requires tail { seen.IsTail rest.now line.now }
@@ -118,7 +118,7 @@ fn labelled_parts(
 fn braced_parts<'b>(
     alloc: Global,
     line: &'b [u8],
-    labels: &mut Vec<LentLabel<'b>>,
+    labels: &mut Vec<BorrowedLabel<'b>>,
 ) -> Result<LineSpan, Fault>
     requires few { length line.now < 2 ^ 32 }
     ensures said { (number : ℕ) → let said = spec.braced_row number line.now (braced_name line.now) in MatchResult result
@@ -142,7 +142,7 @@ pub(crate) fn line_parts<'b>(
     alloc: Global,
     form: Form,
     line: &'b [u8],
-    labels: &mut Vec<LentLabel<'b>>,
+    labels: &mut Vec<BorrowedLabel<'b>>,
 ) -> Result<LineSpan, Fault>
     requires bare { blank_len line.now ≡ 0 }
     requires few { length line.now < 2 ^ 32 }
@@ -175,7 +175,7 @@ fn read_parts<'b, T: RawTexts>(
     line: &'b [u8],
     like: &T,
     expected: &mut Expected,
-    labels: &mut Vec<LentLabel<'b>>,
+    labels: &mut Vec<BorrowedLabel<'b>>,
 ) -> Result<(Option<(usize, LineSpan)>, u32), BodyCause>
     requires { length line.now < 2 ^ 32 }
     ensures said { MatchResult result (λ r. line_reading form number line.now ≡ Ok (seen.span_row number line.now r.0))

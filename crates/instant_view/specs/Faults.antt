@@ -4,7 +4,7 @@ use Rattle.instant_view.specs.declared.matchers.Matcher.{Matcher}
 use Rattle.instant_view.specs.declared.matchers.SelectorError.{SelectorError}
 use Rattle.instant_view.specs.declared.matchers.SelectorError.TheVariants.{Syntax, Pattern, Bare, NoMemory}
 
--- it isn't written so where nothing was said, and want of memory says nothing
+-- it isn't written so where nothing was said, and out of memory says nothing
 abbrev pub FaultIs : {A : Type 0} → SelectorError → Option A → Type 0
 FaultIs Syntax said = said ≡ None
 FaultIs Pattern said = ⊥

@@ -114,7 +114,7 @@ loaded_by jobs (Ok c) = filed_or_crowd (filed_by_load jobs c.jobs)
 unfoldable pub loaded : List InForce → List ℕ → Result (List Filed) ConfFault
 loaded jobs text = loaded_by jobs (whole_reading text)
 
--- want of memory, or the fault of what was said
+-- out of memory, or the fault of what was said
 abbrev pub IsLoadCause : Result (List Filed) ConfFault → ConfError → Type 0
 IsLoadCause said (Bad fault) = said ≡ Err fault
 IsLoadCause said NoMemory = ⊤
@@ -159,14 +159,14 @@ update_of jobs name file text (Some j) =
 unfoldable pub updated : List InForce → List ℕ → List ℕ → List ℕ → Result (List Group) Unlisted
 updated jobs name file text = update_of jobs name file text (job_named name jobs)
 
--- want of memory, or why the update isn't taken
+-- out of memory, or why the update isn't taken
 abbrev pub IsUpdateCause : Result (List Group) Unlisted → UpdateError → Type 0
 IsUpdateCause said NoJob = said ≡ Err UnknownJob
 IsUpdateCause said NoFile = said ≡ Err UnknownFile
 IsUpdateCause said (update.Bad fault) = said ≡ Err (Faulty fault)
 IsUpdateCause said update.NoMemory = ⊤
 
--- want of memory, or the fault of the list of a file
+-- out of memory, or the fault of the list of a file
 abbrev pub IsReadCause : Result (List Group) ConfFault → UpdateError → Type 0
 IsReadCause said NoJob = ⊥
 IsReadCause said NoFile = ⊥

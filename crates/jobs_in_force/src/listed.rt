@@ -30,7 +30,7 @@ fn named_count(name: &Name, job: &InForce, most: u64) -> Option<u64>
 ///
 /// # Errors
 ///
-/// A number of more than 64 bits is answered as want of memory.
+/// A number of more than 64 bits is answered as out of memory.
 pub fn listed_by(jobs: &[InForce]) -> Result<u64, NoMemory>
     ensures { IfOk result (λ n. n ≡ spec.listed_by jobs.now) }
 {
@@ -48,7 +48,7 @@ pub fn listed_by(jobs: &[InForce]) -> Result<u64, NoMemory>
 ///
 /// # Errors
 ///
-/// A number of more than 64 bits is answered as want of memory.
+/// A number of more than 64 bits is answered as out of memory.
 pub fn listed_by_named(name: &Name, jobs: &[InForce]) -> Result<u64, NoMemory>
     ensures { IfOk result (λ n. n ≡ spec.listed_by_named name.now jobs.now) }
 {

@@ -1,7 +1,7 @@
 pub mod FreeLemmas
 pub mod OrderLemmas
 pub mod JoinLemmas
-pub mod LentLemmas
+pub mod BorrowedLemmas
 pub mod MergeLemmas
 pub mod NameLemmas
 pub mod SortLemmas

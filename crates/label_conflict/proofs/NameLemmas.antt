@@ -9,13 +9,13 @@ use Rattle.std.proofs.lemmas.List.{take_more, map-append, length-map, get_or_def
 use Rattle.std.proofs.lemmas.List.Folds.{list_any-append}
 use Rattle.std.proofs.lemmas.Slice.Eq.{bytes_eq-Decides}
 use Rattle.indexmap.specs.IndexSet.{insert_key}
-use Rattle.label_set.specs.Lent.{pair_of}
+use Rattle.label_set.specs.Borrowed.{pair_of}
 use Rattle.label_set.specs.declared.labels.Label.{Label}
 use Rattle.label_set.specs.declared.texts.Pair.{Pair}
 use Rattle.label_conflict.specs.Merging.{bears, names_of, exported_names, free_name, settled}
 use Rattle.label_conflict.specs.Names.{is_among, AreNames, under, bare}
 use Rattle.label_conflict.proofs.FreeLemmas.{free_name_is_free}
-use Rattle.label_conflict.proofs.LentLemmas.{settle_next}
+use Rattle.label_conflict.proofs.BorrowedLemmas.{settle_next}
 
 abbrev same_text : Bor (List ℕ) → Bor (List ℕ) → Bool
 same_text x y = bytes_eq x.now y.now

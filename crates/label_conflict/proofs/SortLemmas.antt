@@ -6,7 +6,7 @@ use Rattle.std.specs.List.Sorted.{IsPermutation, IsSorted}
 use Rattle.std.specs.Str.{bytes_eq}
 use Rattle.std.proofs.lemmas.List.{nil_from_length}
 use Rattle.std.proofs.lemmas.List.Sorted.{IsPermutation-map}
-use Rattle.label_set.specs.Lent.{pair_of}
+use Rattle.label_set.specs.Borrowed.{pair_of}
 use Rattle.label_set.specs.Sets.{IsSet}
 use Rattle.label_set.specs.SetText.{metric_label}
 use Rattle.label_set.specs.declared.labels.Label.{Label}
@@ -14,7 +14,7 @@ use Rattle.label_set.specs.declared.texts.Pair.{Pair}
 use Rattle.label_conflict.specs.Orders.{by_name}
 use Rattle.label_conflict.specs.Merging.{bears, joined, merged, names_of}
 use Rattle.label_conflict.proofs.JoinLemmas.{differ_from_names, merged_is, merged_set}
-use Rattle.label_conflict.proofs.LentLemmas.{sorted_from}
+use Rattle.label_conflict.proofs.BorrowedLemmas.{sorted_from}
 
 module _ (name : List ℕ) (exposed target : List Pair) (honor : Bool) (d : IsDistinct bytes_eq (names_of exposed)) (t : IsSet target)
     (e : bears exposed metric_label ≡ false) (u : bears target metric_label ≡ false) (labels sorted : List Label)

@@ -6,7 +6,7 @@ use Rattle.std.specs.Str.{bytes_eq}
 use Rattle.label_set.specs.declared.texts.Pair.{Pair}
 use Rattle.label_conflict.specs.Merging.{bears}
 
--- a name is among those that are lent
+-- a name is among those that are borrowed
 abbrev pub is_among : List (Bor (List ℕ)) → List ℕ → Bool
 is_among names name = list_any (λ (n : Bor (List ℕ)). bytes_eq name n.now) names
 

@@ -11,5 +11,5 @@ mod sample;
 mod target;
 
 pub use free::always_free;
-pub use sample::{merge, merge_lent};
-pub use target::{LentTarget, labels_in};
+pub use sample::{merge, merge_borrowed};
+pub use target::{BorrowedTarget, labels_in};

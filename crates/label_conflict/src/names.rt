@@ -1,6 +1,6 @@
 //! Labels whose names are looked up.
 ghost use Rattle.std.specs.Prelude.{◌≡◌, map, IfOk};
-ghost use Rattle.label_set.specs.Lent.{pair_of};
+ghost use Rattle.label_set.specs.Borrowed.{pair_of};
 ghost use Rattle.label_conflict.specs.Merging.{bears};
 ghost use Rattle.label_conflict.specs.Names.{AreNames};
 
@@ -26,7 +26,7 @@ impl<'l, 'a> Model for Names<'l, 'a> {
     ghost Value = { List Pair };
 
     ghost use Rattle.std.specs.Prelude.{map, IfSome};
-    ghost use Rattle.label_set.specs.Lent.{pair_of};
+    ghost use Rattle.label_set.specs.Borrowed.{pair_of};
     ghost use Rattle.label_conflict.specs.Names.{AreNames};
 
     ghost view = { λ n. map pair_of n.labels.now };

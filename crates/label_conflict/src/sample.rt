@@ -2,7 +2,7 @@
 ghost use Rattle.std.specs.Prelude.{◌≡◌, ◌++◌, [], map, false, true, IfOk};
 ghost use Rattle.std.specs.List.{IsDistinct};
 ghost use Rattle.std.specs.Str.{bytes_eq};
-ghost use Rattle.label_set.specs.Lent.{pair_of};
+ghost use Rattle.label_set.specs.Borrowed.{pair_of};
 ghost use Rattle.label_set.specs.SetText.{metric_label};
 ghost use Rattle.label_conflict.specs.Merging.{bears, names_of, name_label, apart_from, settled, joined, merged};
 ghost use Rattle.label_set.specs.Lasts.{with_labels};
@@ -11,8 +11,8 @@ use crate::gather::{
     conflicts, new_names, push_apart, push_list, push_name, push_valued, renamed, sort_by_name,
 };
 use crate::names::Names;
-use crate::target::{LentTarget, labels_in};
-use label_set::{Label, LabelSet, NoMemory, Pair, lent};
+use crate::target::{BorrowedTarget, labels_in};
+use label_set::{Label, LabelSet, NoMemory, Pair, borrowed};
 use std::alloc::Global;
 
 /// Room for the labels of a line and a target, and the metric name.
@@ -79,7 +79,7 @@ fn settled_set(
 ///
 /// # Errors
 ///
-/// Only want of memory refuses, and what was lent stays as it was.
+/// The only error is out of memory, and what was borrowed stays as it was.
 ///
 /// # Example
 ///
@@ -96,22 +96,22 @@ pub fn merge(
     requires no_name_in_target { bears target.now metric_label ≡ false }
     ensures merged { IfOk result (λ s. s ≡ merged name.now exposed.now target.now honor) }
 {
-    let exposed = lent(alloc, exposed)?;
+    let exposed = borrowed(alloc, exposed)?;
     let labels = labels_in(alloc, target)?;
-    let target = LentTarget::of(alloc, labels.as_slice())?;
-    merge_lent(alloc, name, exposed.as_slice(), &target, honor)
+    let target = BorrowedTarget::of(alloc, labels.as_slice())?;
+    merge_borrowed(alloc, name, exposed.as_slice(), &target, honor)
 }
 
-/// The set that `merge` gives, of exposed labels and a target that are lent.
+/// The set that `merge` gives, of exposed labels and a target that are borrowed.
 ///
 /// # Errors
 ///
-/// Only want of memory refuses.
-pub fn merge_lent<'a>(
+/// The only error is out of memory.
+pub fn merge_borrowed<'a>(
     alloc: Global,
     name: &'a str,
     exposed: &[Label<'a>],
-    target: &LentTarget<'_, 'a>,
+    target: &BorrowedTarget<'_, 'a>,
     honor: bool,
 ) -> Result<LabelSet, NoMemory>
     requires names_differ { IsDistinct bytes_eq (names_of (map pair_of exposed.now)) }

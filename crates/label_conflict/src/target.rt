@@ -1,6 +1,6 @@
-//! The labels of a target, lent to the lines of a body.
+//! The labels of a target, borrowed to the lines of a body.
 ghost use Rattle.std.specs.Prelude.{◌≡◌, map, length, IfOk};
-ghost use Rattle.label_set.specs.Lent.{pair_of};
+ghost use Rattle.label_set.specs.Borrowed.{pair_of};
 ghost use Rattle.label_set.specs.Sets.{IsSet};
 ghost use Rattle.label_conflict.specs.Merging.{bears};
 
@@ -12,11 +12,11 @@ use std::marker::Model;
 
 /// The labels of a target, looked up by name: made once for all lines of a body. Contracts see the list of its labels.
 #[derive(Drop)]
-pub struct LentTarget<'l, 'a> {
+pub struct BorrowedTarget<'l, 'a> {
     names: Names<'l, 'a>,
 }
 
-impl<'l, 'a> Model for LentTarget<'l, 'a> {
+impl<'l, 'a> Model for BorrowedTarget<'l, 'a> {
     ghost use Rattle.std.specs.Prelude.{List};
     ghost use Rattle.label_set.specs.declared.texts.Pair.{Pair};
 
@@ -29,11 +29,11 @@ impl<'l, 'a> Model for LentTarget<'l, 'a> {
     ghost invariant = { λ t. IsSet t.names };
 }
 
-/// The labels of a set, lent.
+/// The labels of a set, borrowed.
 ///
 /// # Errors
 ///
-/// Only want of memory refuses.
+/// The only error is out of memory.
 pub fn labels_in<'a>(alloc: Global, set: &'a LabelSet) -> Result<Vec<Label<'a>>, NoMemory>
     ensures labels { IfOk result (λ v. map pair_of v.items ≡ set.now) }
     ensures set { IfOk result (λ v. IsSet (map pair_of v.items)) }
@@ -43,17 +43,17 @@ pub fn labels_in<'a>(alloc: Global, set: &'a LabelSet) -> Result<Vec<Label<'a>>,
     Ok(labels)
 }
 
-impl<'l, 'a> LentTarget<'l, 'a> {
+impl<'l, 'a> BorrowedTarget<'l, 'a> {
     /// A target with these labels, which are a set.
     ///
     /// # Errors
     ///
-    /// Only want of memory refuses; where the labels are few, none is taken.
-    pub fn of(alloc: Global, labels: &'l [Label<'a>]) -> Result<LentTarget<'l, 'a>, NoMemory>
+    /// The only error is out of memory; where the labels are few, none is taken.
+    pub fn of(alloc: Global, labels: &'l [Label<'a>]) -> Result<BorrowedTarget<'l, 'a>, NoMemory>
         requires { IsSet (map pair_of labels.now) }
         ensures { IfOk result (λ t. t ≡ map pair_of labels.now) }
     {
-        Ok(LentTarget {
+        Ok(BorrowedTarget {
             names: Names::of(alloc, labels)?,
         })
     }

@@ -3,7 +3,7 @@ use Rattle.std.proofs.Common.{arith, ◌≡◌, ℕ, Bool, true, false, List, []
 use Rattle.std.proofs.Common.{get_or, drop, drop-cons, ◌+◌, ◌-◌, ◌==◌, take, add-one}
 use Rattle.std.proofs.lemmas.List.{take_rest, take_more}
 use Rattle.std.proofs.lemmas.Bool.Decides.{nat_tests}
-use Rattle.label_set.specs.Lent.{pair_of}
+use Rattle.label_set.specs.Borrowed.{pair_of}
 use Rattle.std.specs.Prelude.{map}
 use Rattle.label_set.specs.declared.ordered.Named.{Named}
 use Rattle.label_set.specs.Named.{named_pair}

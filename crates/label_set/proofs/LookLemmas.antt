@@ -20,7 +20,7 @@ use Rattle.label_set.proofs.SetLemmas.{with_label_is_set}
 use Rattle.label_set.specs.Lasts.{with_labels, some_label, named_first, lasts, is_before, leads, is_ordered}
 use Rattle.label_set.specs.declared.labels.Label.{Label}
 use Rattle.label_set.specs.declared.ordered.Named.{Named}
-use Rattle.label_set.specs.Lent.{pair_of}
+use Rattle.label_set.specs.Borrowed.{pair_of}
 use Rattle.label_set.specs.Named.{named_pair, name_cmp}
 
 -- the value of a name, or no bytes

@@ -20,7 +20,7 @@ use Rattle.label_set.proofs.SetLemmas.{with_label_is_set}
 use Rattle.label_set.specs.Lasts.{with_labels, some_label, named_first, lasts, is_before, leads, is_ordered}
 use Rattle.label_set.specs.declared.labels.Label.{Label}
 use Rattle.label_set.specs.declared.ordered.Named.{Named}
-use Rattle.label_set.specs.Lent.{pair_of}
+use Rattle.label_set.specs.Borrowed.{pair_of}
 use Rattle.label_set.specs.Named.{named_pair, name_cmp}
 use Rattle.label_set.proofs.LookLemmas.{look, IsAbsent, equal_test, not_greater, turned, turned_back, same_name, itself, look_absent, look_first, look_later, setting, look-with_labels, with_labels_is_set}
 

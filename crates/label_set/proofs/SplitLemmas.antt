@@ -8,7 +8,7 @@ use Rattle.std.proofs.lemmas.List.Elements.{All-head, All-tail, All-weaker, All-
 use Rattle.std.proofs.lemmas.Grind.{flat_map-append}
 use Rattle.std.proofs.lemmas.List.{map_more}
 use Rattle.label_set.specs.declared.labels.Label.{Label}
-use Rattle.label_set.specs.Lent.{pair_of}
+use Rattle.label_set.specs.Borrowed.{pair_of}
 use Rattle.label_set.specs.Bytes.{bytes_cmp}
 use Rattle.label_set.specs.Sets.{IsSet, below, above, with_label}
 use Rattle.label_set.specs.declared.texts.Pair.{Pair}

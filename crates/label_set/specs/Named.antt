@@ -4,7 +4,7 @@ use Rattle.std.specs.Cmp.{IsTotalOrder, on_total}
 use Rattle.std.specs.Cmp.Lexicographic.{nat_list_cmp_total}
 use Rattle.label_set.specs.Bytes.{bytes_cmp}
 use Rattle.label_set.specs.declared.texts.Pair.{Pair}
-use Rattle.label_set.specs.Lent.{pair_of}
+use Rattle.label_set.specs.Borrowed.{pair_of}
 use Rattle.label_set.specs.declared.ordered.Named.{Named}
 
 abbrev pub named_pair : Named → Pair

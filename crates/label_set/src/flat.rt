@@ -2,7 +2,7 @@
 ghost use Rattle.std.specs.Prelude.{◌≡◌, ◌++◌, ◌<◌, map, length, IfOk, OnOk};
 ghost use Rattle.label_set.specs.Sets.{below, above, pair_cmp, set_cmp};
 ghost use Rattle.label_set.specs.Flat.{flat, flat_label, first_label, labels_of, AreLabels, IsLabel, IsFlat, IsFlatSet};
-ghost use Rattle.label_set.specs.Lent.{pair_of};
+ghost use Rattle.label_set.specs.Borrowed.{pair_of};
 
 use crate::labels::{Label, split_first, split_first_bytes};
 use crate::texts::NoMemory;

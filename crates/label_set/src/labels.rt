@@ -2,13 +2,13 @@
 ghost use Rattle.std.specs.Prelude.{◌≡◌, ◌<◌, ◌≤◌, ◌∷◌, ◌++◌, length, map, IfOk};
 ghost use Rattle.std.specs.Str.{IsUtf8};
 ghost use Rattle.label_set.specs.Flat.{name_len, value_len, labels_of, first_label, flat_label, IsLabel, IsFlat};
-ghost use Rattle.label_set.specs.Lent.{pair_of};
+ghost use Rattle.label_set.specs.Borrowed.{pair_of};
 
 use crate::texts::{NoMemory, Pair};
 use std::alloc::Global;
 use std::marker::Model;
 
-/// A label that is lent: its name and its value.
+/// A label that is borrowed: its name and its value.
 #[derive(Clone, Copy, Debug)]
 pub struct Label<'a> {
     pub name: &'a str,
@@ -16,7 +16,7 @@ pub struct Label<'a> {
 }
 
 impl Pair {
-    /// The label, lent.
+    /// The label, borrowed.
     pub fn label(&self) -> Label<'_>
         ensures { pair_of result ≡ self.now }
     {
@@ -27,8 +27,8 @@ impl Pair {
     }
 }
 
-/// Labels lent of those that are owned.
-pub fn lent(alloc: Global, pairs: &[Pair]) -> Result<Vec<Label<'_>>, NoMemory>
+/// Labels borrowed of those that are owned.
+pub fn borrowed(alloc: Global, pairs: &[Pair]) -> Result<Vec<Label<'_>>, NoMemory>
     ensures { IfOk result (λ v. map pair_of v.items ≡ pairs.now) }
 {
     let mut labels = Vec::with_capacity(alloc, pairs.len())?;
@@ -116,7 +116,7 @@ pub(crate) fn split_first_bytes(bytes: &[u8]) -> (&[u8], &[u8])
 
 impl<'a> Iterator for Labels<'a> {
     ghost use Rattle.std.specs.Iterator.{YieldsFirstBy, item_count};
-    ghost use Rattle.label_set.specs.Lent.{pair_of};
+    ghost use Rattle.label_set.specs.Borrowed.{pair_of};
 
     type Item = Label<'a>;
 
@@ -137,7 +137,7 @@ impl<'a> Iterator for Labels<'a> {
 impl<'a> Labels<'a> {
     ghost use Rattle.std.specs.Prelude.{◌≡◌, option_map, slice_get};
     ghost use Rattle.label_set.specs.Sets.{value_of};
-    ghost use Rattle.label_set.specs.Lent.{pair_of};
+    ghost use Rattle.label_set.specs.Borrowed.{pair_of};
 
     /// The same labels once more.
     pub fn again(&self) -> Labels<'a>

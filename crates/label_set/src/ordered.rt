@@ -1,6 +1,6 @@
 //! Labels in any order, and those of them that make a set.
 ghost use Rattle.std.specs.Prelude.{◌≡◌, map, IfOk};
-ghost use Rattle.label_set.specs.Lent.{pair_of};
+ghost use Rattle.label_set.specs.Borrowed.{pair_of};
 ghost use Rattle.label_set.specs.Lasts as spec;
 ghost use Rattle.label_set.specs.Lasts.{lasts, named_first, Encodes};
 ghost use Rattle.label_set.specs.Named.{named_pair};

@@ -4,7 +4,7 @@ ghost use Rattle.std.specs.List.{list_any};
 ghost use Rattle.label_set.specs.Appends.{Appends};
 ghost use Rattle.label_set.specs.SetText.{is_special, escaped_byte, escaped, name_text, label_text, labels_after, other_labels, in_braces, braces_if_any, text_with_name, set_text};
 ghost use Rattle.label_set.specs.Sets.{value_of};
-ghost use Rattle.label_set.specs.Lent.{pair_of};
+ghost use Rattle.label_set.specs.Borrowed.{pair_of};
 
 use crate::labels::{Label, Labels};
 use crate::names::{is_label_name, is_metric_name};

@@ -114,7 +114,7 @@ HasStarted (Ok (Started k)) = ⊤
 HasStarted (Ok Forced) = ⊥
 HasStarted (Err e) = ⊥
 
--- the answer is what was said; a want of memory stands only for a scrape that would have started
+-- the answer is what was said; out of memory stands only for a scrape that would have started
 abbrev pub Tells : Result Began TickRefusal → Result Began TickRefusal → Type 0
 Tells (Ok b) said = said ≡ Ok b
 Tells (Err NoLife) said = said ≡ Err NoLife

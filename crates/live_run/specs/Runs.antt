@@ -72,7 +72,7 @@ pub record Wanted : Type 0 where
 abbrev pub wanted : List ℕ → ℕ → Bool → Wanted
 wanted file turns kept = record { file = file; turns = turns; kept = kept }
 
--- what it made of the objects that it was lent, and of those that it was given
+-- what it made of the objects that it borrowed, and of those that it was given
 pub record Touched : Type 0 where
   pub shelf : Use ShelfSeen
   pub out : Use SinkSeen

@@ -3,7 +3,7 @@ use Rattle.std.specs.Prelude.{◌≡◌, Option, Some, None, Result, MatchResult
 use Rattle.om_reader.specs.declared.faults.Fault.{Fault}
 use Rattle.om_reader.specs.declared.faults.Fault.TheVariants.{Faulty, NoMemory}
 
--- it is faulty where nothing was said, and want of memory says nothing
+-- it is faulty where nothing was said, and out of memory says nothing
 abbrev pub FaultIs : {A : Type 0} → Fault → Option A → Type 0
 FaultIs Faulty said = said ≡ None
 FaultIs NoMemory said = Unit {0}

@@ -10,7 +10,7 @@ ghost use Rattle.om_reader.specs.Reads.{AddsLabel, AddsLabels, HasLabels, IsLabe
 
 use crate::faults::Fault;
 use crate::parts::{Part, mark_at, text_at, word_at};
-use crate::repeats::{LentName, has_metric_name, names_differ};
+use crate::repeats::{BorrowedName, has_metric_name, names_differ};
 use crate::texts::is_written;
 use label_set::names::are_label_name;
 use std::alloc::Global;
@@ -19,7 +19,7 @@ use std::marker::Model;
 /// Room that is used again in each line: for the names of its labels, and for a text with its escapes resolved. Contracts see the names.
 #[derive(Drop)]
 pub struct Room<'b> {
-    names: Vec<LentName<'b>>,
+    names: Vec<BorrowedName<'b>>,
     text: Vec<u8>,
 }
 
@@ -97,7 +97,7 @@ fn push_label<'b>(text: &'b [u8], room: &mut Room<'b>) -> Result<&'b [u8], Fault
     match valued(name.bytes, quoted, &mut room.text) {
         Ok(rest) => {
             room.names.reserve(1)?;
-            room.names.push_reserved(LentName { bytes: name.bytes });
+            room.names.push_reserved(BorrowedName { bytes: name.bytes });
             Ok(rest)
         }
         Err(fault) => Err(fault),

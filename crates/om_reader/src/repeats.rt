@@ -12,11 +12,11 @@ use std::marker::Model;
 
 /// A label's name that borrows from a body. Contracts see its bytes.
 #[derive(Drop)]
-pub struct LentName<'b> {
+pub struct BorrowedName<'b> {
     pub bytes: &'b [u8],
 }
 
-impl<'b> Model for LentName<'b> {
+impl<'b> Model for BorrowedName<'b> {
     ghost use Rattle.std.specs.Prelude.{ℕ, List};
 
     ghost Value = { List ℕ };
@@ -28,7 +28,7 @@ impl<'b> Model for LentName<'b> {
 const FEW_NAMES: usize = 16;
 
 /// Whether no name is given twice.
-pub fn names_differ(alloc: Global, names: &[LentName<'_>]) -> Result<bool, NoMemory>
+pub fn names_differ(alloc: Global, names: &[BorrowedName<'_>]) -> Result<bool, NoMemory>
     ensures { IfOk result (λ b. b ≡ spec.names_differ_from [] names.now) }
 {
     if names.len() <= FEW_NAMES {
@@ -38,7 +38,7 @@ pub fn names_differ(alloc: Global, names: &[LentName<'_>]) -> Result<bool, NoMem
     }
 }
 
-fn few_differ(names: &[LentName<'_>]) -> bool
+fn few_differ(names: &[BorrowedName<'_>]) -> bool
     ensures { result ≡ spec.names_differ_from [] names.now }
 {
     for (i, name) in names.iter().enumerate() {
@@ -50,14 +50,14 @@ fn few_differ(names: &[LentName<'_>]) -> bool
 }
 
 /// Whether a name is among some.
-fn has_name(names: &[LentName<'_>], sought: &[u8]) -> bool
+fn has_name(names: &[BorrowedName<'_>], sought: &[u8]) -> bool
     ensures { result ≡ list_any (bytes_eq sought.now) names.now }
 {
     names.iter().any(|name| sought == name.bytes)
 }
 
 /// Whether `__name__` is among some names.
-pub fn has_metric_name(names: &[LentName<'_>]) -> bool
+pub fn has_metric_name(names: &[BorrowedName<'_>]) -> bool
     ensures { result ≡ list_any (λ (n : List ℕ). bytes_eq n metric_label) names.now }
 {
     names
@@ -65,7 +65,7 @@ pub fn has_metric_name(names: &[LentName<'_>]) -> bool
         .any(|name| name.bytes == b"__name__".as_slice())
 }
 
-fn many_differ(alloc: Global, names: &[LentName<'_>]) -> Result<bool, NoMemory>
+fn many_differ(alloc: Global, names: &[BorrowedName<'_>]) -> Result<bool, NoMemory>
     ensures { IfOk result (λ b. b ≡ spec.names_differ_from [] names.now) }
 {
     let mut seen = IndexSet::new(alloc);

@@ -10,7 +10,7 @@ ghost use Rattle.relabel.specs.Built.{AreTemplatesOf};
 ghost use Rattle.relabel.specs.Effects.{template_of, label_of, option_list};
 
 use crate::joined::{joined, shard, value_of};
-use label_set::{Label, LabelSet, Name, NoMemory, Pair, is_label_name, lent};
+use label_set::{Label, LabelSet, Name, NoMemory, Pair, borrowed, is_label_name};
 use pattern_rule::{Filling, Matching};
 use rule_conf::RuleConf;
 use std::alloc::Global;
@@ -164,7 +164,7 @@ pub fn map_labels(
     ensures same { matching.new ≡ matching.old }
 {
     let given = all_renamed(alloc, matching, name, &set)?;
-    let labels = lent(alloc, given.as_slice())?;
+    let labels = borrowed(alloc, given.as_slice())?;
     set.with_all(alloc, labels.as_slice())
 }
 

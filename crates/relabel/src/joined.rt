@@ -64,7 +64,7 @@ pub fn shard(alloc: Global, text: &str, modulus: u64) -> Result<Name, NoMemory>
     })
 }
 
-/// The joined text of a rule. One source is lent as it stands, and takes no memory.
+/// The joined text of a rule. One source is borrowed as it stands, and takes no memory.
 #[tactic(auto, unfolding(crate::specs::Relabelling::joined_text))]
 pub fn joined<'a>(
     alloc: Global,

@@ -1,7 +1,7 @@
 //! `labelkeep` and `labeldrop`: the labels that stay.
 ghost use Rattle.std.specs.Prelude.{◌≡◌, filter, map, IfOk, OnOk};
 ghost use Rattle.std.specs.List.{list_all};
-ghost use Rattle.label_set.specs.Lent.{pair_of};
+ghost use Rattle.label_set.specs.Borrowed.{pair_of};
 ghost use Rattle.label_set.specs.Sets.{IsSet};
 ghost use Rattle.relabel.specs.Effects.{stays};
 

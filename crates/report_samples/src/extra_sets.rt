@@ -38,7 +38,7 @@ impl ExtraSets {
     ///
     /// # Errors
     ///
-    /// Only want of memory refuses.
+    /// The only error is out of memory.
     pub fn of(alloc: Global, target: &LabelSet) -> Result<ExtraSets, NoMemory>
         ensures { IfOk result (λ s. s ≡ target.now) }
     {
@@ -54,7 +54,7 @@ impl ExtraSets {
     ///
     /// # Errors
     ///
-    /// Only want of memory refuses.
+    /// The only error is out of memory.
     pub fn push_reports(
         &self,
         alloc: Global,
@@ -79,7 +79,7 @@ impl ExtraSets {
     ///
     /// # Errors
     ///
-    /// Only want of memory refuses.
+    /// The only error is out of memory.
     pub fn push_markers(&self, to: &mut Vec<Entry>, life: u64, moment: i64) -> Result<(), NoMemory>
         ensures { IfOk result (λ _. to.new.items ≡ to.old.items ++ markers.extra_markers life self.now moment) }
     {

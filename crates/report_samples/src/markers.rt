@@ -9,7 +9,7 @@ use label_set::{LabelSet, NoMemory};
 ///
 /// # Errors
 ///
-/// Only want of memory refuses.
+/// The only error is out of memory.
 pub fn stale_entry(life: u64, moment: i64, set: &LabelSet) -> Result<Entry, NoMemory>
     ensures { IfOk result (λ e. e ≡ spec.stale_entry life moment set.now) }
 {

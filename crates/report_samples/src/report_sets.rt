@@ -56,7 +56,7 @@ impl ReportSets {
     ///
     /// # Errors
     ///
-    /// Only want of memory refuses.
+    /// The only error is out of memory.
     pub fn of(alloc: Global, target: LabelSet, extra: bool) -> Result<ReportSets, NoMemory>
         ensures { IfOk result (λ s. s ≡ target) }
     {
@@ -83,7 +83,7 @@ impl ReportSets {
     ///
     /// # Errors
     ///
-    /// Only want of memory refuses.
+    /// The only error is out of memory.
     pub fn reports(
         &self,
         alloc: Global,
@@ -153,7 +153,7 @@ impl ReportSets {
     ///
     /// # Errors
     ///
-    /// Only want of memory refuses.
+    /// The only error is out of memory.
     pub fn markers(
         &self,
         alloc: Global,

@@ -89,7 +89,7 @@ fn report_name(report: Report) -> &'static str
 ///
 /// # Errors
 ///
-/// Only want of memory refuses.
+/// The only error is out of memory.
 pub fn report_set(alloc: Global, target: &LabelSet, report: Report) -> Result<LabelSet, NoMemory>
     ensures { IfOk result (λ s. s ≡ spec.report_set target.now report) }
 {
@@ -125,7 +125,7 @@ pub(crate) fn size_value(alloc: Global, size: i64) -> Result<ValueText, NoMemory
 ///
 /// # Errors
 ///
-/// Only want of memory refuses.
+/// The only error is out of memory.
 pub fn reports(
     alloc: Global,
     life: u64,

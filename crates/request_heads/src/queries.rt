@@ -152,7 +152,7 @@ fn with_part(
 ///
 /// # Errors
 ///
-/// Only want of memory refuses.
+/// The only error is out of memory.
 pub fn selectors_of(alloc: Global, query: &[u8]) -> Result<Option<Vec<String>>, AllocError>
     ensures { IfOk result (λ o. option_map spec.texts_of o ≡ spec.selectors query.now) }
 {

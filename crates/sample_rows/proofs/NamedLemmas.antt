@@ -14,7 +14,7 @@ value-bears (p ∷ ps) name =
     (λ (e : bytes_eq p.name name ≡ false). rw e (value-bears ps name))
     (cases_Bool (bytes_eq p.name name))
 
--- and a value that is lent says the same
-pub lent-bears : {V : Type 0} (f : V → List ℕ) (r : Option V) (ps : List Pair) (name : List ℕ) → option_map f r ≡ value_of ps name → is_some r ≡ bears ps name
-lent-bears f None ps name e = ap is_some e ∙ value-bears ps name
-lent-bears f (Some v) ps name e = ap is_some e ∙ value-bears ps name
+-- and a value that is borrowed says the same
+pub borrowed-bears : {V : Type 0} (f : V → List ℕ) (r : Option V) (ps : List Pair) (name : List ℕ) → option_map f r ≡ value_of ps name → is_some r ≡ bears ps name
+borrowed-bears f None ps name e = ap is_some e ∙ value-bears ps name
+borrowed-bears f (Some v) ps name e = ap is_some e ∙ value-bears ps name

@@ -193,7 +193,7 @@ pub fn form_of(reply: &Reply) -> Form
 ///
 /// # Errors
 ///
-/// Only want of memory refuses.
+/// The only error is out of memory.
 #[tactic(auto, unfolding(crate::specs::Outcomes::outcome, crate::specs::Outcomes::runs))]
 pub fn rows<L: Ledger>(
     alloc: Global,

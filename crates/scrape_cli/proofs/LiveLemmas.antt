@@ -1,4 +1,4 @@
--- How a call ends that does nothing for want of memory, and what each other one keeps.
+-- How a call ends that does nothing since memory ran out, and what each other one keeps.
 use Rattle.std.proofs.Common.{◌≡◌, ◌≤◌, ℕ, List, refl, ap, arith}
 use Rattle.std.specs.Prelude.{Option, Some, None, IfSome, Result, Ok, Err}
 use Rattle.command_words.specs.Askings.{Running}

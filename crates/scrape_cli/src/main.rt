@@ -25,7 +25,7 @@ use tool::tool;
 /// Where a run writes its journal.
 const TRAIL: &str = "scrape.journal";
 
-/// The status for want of memory.
+/// The status where memory runs out.
 const NO_MEMORY: u8 = 8;
 
 /// What fetches over HTTP, by the system's clock.

@@ -95,7 +95,7 @@ pub record IsUncounted (c : Call) : Type 0 where
   pub found : ¬ Rose c.shelf.before.misses c.shelf.after.misses
   pub short : ¬ Rose c.shelf.before.overs c.shelf.after.overs
 
--- a status, or want of memory in its place
+-- a status, or out of memory in its place
 abbrev pub IsFreely : ℕ → ℕ → Type 0
 IsFreely due status = (status ≡ due) ⊎ (status ≡ 8)
 
@@ -107,7 +107,7 @@ refused_at Convert = 13
 refused_at (At i) = 5
 
 -- which status is due: where the words are others; where the selector is none; where the file is told and reading and writing don't fail; where nothing
--- is counted. Want of memory alone may stand in its place
+-- is counted. Out of memory alone may stand in its place
 pub record Complete (status : ℕ) (c : Call) : Type 0 where
   pub words : asked_in c.words ≡ None → IsFreely 2 status
   pub selector : (a : Asking) → asked_in c.words ≡ Some (File a) → ¬ IsReady a.command → IsFreely 12 status

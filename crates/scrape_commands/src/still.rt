@@ -108,7 +108,7 @@ pub fn status_at(end: &Result<(), Refusal>) -> u8
 /// | status | comes |
 /// |---|---|
 /// | 0 | `replay`: the script was replayed, or with `--cut` the events before the first that isn't read, and the whole text of its book, with verdicts where `--kept` was given, added to `out`; `check`: the configuration has no fault, and the line with the number of its jobs was added; `convert`: each line was read, and the body of the text exposition format with the same rows added; `at`: the script was replayed, and a line added for each series that the selector sees at the moment; `synth`: the script of the numbers was made and replayed, and the summary of its book added, with the number of its relabelling runs |
-/// | 2 | exactly where the words are none of these commands', but for want of memory |
+/// | 2 | exactly where the words are none of these commands', unless memory runs out |
 /// | 3 | the shelf has no file of the name, and counted that |
 /// | 4 | `check`: the configuration has a fault, which the message names |
 /// | 5 | `replay`, `at`: the file has the text of no journal, for the fault that the message names, with its offset; with `--cut`: it doesn't begin with the first line of a journal |

@@ -75,12 +75,12 @@ with_patterns (Ok conf) = unless_fault (option_map (λ place. Rule place) (jobs_
 unfoldable pub whole_reading : List ℕ → Result Conf ConfFault
 whole_reading bytes = with_patterns (reading bytes)
 
--- want of memory, or the fault of the first pattern that isn't one
+-- out of memory, or the fault of the first pattern that isn't one
 abbrev pub IsPatternCause : Option (List ℕ) → ConfError → Type 0
 IsPatternCause first (Bad fault) = option_map (λ place. Rule place) first ≡ Some fault
 IsPatternCause first NoMemory = ⊤
 
--- what a refusal says: want of memory, or the fault of the reading
+-- what a refusal says: out of memory, or the fault of the reading
 abbrev pub IsCause : {A : Type 0} → Result A ConfFault → ConfError → Type 0
 IsCause said (Bad fault) = said ≡ Err fault
 IsCause said NoMemory = ⊤

@@ -21,10 +21,12 @@ use life_roll::{JobNames, Moment};
 use scrape_config::ConfError;
 use scrape_machine::Answer;
 use scrape_machine::lives::Life;
-use scrape_steps::acts::{Fate, meet_all};
+use scrape_steps::acts::{Transition, apply_all};
 use scrape_steps::closings::push_endings;
 use scrape_steps::concerned::{Lives, drop_closed};
-use scrape_steps::reloads::{births_of, count_closed, differences_of, fates_of, held_of, names_of};
+use scrape_steps::reloads::{
+    births_of, count_closed, differences_of, held_of, names_of, transitions_of,
+};
 use std::alloc::Global;
 use std::sync::ledger::Ledger;
 
@@ -34,7 +36,7 @@ const LIVES: u64 = 1 << 32;
 /// A change of the configuration in force: what becomes of each open life, and the lives that begin.
 #[derive(Drop)]
 pub struct Change {
-    fates: Vec<Fate>,
+    transitions: Vec<Transition>,
     begun: Vec<Life>,
 }
 
@@ -46,18 +48,18 @@ pub struct Synced {
 }
 
 /// What becomes of each life that is concerned, where some jobs give way to others; nothing changes yet.
-fn fates_to(
+fn transitions_to(
     alloc: Global,
     olds: &[InForce],
     names: &JobNames,
     news: &[InForce],
     lives: &Lives<'_>,
-) -> Result<Vec<Fate>, NoMemory>
-    ensures { IfOk result (λ v. v.items ≡ map (plan.fate_of names.now news.now (map (spec.difference olds.now) news.now)) (concerned.concerned lives.now)) }
+) -> Result<Vec<Transition>, NoMemory>
+    ensures { IfOk result (λ v. v.items ≡ map (plan.transition_of names.now news.now (map (spec.difference olds.now) news.now)) (concerned.concerned lives.now)) }
 {
     let old_names = names_of(alloc, olds)?;
     let differences = differences_of(alloc, &old_names, olds, news)?;
-    fates_of(alloc, names, news, &differences, lives)
+    transitions_of(alloc, names, news, &differences, lives)
 }
 
 /// What a change at a moment from some jobs to others comes to; nothing changes yet.
@@ -70,19 +72,19 @@ fn change_to(
 ) -> Result<Change, NoMemory>
     requires few { length lives.now.all < 2 ^ 32 }
     requires opens { lives.now.moment ≡ None }
-    ensures each { IfOk result (λ c. length c.fates.items ≡ length (filter lives_of.is_open lives.now.all)) }
-    ensures lives { IfOk result (λ c. plan.after_each moment (concerned.all_fates lives_of.is_open c.fates.items lives.now.all) lives.now.all
+    ensures each { IfOk result (λ c. length c.transitions.items ≡ length (filter lives_of.is_open lives.now.all)) }
+    ensures lives { IfOk result (λ c. plan.after_each moment (concerned.all_transitions lives_of.is_open c.transitions.items lives.now.all) lives.now.all
         ≡ reloads.reload_lives moment news.now (spec.world olds.now lives.now.all [])) }
-    ensures closed { IfOk result (λ c. length (filter plan.closes c.fates.items)
+    ensures closed { IfOk result (λ c. length (filter plan.closes c.transitions.items)
         ≡ reloads.closed_by moment news.now (spec.world olds.now lives.now.all [])) }
     ensures begun { IfOk result (λ c. c.begun.items ≡ reloads.reload_births moment news.now (spec.world olds.now lives.now.all [])) }
 {
     let names = names_of(alloc, news)?;
-    let fates = fates_to(alloc, olds, &names, news, lives)?;
-    let held = held_of(alloc, &names, &fates, lives)?;
+    let transitions = transitions_to(alloc, olds, &names, news, lives)?;
+    let held = held_of(alloc, &names, &transitions, lives)?;
     let first = lives.len() as u64;
     let begun = births_of(alloc, moment, first, &names, news, &held)?;
-    Ok(Change { fates, begun })
+    Ok(Change { transitions, begun })
 }
 
 /// Adds lives, into room that was made before.
@@ -125,19 +127,19 @@ fn reload(
 {
     let lives = Lives::open(&state.lives, &state.open_lives);
     let change = change_to(alloc, moment, &state.jobs, &lives, &jobs)?;
-    let (fates, begun) = (change.fates, change.begun);
+    let (transitions, begun) = (change.transitions, change.begun);
     let first = state.lives.len();
     if (first as u64).saturating_add(begun.len() as u64) >= LIVES {
         return Err(NoMemory);
     }
     let synced = Synced {
-        closed: count_closed(&fates) as u32,
+        closed: count_closed(&transitions) as u32,
         begun: begun.len() as u32,
     };
     state.lives.reserve(begun.len())?;
     state.open_lives.reserve(begun.len())?;
     state.endings.reserve(state.open_lives.len())?;
-    meet_all(&mut state.lives, &state.open_lives, moment, fates);
+    apply_all(&mut state.lives, &state.open_lives, moment, transitions);
     push_endings(&mut state.endings, &state.open_lives, &state.lives);
     drop_closed(&mut state.open_lives, &state.lives);
     push_places(&mut state.open_lives, first, begun.len());

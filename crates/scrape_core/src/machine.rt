@@ -147,7 +147,7 @@ impl Core {
     }
 
     /// Takes an event: the answer is the defined one after the journal, which then ends with the event, and the book is that of the new journal.
-    /// After a refusal for want of memory the event is dropped and the core as before.
+    /// Where memory runs out, the event is dropped and the core is as before.
     /// The moment is at least `now`, and the event keeps the limits of a journal's events.
     ///
     /// This is `step` for who carries the journal on: what the laws say of a journal they say of each, so a caller that promises them cites
@@ -174,7 +174,7 @@ impl Core {
 
     /// Takes the finish of a ticket after so many milliseconds, whose reply is read already, as `take` takes it: with the same answer, journal and
     /// book. A finish carries no moment, so it may always follow.
-    /// After a refusal for want of memory the reply is dropped and the core as before.
+    /// Where memory runs out, the reply is dropped and the core is as before.
     pub fn take_read<L: Ledger>(
         &mut self,
         alloc: Global,

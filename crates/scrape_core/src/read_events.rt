@@ -46,7 +46,7 @@ impl ReadEvent {
     ///
     /// # Errors
     ///
-    /// Only want of memory refuses; the event is then let go.
+    /// The only error is out of memory; the event is then let go.
     pub fn of(alloc: Global, event: Event) -> Result<ReadEvent, NoMemory>
         ensures { IfOk result (λ e. e ≡ event) }
     {

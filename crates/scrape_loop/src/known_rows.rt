@@ -14,7 +14,7 @@ ghost use Rattle.scrape_loop.specs.Texts as spec;
 use crate::read_reply::{Page, ReadReply};
 use crate::scrape_parts::fault_in;
 use expo_reader::{ReadBody, SampleRow};
-use label_conflict::{LentTarget, labels_in};
+use label_conflict::{BorrowedTarget, labels_in};
 use label_set::{LabelSet, NoMemory, Steps};
 use relabel::{Rules, Runner};
 use sample_rows::{RowRules, Scrape, ScrapeFault, Sifted, failed, is_tracked, judged, row_set};
@@ -43,7 +43,7 @@ fn put_series<L: Ledger>(
     alloc: Global,
     rules: &RowRules,
     metric: &mut Runner<'_>,
-    target: &LentTarget<'_, '_>,
+    target: &BorrowedTarget<'_, '_>,
     row: &SampleRow<'_>,
     cache: &mut SeriesCache,
     steps: &mut Steps<L>,
@@ -73,7 +73,7 @@ fn put_shown<L: Ledger>(
     alloc: Global,
     rules: &RowRules,
     metric: &mut Runner<'_>,
-    target: &LentTarget<'_, '_>,
+    target: &BorrowedTarget<'_, '_>,
     row: &SampleRow<'_>,
     cache: &mut SeriesCache,
     steps: &mut Steps<L>,
@@ -101,7 +101,7 @@ fn show_row<L: Ledger>(
     alloc: Global,
     rules: &RowRules,
     metric: &mut Runner<'_>,
-    target: &LentTarget<'_, '_>,
+    target: &BorrowedTarget<'_, '_>,
     row: &SampleRow<'_>,
     hint: usize,
     cache: &mut SeriesCache,
@@ -157,13 +157,22 @@ fn sift_known<L: Ledger>(
 {
     let mut runner = terms.metric.runner(alloc)?;
     let labels = labels_in(alloc, terms.target)?;
-    let lent = LentTarget::of(alloc, labels.as_slice())?;
+    let borrowed = BorrowedTarget::of(alloc, labels.as_slice())?;
     let mut sifted = Sifted::new(alloc);
     for place in 0..body.len() {
         let row = body.row(place);
         let hint = hint_at(places, place);
         let rules = terms.rules;
-        let series = show_row(alloc, rules, &mut runner, &lent, &row, hint, cache, steps)?;
+        let series = show_row(
+            alloc,
+            rules,
+            &mut runner,
+            &borrowed,
+            &row,
+            hint,
+            cache,
+            steps,
+        )?;
         let number = place as u64;
         sifted.take(alloc, terms.rules, number, &row, series)?;
     }
@@ -215,7 +224,7 @@ fn of_page<L: Ledger>(
 ///
 /// # Errors
 ///
-/// Only want of memory refuses; what was put and shown can then be taken back.
+/// The only error is out of memory; what was put and shown can then be taken back.
 #[tactic(auto, unfolding(sample_rows::specs::Outcomes::outcome))]
 fn known_rows<L: Ledger>(
     alloc: Global,
@@ -244,7 +253,7 @@ fn known_rows<L: Ledger>(
 ///
 /// # Errors
 ///
-/// Only want of memory refuses; the cache is then as before.
+/// The only error is out of memory; the cache is then as before.
 pub fn shown_rows<L: Ledger>(
     alloc: Global,
     terms: &ScrapeRules<'_>,

@@ -107,7 +107,7 @@ impl LifeState {
     ///
     /// # Errors
     ///
-    /// Only want of memory refuses.
+    /// The only error is out of memory.
     pub fn new(
         alloc: Global,
         life: u64,
@@ -192,7 +192,7 @@ impl LifeState {
     ///
     /// # Errors
     ///
-    /// Only want of memory refuses.
+    /// The only error is out of memory.
     pub fn closing(
         &self,
         alloc: Global,
@@ -232,7 +232,7 @@ impl LifeState {
     ///
     /// # Errors
     ///
-    /// Only want of memory refuses; the state and the book, its room too, are then as before.
+    /// The only error is out of memory; the state and the book, its room too, are then as before.
     pub fn count<L: Ledger>(
         &mut self,
         alloc: Global,
@@ -309,7 +309,7 @@ impl LifeState {
     ///
     /// # Errors
     ///
-    /// Only want of memory refuses.
+    /// The only error is out of memory.
     #[tactic(auto, using(crate::proofs::ForcedLemmas::gone_all))]
     pub fn force_entries(
         &self,

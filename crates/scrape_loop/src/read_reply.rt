@@ -133,7 +133,7 @@ impl ReadReply {
     ///
     /// # Errors
     ///
-    /// Only want of memory refuses; the reply is then let go.
+    /// The only error is out of memory; the reply is then let go.
     pub fn of(alloc: Global, reply: Reply) -> Result<ReadReply, NoMemory>
         ensures { IfOk result (λ r. r ≡ reply) }
     {

@@ -9,8 +9,8 @@ use Rattle.journal_text.specs.Lines.{number}
 use Rattle.end_of_run.specs.Endings.{ending_entries}
 use Rattle.label_set.specs.declared.texts.Pair.{Pair}
 use Rattle.jobs_in_force.specs.declared.jobs.InForce.{InForce}
-use Rattle.scrape_steps.specs.declared.acts.Fate.{Fate}
-use Rattle.scrape_steps.specs.declared.acts.Fate.TheVariants.{Stays}
+use Rattle.scrape_steps.specs.declared.acts.Transition.{Transition}
+use Rattle.scrape_steps.specs.declared.acts.Transition.TheVariants.{Stays}
 use Rattle.scrape_machine.specs.declared.lives.Life.{Life}
 use Rattle.scrape_machine.specs.declared.lives.StartedScrape.{StartedScrape}
 use Rattle.scrape_machine.specs.declared.lives.Difference.{Difference}
@@ -18,8 +18,8 @@ use Rattle.life_roll.specs.Names.{place_in}
 use Rattle.scrape_machine.specs.Lives.{is_open, closed_ends, ends, scanned_life, scan_entries, closing_at, life_after, with_ending}
 use Rattle.scrape_machine.specs.Machine.{is_over, job_name, starts_in, forces_in, start_of, started_by, starts_from}
 use Rattle.scrape_steps.specs.Plans as plan
-use Rattle.scrape_steps.specs.Plans.{local_of, after_each, fate_at, fate_of, look, sits}
-use Rattle.scrape_steps.specs.Concerned.{concerns, places_where, all_fates}
+use Rattle.scrape_steps.specs.Plans.{local_of, after_each, transition_at, transition_of, look, sits}
+use Rattle.scrape_steps.specs.Concerned.{concerns, places_where, all_transitions}
 
 -- the lives that pass a test, and their places
 module _ (p : Life → Bool) where
@@ -193,25 +193,25 @@ module _ (jobs : List InForce) (m : ℕ) where
 
 -- what becomes of the lives
 module _ (p : Life → Bool) where
-  pub fates_skip : (fs : List Fate) (l : Life) (ls : List Life) → p l ≡ false → all_fates p fs (l ∷ ls) ≡ Stays ∷ all_fates p fs ls
-  fates_skip [] l ls h = refl
-  fates_skip (f ∷ fs) l ls h = ap (λ b. cond b (f ∷ all_fates p fs ls) (Stays ∷ all_fates p (f ∷ fs) ls)) h
+  pub transitions_skip : (fs : List Transition) (l : Life) (ls : List Life) → p l ≡ false → all_transitions p fs (l ∷ ls) ≡ Stays ∷ all_transitions p fs ls
+  transitions_skip [] l ls h = refl
+  transitions_skip (f ∷ fs) l ls h = ap (λ b. cond b (f ∷ all_transitions p fs ls) (Stays ∷ all_transitions p (f ∷ fs) ls)) h
 
-  pub fates_take : (f : Fate) (fs : List Fate) (l : Life) (ls : List Life) → p l ≡ true → all_fates p (f ∷ fs) (l ∷ ls) ≡ f ∷ all_fates p fs ls
-  fates_take f fs l ls h = ap (λ b. cond b (f ∷ all_fates p fs ls) (Stays ∷ all_fates p (f ∷ fs) ls)) h
+  pub transitions_take : (f : Transition) (fs : List Transition) (l : Life) (ls : List Life) → p l ≡ true → all_transitions p (f ∷ fs) (l ∷ ls) ≡ f ∷ all_transitions p fs ls
+  transitions_take f fs l ls h = ap (λ b. cond b (f ∷ all_transitions p fs ls) (Stays ∷ all_transitions p (f ∷ fs) ls)) h
 
-pub closed_stays : (names : List (List ℕ)) (news : List InForce) (vs : List Difference) (l : Life) → is_open l ≡ false → fate_of names news vs l ≡ Stays
+pub closed_stays : (names : List (List ℕ)) (news : List InForce) (vs : List Difference) (l : Life) → is_open l ≡ false → transition_of names news vs l ≡ Stays
 closed_stays names news vs l h =
-    ap (λ b. cond b (fate_at l (look news (place_in (job_name l) names)) (look vs (place_in (job_name l) names))) Stays) h
+    ap (λ b. cond b (transition_at l (look news (place_in (job_name l) names)) (look vs (place_in (job_name l) names))) Stays) h
 
-module _ (p : Life → Bool) (f : Life → Fate) (none : (l : Life) → p l ≡ false → f l ≡ Stays) where
-  pub all_fates_are : (ls : List Life) → all_fates p (map f (filter p ls)) ls ≡ map f ls
-  all_fates_are [] = refl
-  all_fates_are (l ∷ ls) = of (p l) refl (all_fates_are ls)
+module _ (p : Life → Bool) (f : Life → Transition) (none : (l : Life) → p l ≡ false → f l ≡ Stays) where
+  pub all_transitions_are : (ls : List Life) → all_transitions p (map f (filter p ls)) ls ≡ map f ls
+  all_transitions_are [] = refl
+  all_transitions_are (l ∷ ls) = of (p l) refl (all_transitions_are ls)
     where
-      of : (b : Bool) → p l ≡ b → all_fates p (map f (filter p ls)) ls ≡ map f ls → all_fates p (map f (cond b (l ∷ filter p ls) (filter p ls))) (l ∷ ls) ≡ f l ∷ map f ls
-      of true h e = fates_take p (f l) (map f (filter p ls)) l ls h ∙ ap (λ zs. f l ∷ zs) e
-      of false h e = fates_skip p (map f (filter p ls)) l ls h ∙ ap₂ (λ z zs. z ∷ zs) (sym (none l h)) e
+      of : (b : Bool) → p l ≡ b → all_transitions p (map f (filter p ls)) ls ≡ map f ls → all_transitions p (map f (cond b (l ∷ filter p ls) (filter p ls))) (l ∷ ls) ≡ f l ∷ map f ls
+      of true h e = transitions_take p (f l) (map f (filter p ls)) l ls h ∙ ap (λ zs. f l ∷ zs) e
+      of false h e = transitions_skip p (map f (filter p ls)) l ls h ∙ ap₂ (λ z zs. z ∷ zs) (sym (none l h)) e
 
   pub closes_where : (ls : List Life) → length (filter plan.closes (map f (filter p ls))) ≡ length (filter plan.closes (map f ls))
   closes_where [] = refl
@@ -233,22 +233,22 @@ none_sits true b h = absurd (false≢true (sym h))
 none_sits false b h = refl
 
 module _ (m : ℤ) (names : List (List ℕ)) (place : ℕ) (identity : List Pair) (p : Life → Bool) (shut : (l : Life) → p l ≡ false → is_open l ≡ false) where
-  abbrev pub any_sits : List Fate → List Life → Bool
+  abbrev pub any_sits : List Transition → List Life → Bool
   any_sits fs ls = list_any (sits names place identity) (after_each m fs ls)
 
-  pub held_where : (fs : List Fate) (ls : List Life) → length fs ≡ length (filter p ls) → any_sits fs (filter p ls) ≡ any_sits (all_fates p fs ls) ls
+  pub held_where : (fs : List Transition) (ls : List Life) → length fs ≡ length (filter p ls) → any_sits fs (filter p ls) ≡ any_sits (all_transitions p fs ls) ls
   held_where [] [] n = refl
   held_where (f ∷ fs) [] n = absurd (omega arith)
   held_where fs (l ∷ ls) n = of (λ gs h. held_where gs ls h) (p l) refl fs n
     where
-      of : ((gs : List Fate) → length gs ≡ length (filter p ls) → any_sits gs (filter p ls) ≡ any_sits (all_fates p gs ls) ls) → (b : Bool) → p l ≡ b → (gs : List Fate) →
-          length gs ≡ length (cond b (l ∷ filter p ls) (filter p ls)) → any_sits gs (cond b (l ∷ filter p ls) (filter p ls)) ≡ any_sits (all_fates p gs (l ∷ ls)) (l ∷ ls)
+      of : ((gs : List Transition) → length gs ≡ length (filter p ls) → any_sits gs (filter p ls) ≡ any_sits (all_transitions p gs ls) ls) → (b : Bool) → p l ≡ b → (gs : List Transition) →
+          length gs ≡ length (cond b (l ∷ filter p ls) (filter p ls)) → any_sits gs (cond b (l ∷ filter p ls) (filter p ls)) ≡ any_sits (all_transitions p gs (l ∷ ls)) (l ∷ ls)
       of rest true h [] k = absurd (omega arith)
       of rest true h (g ∷ gs) k =
           ap (λ c. sits names place identity (life_after (local_of m g) l) || c) (rest gs (omega arith))
-          ∙ ap (λ zs. any_sits zs (l ∷ ls)) (sym (fates_take p g gs l ls h))
+          ∙ ap (λ zs. any_sits zs (l ∷ ls)) (sym (transitions_take p g gs l ls h))
       of rest false h gs k =
           rest gs k
-          ∙ ap (λ c. c || any_sits (all_fates p gs ls) ls)
+          ∙ ap (λ c. c || any_sits (all_transitions p gs ls) ls)
           (sym (none_sits (is_open l) _ (shut l h)))
-          ∙ ap (λ zs. any_sits zs (l ∷ ls)) (sym (fates_skip p gs l ls h))
+          ∙ ap (λ zs. any_sits zs (l ∷ ls)) (sym (transitions_skip p gs l ls h))

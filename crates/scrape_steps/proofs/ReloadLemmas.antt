@@ -14,8 +14,8 @@ use Rattle.label_set.specs.Sets.{set_cmp}
 use Rattle.life_roll.specs.Names.{place_in}
 use Rattle.life_roll.specs.declared.seats.Seats.{Seats}
 use Rattle.target_set.specs.declared.targets.Target.{Target}
-use Rattle.scrape_steps.specs.declared.acts.Fate.{Fate}
-use Rattle.scrape_steps.specs.declared.acts.Fate.TheVariants.{Stays, Closes}
+use Rattle.scrape_steps.specs.declared.acts.Transition.{Transition}
+use Rattle.scrape_steps.specs.declared.acts.Transition.TheVariants.{Stays, Closes}
 use Rattle.jobs_in_force.specs.declared.jobs.InForce.{InForce}
 use Rattle.scrape_machine.specs.declared.lives.Life.{Life}
 use Rattle.scrape_machine.specs.declared.lives.Local.{Local}
@@ -26,7 +26,7 @@ use Rattle.jobs_in_force.specs.Jobs.{job_named, is_named, has_target}
 use Rattle.scrape_machine.specs.Lives.{is_open, life_after}
 use Rattle.scrape_machine.specs.Machine as spec
 use Rattle.scrape_machine.specs.Machine.{births, born_all, unheld, holds, job_name, reload_local, job_local, difference_local}
-use Rattle.scrape_steps.specs.Plans.{local_of, after_each, look, fate_by, fate_at, fate_of, is_place, sits, IsHeld, is_seated, unseated, births_by}
+use Rattle.scrape_steps.specs.Plans.{local_of, after_each, look, transition_by, transition_at, transition_of, is_place, sits, IsHeld, is_seated, unseated, births_by}
 use Rattle.scrape_machine.specs.Machine.{name_of}
 
 -- the job of a name stands at the place of the name
@@ -57,23 +57,23 @@ look_map f xs None = refl
 look_map f xs (Some p) = slice_get-map f xs p
 
 -- what becomes of a life
-fate_difference : (m : ℤ) (v : Difference) → local_of m (fate_by v) ≡ difference_local m v
-fate_difference m difference.Incompatible = refl
-fate_difference m difference.Same = refl
-fate_difference m (difference.Changed s) = refl
+transition_difference : (m : ℤ) (v : Difference) → local_of m (transition_by v) ≡ difference_local m v
+transition_difference m difference.Incompatible = refl
+transition_difference m difference.Same = refl
+transition_difference m (difference.Changed s) = refl
 
-fate_job : (m : ℤ) (olds : List InForce) (l : Life) (after : Option InForce) →
-    local_of m (fate_at l after (option_map (spec.difference olds) after)) ≡ job_local m olds l after
-fate_job m olds l None = refl
-fate_job m olds l (Some j) = by (has_target l.identity j)
+transition_job : (m : ℤ) (olds : List InForce) (l : Life) (after : Option InForce) →
+    local_of m (transition_at l after (option_map (spec.difference olds) after)) ≡ job_local m olds l after
+transition_job m olds l None = refl
+transition_job m olds l (Some j) = by (has_target l.identity j)
   where
-    by : (b : Bool) → local_of m (if b then fate_by (spec.difference olds j) else Closes) ≡ (if b then difference_local m (spec.difference olds j) else Close m)
-    by true = fate_difference m (spec.difference olds j)
+    by : (b : Bool) → local_of m (if b then transition_by (spec.difference olds j) else Closes) ≡ (if b then difference_local m (spec.difference olds j) else Close m)
+    by true = transition_difference m (spec.difference olds j)
     by false = refl
 
-pub fate_local : (m : ℤ) (olds news : List InForce) (names : List (List ℕ)) (vs : List Difference) (l : Life) →
-    names ≡ map name_of news → vs ≡ map (spec.difference olds) news → local_of m (fate_of names news vs l) ≡ reload_local m olds (Some news) l
-fate_local m olds news names vs l n v = by (is_open l)
+pub transition_local : (m : ℤ) (olds news : List InForce) (names : List (List ℕ)) (vs : List Difference) (l : Life) →
+    names ≡ map name_of news → vs ≡ map (spec.difference olds) news → local_of m (transition_of names news vs l) ≡ reload_local m olds (Some news) l
+transition_local m olds news names vs l n v = by (is_open l)
   where
     at : Option InForce
     at = look news (place_in (job_name l) names)
@@ -84,13 +84,13 @@ fate_local m olds news names vs l n v = by (is_open l)
     judged : look vs (place_in (job_name l) names) ≡ option_map (spec.difference olds) at
     judged = ap (λ xs. look xs (place_in (job_name l) names)) v ∙ look_map (spec.difference olds) news (place_in (job_name l) names)
 
-    by : (b : Bool) → local_of m (if b then fate_at l at (look vs (place_in (job_name l) names)) else Stays)
+    by : (b : Bool) → local_of m (if b then transition_at l at (look vs (place_in (job_name l) names)) else Stays)
         ≡ (if b then job_local m olds l (job_named (job_name l) news) else Nothing)
-    by true = ap (λ w. local_of m (fate_at l at w)) judged ∙ fate_job m olds l at ∙ ap (job_local m olds l) named
+    by true = ap (λ w. local_of m (transition_at l at w)) judged ∙ transition_job m olds l at ∙ ap (job_local m olds l) named
     by false = refl
 
 -- the lives after what becomes of each
-pub each_after : (m : ℤ) (f : Life → Fate) (g : Life → Local) (ls : List Life) → ((l : Life) → local_of m (f l) ≡ g l) →
+pub each_after : (m : ℤ) (f : Life → Transition) (g : Life → Local) (ls : List Life) → ((l : Life) → local_of m (f l) ≡ g l) →
     after_each m (map f ls) ls ≡ map (λ l. life_after (g l) l) ls
 each_after m f g [] h = refl
 each_after m f g (l ∷ ls) h = ap₂ (λ p zs. life_after p l ∷ zs) (h l) (each_after m f g ls h)

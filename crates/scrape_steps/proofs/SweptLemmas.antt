@@ -8,14 +8,14 @@ use Rattle.std.proofs.lemmas.List.Elements.{filter-append}
 use Rattle.journal_text.specs.declared.events.Event.TheVariants.{Sweep}
 use Rattle.journal_text.specs.Lines.{number}
 use Rattle.jobs_in_force.specs.declared.jobs.InForce.{InForce}
-use Rattle.scrape_steps.specs.declared.acts.Fate.{Fate}
+use Rattle.scrape_steps.specs.declared.acts.Transition.{Transition}
 use Rattle.scrape_machine.specs.declared.lives.Life.{Life}
 use Rattle.scrape_machine.specs.declared.lives.StartedScrape.{StartedScrape}
 use Rattle.scrape_machine.specs.Lives.{scanned_life, life_after}
 use Rattle.scrape_machine.specs.Machine.{world, is_over, starts_in, lives_from, ticket_in_sweep}
 use Rattle.scrape_steps.specs.Plans.{local_of, after_each}
-use Rattle.scrape_steps.specs.Concerned.{concerns, places_where, all_fates, changed_at}
-use Rattle.scrape_steps.proofs.ConcernedLemmas.{fates_skip, fates_take, apart_closed, apart_scanned, closed_starts}
+use Rattle.scrape_steps.specs.Concerned.{concerns, places_where, all_transitions, changed_at}
+use Rattle.scrape_steps.proofs.ConcernedLemmas.{transitions_skip, transitions_take, apart_closed, apart_scanned, closed_starts}
 
 -- a change of the life at a place
 pub length-changed : (k : ℕ) (g : Life → Life) (ls : List Life) → length (changed_at k g ls) ≡ length ls
@@ -47,17 +47,17 @@ map_same [] = refl
 map_same (x ∷ xs) = ap (λ zs. x ∷ zs) (map_same xs)
 
 -- what becomes of each, one place after another
-abbrev pub met_at : ℤ → List Fate → List ℕ → List Life → List Life
+abbrev pub met_at : ℤ → List Transition → List ℕ → List Life → List Life
 met_at m [] ps ls = ls
 met_at m (f ∷ fs) [] ls = ls
 met_at m (f ∷ fs) (p ∷ ps) ls = met_at m fs ps (changed_at p (life_after (local_of m f)) ls)
 
-pub length-met : (m : ℤ) (fs : List Fate) (ps : List ℕ) (ls : List Life) → length (met_at m fs ps ls) ≡ length ls
+pub length-met : (m : ℤ) (fs : List Transition) (ps : List ℕ) (ls : List Life) → length (met_at m fs ps ls) ≡ length ls
 length-met m [] ps ls = refl
 length-met m (f ∷ fs) [] ls = refl
 length-met m (f ∷ fs) (p ∷ ps) ls = length-met m fs ps (changed_at p (life_after (local_of m f)) ls) ∙ length-changed p (life_after (local_of m f)) ls
 
-pub met_push : (m : ℤ) (fs : List Fate) (ps : List ℕ) (ls : List Life) (f : Fate) (p : ℕ) → length fs ≡ length ps →
+pub met_push : (m : ℤ) (fs : List Transition) (ps : List ℕ) (ls : List Life) (f : Transition) (p : ℕ) → length fs ≡ length ps →
     met_at m (fs ++ f ∷ []) (ps ++ p ∷ []) ls ≡ changed_at p (life_after (local_of m f)) (met_at m fs ps ls)
 met_push m [] [] ls f p n = refl
 met_push m [] (q ∷ qs) ls f p n = absurd (omega arith)
@@ -67,7 +67,7 @@ met_push m (g ∷ gs) (q ∷ qs) ls f p n = met_push m gs qs (changed_at q (life
 length_front : {A : Type 0} (i : ℕ) (ps : List A) → i < length ps → length (take i ps) ≡ i
 length_front i ps lt = omega (arith, length-take i ps)
 
-pub met_more : (m : ℤ) (fs : List Fate) (ps : List ℕ) (ls now more : List Life) (f : Fate) (i p : ℕ) → i ≡ length fs → i < length ps → p ≡ get_or ps i p →
+pub met_more : (m : ℤ) (fs : List Transition) (ps : List ℕ) (ls now more : List Life) (f : Transition) (i p : ℕ) → i ≡ length fs → i < length ps → p ≡ get_or ps i p →
     now ≡ met_at m fs (take i ps) ls → more ≡ changed_at p (λ (l : Life). life_after (local_of m f) l) now → more ≡ met_at m (fs ++ f ∷ []) (take (i + 1) ps) ls
 met_more m fs ps ls now more f i p n lt at was is =
     is ∙ ap (changed_at p (λ (l : Life). life_after (local_of m f) l)) was
@@ -75,30 +75,30 @@ met_more m fs ps ls now more f i p n lt at was is =
     ∙ ap (λ qs. met_at m (fs ++ f ∷ []) qs ls) (ap (λ z. take i ps ++ z ∷ []) at ∙ sym (take_more ps i p lt))
 
 module _ (m : ℤ) (p : Life → Bool) where
-  met_after : (n : ℕ) (front : List Life) (fs : List Fate) (ls : List Life) → n ≡ length front → length fs ≡ length (filter p ls) →
-      met_at m fs (places_where p n ls) (front ++ ls) ≡ front ++ after_each m (all_fates p fs ls) ls
+  met_after : (n : ℕ) (front : List Life) (fs : List Transition) (ls : List Life) → n ≡ length front → length fs ≡ length (filter p ls) →
+      met_at m fs (places_where p n ls) (front ++ ls) ≡ front ++ after_each m (all_transitions p fs ls) ls
   met_after n front [] [] e k = refl
   met_after n front (f ∷ fs) [] e k = absurd (omega arith)
   met_after n front fs (l ∷ ls) e k = of (λ xs gs h j. met_after (n + 1) xs gs ls h j) (p l) refl fs k
     where
-      of : ((xs : List Life) (gs : List Fate) → n + 1 ≡ length xs → length gs ≡ length (filter p ls) → met_at m gs (places_where p (n + 1) ls) (xs ++ ls) ≡ xs ++ after_each m (all_fates p gs ls) ls) →
-          (b : Bool) → p l ≡ b → (gs : List Fate) → length gs ≡ length (cond b (l ∷ filter p ls) (filter p ls)) →
-          met_at m gs (cond b (n ∷ places_where p (n + 1) ls) (places_where p (n + 1) ls)) (front ++ l ∷ ls) ≡ front ++ after_each m (all_fates p gs (l ∷ ls)) (l ∷ ls)
+      of : ((xs : List Life) (gs : List Transition) → n + 1 ≡ length xs → length gs ≡ length (filter p ls) → met_at m gs (places_where p (n + 1) ls) (xs ++ ls) ≡ xs ++ after_each m (all_transitions p gs ls) ls) →
+          (b : Bool) → p l ≡ b → (gs : List Transition) → length gs ≡ length (cond b (l ∷ filter p ls) (filter p ls)) →
+          met_at m gs (cond b (n ∷ places_where p (n + 1) ls) (places_where p (n + 1) ls)) (front ++ l ∷ ls) ≡ front ++ after_each m (all_transitions p gs (l ∷ ls)) (l ∷ ls)
       of rest true h [] j = absurd (omega arith)
       of rest true h (g ∷ gs) j =
           let y = life_after (local_of m g) l in
           ap (λ i. met_at m gs (places_where p (n + 1) ls) (changed_at i (life_after (local_of m g)) (front ++ l ∷ ls))) e
           ∙ ap (met_at m gs (places_where p (n + 1) ls)) (changed_after front (life_after (local_of m g)) l ls ∙ sym (append_assoc front (y ∷ []) ls))
           ∙ rest (front ++ y ∷ []) gs (one_longer n front y e) (omega arith)
-          ∙ append_assoc front (y ∷ []) (after_each m (all_fates p gs ls) ls)
-          ∙ ap (λ zs. front ++ after_each m zs (l ∷ ls)) (sym (fates_take p g gs l ls h))
+          ∙ append_assoc front (y ∷ []) (after_each m (all_transitions p gs ls) ls)
+          ∙ ap (λ zs. front ++ after_each m zs (l ∷ ls)) (sym (transitions_take p g gs l ls h))
       of rest false h gs j =
           ap (met_at m gs (places_where p (n + 1) ls)) (sym (append_assoc front (l ∷ []) ls))
           ∙ rest (front ++ l ∷ []) gs (one_longer n front l e) j
-          ∙ append_assoc front (l ∷ []) (after_each m (all_fates p gs ls) ls)
-          ∙ ap (λ zs. front ++ after_each m zs (l ∷ ls)) (sym (fates_skip p gs l ls h))
+          ∙ append_assoc front (l ∷ []) (after_each m (all_transitions p gs ls) ls)
+          ∙ ap (λ zs. front ++ after_each m zs (l ∷ ls)) (sym (transitions_skip p gs l ls h))
 
-  pub met_whole : (fs : List Fate) (ls : List Life) → length fs ≡ length (filter p ls) → met_at m fs (places_where p 0 ls) ls ≡ after_each m (all_fates p fs ls) ls
+  pub met_whole : (fs : List Transition) (ls : List Life) → length fs ≡ length (filter p ls) → met_at m fs (places_where p 0 ls) ls ≡ after_each m (all_transitions p fs ls) ls
   met_whole fs ls k = met_after 0 [] fs ls refl k
 
 -- a sweep, one place after another

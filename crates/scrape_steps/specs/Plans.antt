@@ -8,8 +8,8 @@ use Rattle.life_roll.specs.Names.{place_in}
 use Rattle.life_roll.specs.Seats.{has_seat}
 use Rattle.life_roll.specs.declared.seats.Seats.{Seats}
 use Rattle.target_set.specs.declared.targets.Target.{Target}
-use Rattle.scrape_steps.specs.declared.acts.Fate.{Fate}
-use Rattle.scrape_steps.specs.declared.acts.Fate.TheVariants.{Stays, Changes, Closes}
+use Rattle.scrape_steps.specs.declared.acts.Transition.{Transition}
+use Rattle.scrape_steps.specs.declared.acts.Transition.TheVariants.{Stays, Changes, Closes}
 use Rattle.jobs_in_force.specs.declared.jobs.InForce.{InForce}
 use Rattle.scrape_machine.specs.declared.lives.Life.{Life}
 use Rattle.scrape_machine.specs.declared.lives.Local.{Local}
@@ -21,13 +21,13 @@ use Rattle.scrape_machine.specs.Lives.{is_open, life_after}
 use Rattle.scrape_machine.specs.Machine.{born_all, job_name, name_of}
 
 -- what becomes of a life at m, as what the event is to it
-abbrev pub local_of : ℤ → Fate → Local
+abbrev pub local_of : ℤ → Transition → Local
 local_of m Stays = Nothing
 local_of m (Changes s) = Change m s
 local_of m Closes = Close m
 
 -- each life after what becomes of it
-abbrev pub after_each : ℤ → List Fate → List Life → List Life
+abbrev pub after_each : ℤ → List Transition → List Life → List Life
 after_each m [] ls = ls
 after_each m (f ∷ fs) [] = []
 after_each m (f ∷ fs) (l ∷ ls) = life_after (local_of m f) l ∷ after_each m fs ls
@@ -38,19 +38,19 @@ look xs None = None
 look xs (Some p) = slice_get xs p
 
 -- what becomes of a life whose job is at a place of the new configuration
-abbrev pub fate_by : Difference → Fate
-fate_by difference.Incompatible = Closes
-fate_by difference.Same = Stays
-fate_by (difference.Changed s) = Changes s
+abbrev pub transition_by : Difference → Transition
+transition_by difference.Incompatible = Closes
+transition_by difference.Same = Stays
+transition_by (difference.Changed s) = Changes s
 
-abbrev pub fate_at : Life → Option InForce → Option Difference → Fate
-fate_at l None v = Closes
-fate_at l (Some after) None = Closes
-fate_at l (Some after) (Some v) = if has_target l.identity after then fate_by v else Closes
+abbrev pub transition_at : Life → Option InForce → Option Difference → Transition
+transition_at l None v = Closes
+transition_at l (Some after) None = Closes
+transition_at l (Some after) (Some v) = if has_target l.identity after then transition_by v else Closes
 
-abbrev pub fate_of : List (List ℕ) → List InForce → List Difference → Life → Fate
-fate_of names news differences l =
-    if is_open l then fate_at l (look news (place_in (job_name l) names)) (look differences (place_in (job_name l) names)) else Stays
+abbrev pub transition_of : List (List ℕ) → List InForce → List Difference → Life → Transition
+transition_of names news differences l =
+    if is_open l then transition_at l (look news (place_in (job_name l) names)) (look differences (place_in (job_name l) names)) else Stays
 
 -- an open life has this target of the job whose name has this place
 abbrev pub is_place : ℕ → Option ℕ → Bool
@@ -69,7 +69,7 @@ IsHeldWith new old names l = (place : ℕ) (identity : List Pair) →
     has_seat new place identity ≡ (sits names place identity l || has_seat old place identity)
 
 -- a life is closed
-abbrev pub closes : Fate → Bool
+abbrev pub closes : Transition → Bool
 closes Stays = false
 closes (Changes s) = false
 closes Closes = true

@@ -19,7 +19,7 @@ use std::alloc::Global;
 
 /// What becomes of a life when the configuration in force changes.
 #[derive(Drop)]
-pub enum Fate {
+pub enum Transition {
     /// It stays as it is.
     Stays,
     /// It stays open, with these settings.
@@ -115,13 +115,13 @@ fn close(life: &mut Life, moment: Moment)
 }
 
 /// The life after what becomes of it at a moment.
-fn meet(life: &mut Life, moment: Moment, fate: Fate)
-    ensures { life.new ≡ spec.life_after (plan.local_of moment fate) life.old }
+fn apply(life: &mut Life, moment: Moment, transition: Transition)
+    ensures { life.new ≡ spec.life_after (plan.local_of moment transition) life.old }
 {
-    match fate {
-        Fate::Stays => {}
-        Fate::Changes(settings) => change(life, moment, settings),
-        Fate::Closes => close(life, moment),
+    match transition {
+        Transition::Stays => {}
+        Transition::Changes(settings) => change(life, moment, settings),
+        Transition::Closes => close(life, moment),
     }
 }
 
@@ -150,23 +150,23 @@ pub fn scan_at(lives: &mut [Life], place: usize, moment: Moment, ticket: u64, ov
 }
 
 /// The life at a place meets what becomes of it at a moment.
-fn meet_at(lives: &mut [Life], place: usize, moment: Moment, fate: Fate)
+fn apply_at(lives: &mut [Life], place: usize, moment: Moment, transition: Transition)
     requires { place < length lives.old }
-    ensures { lives.new ≡ concerned.changed_at place (λ (l : Life). spec.life_after (plan.local_of moment fate) l) lives.old }
+    ensures { lives.new ≡ concerned.changed_at place (λ (l : Life). spec.life_after (plan.local_of moment transition) l) lives.old }
 {
-    meet(&mut lives[place], moment, fate);
+    apply(&mut lives[place], moment, transition);
 }
 
 /// The lives after what becomes of each at a moment, by the places of the open ones and by what becomes of these.
-pub fn meet_all(lives: &mut [Life], places: &[usize], moment: Moment, fates: Vec<Fate>)
+pub fn apply_all(lives: &mut [Life], places: &[usize], moment: Moment, transitions: Vec<Transition>)
     requires places { places.now ≡ concerned.places_where spec.is_open 0 lives.old }
-    requires each { length fates.items ≡ length places.now }
-    ensures { lives.new ≡ plan.after_each moment (concerned.all_fates spec.is_open fates.items lives.old) lives.old }
+    requires each { length transitions.items ≡ length places.now }
+    ensures { lives.new ≡ plan.after_each moment (concerned.all_transitions spec.is_open transitions.items lives.old) lives.old }
 {
     let mut index: usize = 0;
-    for fate in fates {
+    for transition in transitions {
         let place = place_at(places, index);
-        meet_at(lives, place, moment, fate);
+        apply_at(lives, place, moment, transition);
         index += 1;
     }
 }

@@ -12,7 +12,7 @@ use scrape_machine::lives::Life;
 use std::alloc::Global;
 use std::marker::Model;
 
-/// All lives, lent with the places of those that an event concerns, rising: of the open ones, or of those that a sweep at a moment concerns.
+/// All lives, borrowed with the places of those that an event concerns, rising: of the open ones, or of those that a sweep at a moment concerns.
 #[derive(Drop)]
 pub struct Lives<'a> {
     all: &'a [Life],

@@ -13,7 +13,7 @@ ghost use Rattle.scrape_steps.specs.Plans as plan;
 ghost use Rattle.scrape_steps.specs.Concerned as concerned;
 ghost use Rattle.jobs_in_force.specs.Settings.{settings_of};
 
-use crate::acts::{Fate, is_open};
+use crate::acts::{Transition, is_open};
 use crate::concerned::Lives;
 use jobs_in_force::jobs::{InForce, Settings};
 use jobs_in_force::loads::job_named;
@@ -79,32 +79,32 @@ pub fn job_at<'a>(names: &JobNames, jobs: &'a [InForce], name: &Name) -> Option<
     look_job(jobs, names.place(name))
 }
 
-fn fate_by(difference: &Difference) -> Result<Fate, NoMemory>
-    ensures { IfOk result (λ f. f ≡ plan.fate_by difference.now) }
+fn transition_by(difference: &Difference) -> Result<Transition, NoMemory>
+    ensures { IfOk result (λ f. f ≡ plan.transition_by difference.now) }
 {
     match difference {
-        Difference::Incompatible => Ok(Fate::Closes),
-        Difference::Same => Ok(Fate::Stays),
-        Difference::Changed(settings) => Ok(Fate::Changes(settings.share()?)),
+        Difference::Incompatible => Ok(Transition::Closes),
+        Difference::Same => Ok(Transition::Stays),
+        Difference::Changed(settings) => Ok(Transition::Changes(settings.share()?)),
     }
 }
 
-fn fate_at(
+fn transition_at(
     life: &Life,
     after: Option<&InForce>,
     difference: Option<&Difference>,
-) -> Result<Fate, NoMemory>
-    ensures { IfOk result (λ f. f ≡ plan.fate_at life.now (option_copied after.entry) (option_copied difference.entry)) }
+) -> Result<Transition, NoMemory>
+    ensures { IfOk result (λ f. f ≡ plan.transition_at life.now (option_copied after.entry) (option_copied difference.entry)) }
 {
     match after {
-        None => Ok(Fate::Closes),
+        None => Ok(Transition::Closes),
         Some(job) => match difference {
-            None => Ok(Fate::Closes),
+            None => Ok(Transition::Closes),
             Some(difference) => {
                 if job.kept.has(&life.identity) {
-                    fate_by(difference)
+                    transition_by(difference)
                 } else {
-                    Ok(Fate::Closes)
+                    Ok(Transition::Closes)
                 }
             }
         },
@@ -136,83 +136,88 @@ pub fn job_name(life: &Life) -> &Name
     &life.settings.job().conf.job_name
 }
 
-fn fate_of(
+fn transition_of(
     names: &JobNames,
     news: &[InForce],
     differences: &[Difference],
     life: &Life,
-) -> Result<Fate, NoMemory>
-    ensures { IfOk result (λ f. f ≡ plan.fate_of names.now news.now differences.now life.now) }
+) -> Result<Transition, NoMemory>
+    ensures { IfOk result (λ f. f ≡ plan.transition_of names.now news.now differences.now life.now) }
 {
     if !is_open(life) {
-        return Ok(Fate::Stays);
+        return Ok(Transition::Stays);
     }
     let place = names.place(job_name(life));
     let after = look_job(news, place);
     let difference = look_difference(differences, place);
-    fate_at(life, after, difference)
+    transition_at(life, after, difference)
 }
 
 /// What becomes of each life that is concerned.
-pub fn fates_of(
+pub fn transitions_of(
     alloc: Global,
     names: &JobNames,
     news: &[InForce],
     differences: &[Difference],
     lives: &Lives<'_>,
-) -> Result<Vec<Fate>, NoMemory>
-    ensures { IfOk result (λ v. v.items ≡ map (plan.fate_of names.now news.now differences.now) (concerned.concerned lives.now)) }
+) -> Result<Vec<Transition>, NoMemory>
+    ensures { IfOk result (λ v. v.items ≡ map (plan.transition_of names.now news.now differences.now) (concerned.concerned lives.now)) }
 {
-    let mut fates = Vec::with_capacity(alloc, lives.count())?;
+    let mut transitions = Vec::with_capacity(alloc, lives.count())?;
     for index in 0..lives.count() {
-        let fate = fate_of(names, news, differences, lives.at(index))?;
-        fates.push(fate)?;
+        let transition = transition_of(names, news, differences, lives.at(index))?;
+        transitions.push(transition)?;
     }
-    Ok(fates)
+    Ok(transitions)
 }
 
-fn closes(fate: &Fate) -> bool
-    ensures { result ≡ plan.closes fate.now }
+fn closes(transition: &Transition) -> bool
+    ensures { result ≡ plan.closes transition.now }
 {
-    match fate {
-        Fate::Stays => false,
-        Fate::Changes(_) => false,
-        Fate::Closes => true,
+    match transition {
+        Transition::Stays => false,
+        Transition::Changes(_) => false,
+        Transition::Closes => true,
     }
 }
 
 /// How many lives are closed.
-pub fn count_closed(fates: &[Fate]) -> usize
-    ensures value { result ≡ length (filter plan.closes fates.now) }
-    ensures few { result ≤ length fates.now }
+pub fn count_closed(transitions: &[Transition]) -> usize
+    ensures value { result ≡ length (filter plan.closes transitions.now) }
+    ensures few { result ≤ length transitions.now }
 {
     let mut count: usize = 0;
-    for fate in fates {
-        if closes(fate) {
+    for transition in transitions {
+        if closes(transition) {
             count += 1;
         }
     }
     count
 }
 
-fn name_after<'a>(fate: &'a Fate, life: &'a Life) -> &'a Name
-    ensures { result.now ≡ spec.job_name (lives_of.life_after (plan.local_of (pos 0) fate.now) life.now) }
+fn name_after<'a>(transition: &'a Transition, life: &'a Life) -> &'a Name
+    ensures { result.now ≡ spec.job_name (lives_of.life_after (plan.local_of (pos 0) transition.now) life.now) }
 {
-    match fate {
-        Fate::Changes(settings) => &settings.job().conf.job_name,
-        Fate::Stays => job_name(life),
-        Fate::Closes => job_name(life),
+    match transition {
+        Transition::Changes(settings) => &settings.job().conf.job_name,
+        Transition::Stays => job_name(life),
+        Transition::Closes => job_name(life),
     }
 }
 
 /// Puts the target of a life into the held ones, if the life stays open.
-fn hold(held: &mut Seats, names: &JobNames, fate: &Fate, life: &Life) -> Result<(), NoMemory>
-    ensures { OnOk result ((moment : ℤ) → plan.IsHeldWith held.new held.old names.now (lives_of.life_after (plan.local_of moment fate.now) life.now)) }
+fn hold(
+    held: &mut Seats,
+    names: &JobNames,
+    transition: &Transition,
+    life: &Life,
+) -> Result<(), NoMemory>
+    ensures { OnOk result ((moment : ℤ) → plan.IsHeldWith held.new held.old names.now (lives_of.life_after (plan.local_of moment transition.now) life.now)) }
 {
-    if closes(fate) || !is_open(life) {
+    if closes(transition) || !is_open(life) {
         return Ok(());
     }
-    match names.place(name_after(fate, life)) {
+    match names.place(name_after(transition, life)) {
         None => Ok(()),
         Some(place) => {
             let job = place as u64;
@@ -226,17 +231,17 @@ fn hold(held: &mut Seats, names: &JobNames, fate: &Fate, life: &Life) -> Result<
 pub fn held_of(
     alloc: Global,
     names: &JobNames,
-    fates: &[Fate],
+    transitions: &[Transition],
     lives: &Lives<'_>,
 ) -> Result<Seats, NoMemory>
-    requires { length fates.now ≡ length (concerned.concerned lives.now) }
+    requires { length transitions.now ≡ length (concerned.concerned lives.now) }
     ensures { IfOk result (λ s. (moment : ℤ) →
-        plan.IsHeld s names.now (plan.after_each moment (concerned.all_fates (concerned.concerns lives.now.moment) fates.now lives.now.all) lives.now.all)) }
+        plan.IsHeld s names.now (plan.after_each moment (concerned.all_transitions (concerned.concerns lives.now.moment) transitions.now lives.now.all) lives.now.all)) }
 {
     let mut held = Seats::new(alloc);
     let mut place: usize = 0;
-    for fate in fates {
-        hold(&mut held, names, fate, lives.at(place))?;
+    for transition in transitions {
+        hold(&mut held, names, transition, lives.at(place))?;
         place += 1;
     }
     Ok(held)

@@ -148,7 +148,7 @@ impl SeriesCache {
     ///
     /// # Errors
     ///
-    /// Only want of memory refuses; nothing changes then.
+    /// The only error is out of memory; nothing changes then.
     pub fn show(
         &mut self,
         raw: &[u8],

@@ -21,7 +21,7 @@ pub struct Known {
 ///
 /// # Errors
 ///
-/// Only want of memory refuses.
+/// The only error is out of memory.
 pub fn shared(series: &Option<LabelSet>) -> Result<Option<LabelSet>, NoMemory>
     ensures { IfOk result (λ s. s ≡ series.now) }
 {

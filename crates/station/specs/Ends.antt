@@ -113,6 +113,6 @@ LastEnds WriteFault shelf err = LineStop stop.WriteFault shelf err
 LastEnds TooLong shelf err = ⊥
 LastEnds NoMemory shelf err = Unit {0}
 
--- the end of a run, by that of the caller's loop: want of memory anywhere is want of memory
+-- the end of a run, by that of the caller's loop: out of memory anywhere is out of memory
 abbrev pub run_end : Bool → RunEnd → RunEnd
 run_end whole end = if whole then end else NoMemory

@@ -104,14 +104,14 @@ fn all_passes<L: Ledger, B: Asked>(
     passes
 }
 
-/// The journal of a run whose loops are over, closed where none met want of memory.
+/// The journal of a run whose loops are over, closed where none ran out of memory.
 struct Closed {
     whole: bool,
     core: Core,
     marks: Vec<Mark>,
 }
 
-/// Closes the journal, where the loops say that they came to their ends and none met want of memory. All passes come back to the lock.
+/// Closes the journal, where the loops say that they came to their ends and none ran out of memory. All passes come back to the lock.
 fn close_run<L: Ledger, B: Asked>(
     lock: RunLock<L, B>,
     came: bool,

@@ -52,7 +52,7 @@ pub struct Caller<'r, 's, 'e, L: Ledger, B: Asked, R, S, E, C> {
     pub control: C,
 }
 
-/// What the caller hands back beside the references that it was lent.
+/// What the caller hands back beside the references that it borrowed.
 #[derive(Drop)]
 pub struct Called<L: Ledger, B: Asked, C> {
     pub control: C,
@@ -98,7 +98,7 @@ impl<'r, 's, 'e, L: Ledger, B: Asked, R: Wait, S: Shelf, E: Sink, C: Source> Sid
     }
 }
 
-/// Does nothing, but this use of a reference that came back ties it to the one that was lent.
+/// Does nothing, but this use of a reference that came back ties it to the one that was borrowed.
 pub fn take_back<T>(x: &mut T)
     ensures { x.new ≡ x.old }
 {}

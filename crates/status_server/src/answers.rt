@@ -1,5 +1,5 @@
 //! What a request is answered.
-ghost use Rattle.std.specs.Prelude.{◌≡◌, ◌++◌, IfOk, OnOk};
+ghost use Rattle.std.specs.Prelude.{◌≡◌, ◌++◌, true, IfOk, OnOk};
 ghost use Rattle.status_server.specs.Answers as spec;
 
 use crate::replies::{Status, push_reply};
@@ -9,15 +9,17 @@ use request_heads::Page;
 use scrape_core::Core;
 use std::alloc::Global;
 
-/// The status of the answer to a request for a page.
+/// The status of the answer to a request for a page that is answered by itself.
 fn status_of(page: Page) -> Status
+    requires { spec.is_plain page ≡ true }
     ensures { result ≡ spec.status_of page }
 {
     match page {
         Page::Targets => Status::Done,
         Page::Body => Status::BadRequest,
         Page::OtherMethod => Status::OtherMethod,
-        Page::Federate | Page::Reload | Page::OtherPath => Status::NotFound,
+        Page::OtherPath => Status::NotFound,
+        Page::Federate | Page::Reload => unreachable!(),
     }
 }
 
@@ -39,11 +41,12 @@ fn body_of(alloc: Global, core: &Core, page: Page) -> Result<Vec<u8>, NoMemory>
     Ok(body)
 }
 
-/// Appends what a request for a page is answered by a core; `closes` is what the request says of the connection.
+/// Appends what a request for a page is answered by a core, where that is neither federation nor a reload; `closes` is what the request says of
+/// the connection.
 ///
 /// # Errors
 ///
-/// Only want of memory refuses; a front of the answer may stand in the text then.
+/// The only error is out of memory; a front of the answer may stand in the text then.
 pub fn push_answer(
     alloc: Global,
     text: &mut Vec<u8>,
@@ -51,6 +54,7 @@ pub fn push_answer(
     page: Page,
     closes: bool,
 ) -> Result<(), NoMemory>
+    requires { spec.is_plain page ≡ true }
     ensures added { OnOk result (text.new.items ≡ text.old.items ++ spec.answer core.now page closes) }
 {
     let body = body_of(alloc, core, page)?;

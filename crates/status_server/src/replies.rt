@@ -73,7 +73,7 @@ fn push_end(text: &mut Vec<u8>, closes: bool) -> Result<(), NoMemory>
 ///
 /// # Errors
 ///
-/// Only want of memory refuses; a front of the reply may stand in the text then.
+/// The only error is out of memory; a front of the reply may stand in the text then.
 pub fn push_reply(
     text: &mut Vec<u8>,
     status: Status,

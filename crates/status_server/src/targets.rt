@@ -45,7 +45,7 @@ fn push_place(text: &mut Vec<u8>, core: &Core, place: usize) -> Result<(), NoMem
 ///
 /// # Errors
 ///
-/// Only want of memory refuses; a front of the page may stand in the text then.
+/// The only error is out of memory; a front of the page may stand in the text then.
 pub fn push_targets(text: &mut Vec<u8>, core: &Core) -> Result<(), NoMemory>
     ensures added { OnOk result (text.new.items ≡ text.old.items ++ spec.page core.now) }
 {

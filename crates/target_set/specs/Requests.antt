@@ -75,7 +75,7 @@ set_value identity name = value_of identity (param_prefix ++ name)
 abbrev pub values_for : List Pair → List Param → List ℕ → List (List ℕ)
 values_for identity params name = with_first_value (set_value identity name) (listed_values params name)
 
--- a pair of texts that are lent
+-- a pair of texts that are borrowed
 abbrev pub texts : Bor (List ℕ) × Bor (List ℕ) → List ℕ × List ℕ
 texts p = (p.0.now, p.1.now)
 

@@ -1,7 +1,7 @@
 //! What becomes of a set that the rules leave.
 ghost use Rattle.std.specs.Prelude.{◌≡◌, [], codes, filter, map, not, is_ok, unwrap_or, IfOk, OnOk, Some, if◌then◌else◌};
 ghost use Rattle.label_set.specs.Sets.{IsSet, value_of};
-ghost use Rattle.label_set.specs.Lent.{pair_of};
+ghost use Rattle.label_set.specs.Borrowed.{pair_of};
 ghost use Rattle.label_set.specs.declared.texts.Pair.{Pair};
 ghost use Rattle.target_set.specs.Outcomes as spec;
 ghost use Rattle.target_set.specs.Outcomes.{url_of};
@@ -50,7 +50,7 @@ fn scheme_cause(
 ///
 /// # Errors
 ///
-/// Only want of memory refuses.
+/// The only error is out of memory.
 #[tactic(auto, unfolding(crate::specs::Outcomes::cause_of))]
 pub fn cause_in(alloc: Global, set: &LabelSet) -> Result<Option<TargetCause>, NoMemory>
     ensures { IfOk result (λ o. o ≡ spec.cause_of set.now) }

@@ -3,12 +3,12 @@ ghost use Rattle.std.specs.Prelude.{◌≡◌, ◌++◌, [], map, IfOk, OnOk, st
 ghost use Rattle.label_set.specs.Sets.{with_label};
 ghost use Rattle.target_set.specs.Prepared as spec;
 ghost use Rattle.label_set.specs.Lasts.{with_labels};
-ghost use Rattle.label_set.specs.Lent.{pair_of};
+ghost use Rattle.label_set.specs.Borrowed.{pair_of};
 ghost use Rattle.target_set.specs.Prepared.{address_label, param_prefix};
 ghost use Rattle.target_set.specs.Walk as walked;
 
 use label_set::names::are_name_bytes;
-use label_set::{Label, LabelSet, NoMemory, Pair, lent};
+use label_set::{Label, LabelSet, NoMemory, Pair, borrowed};
 use outside::scheme_text;
 use scrape_config::{Group, JobConf, Param};
 use std::alloc::Global;
@@ -39,7 +39,7 @@ pub fn defaulted(
 fn all_labelled(alloc: Global, pairs: &[Pair]) -> Result<LabelSet, NoMemory>
     ensures { IfOk result (λ s. s ≡ with_labels [] pairs.now) }
 {
-    let labels = lent(alloc, pairs)?;
+    let labels = borrowed(alloc, pairs)?;
     LabelSet::of(alloc, labels.as_slice())
 }
 

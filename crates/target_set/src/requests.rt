@@ -294,7 +294,7 @@ fn page_in(alloc: Global, params: &[Param], identity: &LabelSet, base: Url) -> R
 ///
 /// # Errors
 ///
-/// Only want of memory refuses, and what was lent stays as it was.
+/// The only error is out of memory, and what was borrowed stays as it was.
 ///
 /// # Example
 ///

@@ -125,7 +125,7 @@ fn sorted_out(alloc: Global, limit: u64, outcomes: &[Outcome]) -> Result<TargetL
 ///
 /// # Errors
 ///
-/// Only want of memory refuses.
+/// The only error is out of memory.
 #[tactic(auto, unfolding(crate::specs::Listed::target_list), using(crate::proofs::WalkLemmas::outcome_count))]
 pub fn targets_of<L: Ledger>(
     alloc: Global,
@@ -149,7 +149,7 @@ pub fn targets_of<L: Ledger>(
 ///
 /// # Errors
 ///
-/// Only want of memory refuses.
+/// The only error is out of memory.
 #[tactic(auto, unfolding(crate::specs::Listed::target_list), using(crate::proofs::WalkLemmas::outcome_count))]
 pub fn targets_with_files<L: Ledger>(
     alloc: Global,

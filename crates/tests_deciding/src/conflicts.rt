@@ -1,4 +1,4 @@
-//! Labels of lines and targets that bear the same name, copied ones. The cases show them where they are lent.
+//! Labels of lines and targets that bear the same name, copied ones. The cases show them where they are borrowed.
 
 use crate::shared::{are_bytes, set_of};
 use expo_reader::read_body;

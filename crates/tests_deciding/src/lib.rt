@@ -7,7 +7,7 @@
 //! | `targets_with_files`, `SharedGroups` | `scrape_cases::targets`, `updates` |
 //! | `targets_of`, `listed_within` | `targets::{listed_targets_are_told, listed_targets_are_counted}` |
 //! | `request_of` | `targets::requests` |
-//! | `merge` | `conflicts`, and within it `merge_lent`, `LentTarget::of`, `labels_in`; `scrape_cases::conflicts` |
+//! | `merge` | `conflicts`, and within it `merge_borrowed`, `BorrowedTarget::of`, `labels_in`; `scrape_cases::conflicts` |
 //! | `always_free` | contract alone |
 //! | `sample_rows::rows`, and within it `early_fault`, `judged`, `body_of`, `form_of` | `replies` |
 //! | `row_set` | `scrape_cases::limits`, `scripts` |

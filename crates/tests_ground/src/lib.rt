@@ -7,7 +7,7 @@
 //! |---|---|
 //! | `Name::{from_str, copy, as_str}`, `NameList::as_slice` | `relabelling`, whose rules are copied |
 //! | `Blob::{from_slice, as_slice}`, `Blob::copy` | `scripts`; `checks/live`, whose bodies are copied |
-//! | `Pair::{from_strs, label}`, `PairList::as_slice`, `lent` | `targets` |
+//! | `Pair::{from_strs, label}`, `PairList::as_slice`, `borrowed` | `targets` |
 //! | `Pair::copy` | `label_sets::is_copied`, which a test calls |
 //! | `is_label_name`, `is_metric_name` | `fields`, `bodies` |
 //! | `LabelSet::{of, from_labels, labels, with_all, len, get}` | `targets`, `conflicts`, `relabelling` |

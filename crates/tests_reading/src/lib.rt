@@ -10,7 +10,7 @@
 //! | `ReadBody::{len, row}` | `bodies`; `scrape_cases::bodies` |
 //! | `read_form`, `read_like`, `LikeBody`, `RawTexts` | `bodies::a_body_like_another_is_read_as_alone`; `texts` |
 //! | `NoTexts` | within `read_form` |
-//! | `SampleRow`, `LentLabel`, `LentText` | `bodies`; `scrape_cases::{bodies, quoted}` |
+//! | `SampleRow`, `BorrowedLabel`, `BorrowedText` | `bodies`; `scrape_cases::{bodies, quoted}` |
 //! | `BodyReader::{of, feed, finish}`, `Unread`, `BodyCause` | `bodies::where_a_body_is_cut_makes_no_difference` |
 //! | `BodyReader::new` | contract alone: it is `of` |
 //! | `reads_the_format`, `has_one_reading`, `plain_reads_quoted`, `raw_texts_tell` | contract alone |

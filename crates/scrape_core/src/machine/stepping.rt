@@ -36,7 +36,7 @@ use std::sync::ledger::Ledger;
 
 impl Core {
     /// Takes an event: the answer is the defined one after the journal, which then ends with the event, and the book is that of the new journal.
-    /// After a refusal for want of memory the event is dropped and the core as before.
+    /// Where memory runs out, the event is dropped and the core is as before.
     /// The moment is at least `now`, and the event keeps the limits of a journal's events.
     pub fn step<L: Ledger>(
         &mut self,
@@ -79,7 +79,7 @@ impl Core {
 
     /// Takes the finish of a ticket after so many milliseconds, by a reply with this status whose body is read already, in its form, as `step` takes it: with the
     /// same answer, journal and book, without reading the body once more. A finish carries no moment, so it may always follow.
-    /// After a refusal for want of memory the body is dropped and the core as before.
+    /// Where memory runs out, the body is dropped and the core is as before.
     pub fn finish_read<L: Ledger>(
         &mut self,
         alloc: Global,

@@ -2,12 +2,12 @@ use Rattle.std.proofs.Common.{subst}
 use Rattle.std.specs.Prelude.{map, filter, ◌&&◌}
 use Rattle.std.specs.List.Sorted.{IsPermutation}
 use Rattle.std.proofs.lemmas.List.Sorted.{IsPermutation-map}
-use Rattle.label_set.specs.Lent.{pair_of}
+use Rattle.label_set.specs.Borrowed.{pair_of}
 use Rattle.label_set.specs.declared.texts.Pair.{Pair}
 use Rattle.label_conflict.specs.Orders.{by_length}
 use Rattle.label_conflict.specs.Merging.{has_value, bears}
 use Rattle.label_conflict.proofs.JoinLemmas.{conflicts_sorted, differ_from_names, differ_filter}
-use Rattle.label_conflict.proofs.LentLemmas.{sorted_from}
+use Rattle.label_conflict.proofs.BorrowedLemmas.{sorted_from}
 use Rattle.label_conflict.proofs.gather.conflicts.Goals as goal
 
 pub returns : goal.returns

@@ -1,5 +1,5 @@
 use Rattle.std.specs.Prelude.{map}
-use Rattle.label_set.specs.Lent.{pair_of}
+use Rattle.label_set.specs.Borrowed.{pair_of}
 use Rattle.label_conflict.specs.Merging.{settled}
 use Rattle.label_conflict.proofs.NameLemmas.{one_more, named_next}
 use Rattle.label_conflict.proofs.gather.new_names.Goals as goal

@@ -1,6 +1,6 @@
 use Rattle.std.proofs.Common.{◌≡◌, take}
 use Rattle.std.specs.Prelude.{map, filter, ◌&&◌}
-use Rattle.label_set.specs.Lent.{pair_of}
+use Rattle.label_set.specs.Borrowed.{pair_of}
 use Rattle.label_set.specs.declared.texts.Pair.{Pair}
 use Rattle.label_conflict.specs.Merging.{has_value, bears}
 use Rattle.label_conflict.proofs.gather.shared_names.Given as goal

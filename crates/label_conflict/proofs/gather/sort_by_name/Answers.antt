@@ -1,6 +1,6 @@
 use Rattle.std.proofs.Common.{rules, is_lt}
 use Rattle.std.proofs.lemmas.List.Sorted.{answers_always, ranks_by}
-use Rattle.label_set.specs.Lent.{pair_of}
+use Rattle.label_set.specs.Borrowed.{pair_of}
 use Rattle.label_conflict.specs.Orders.{by_name}
 use Rattle.label_conflict.proofs.OrderLemmas.{by_name_total}
 use Rattle.label_conflict.proofs.gather.sort_by_name.Goals as goal

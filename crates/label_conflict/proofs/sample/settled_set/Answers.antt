@@ -1,7 +1,7 @@
 use Rattle.std.proofs.Common.{◌≡◌, ◌++◌, [], List, ℕ, ap, sym, subst, ◌∙◌}
 use Rattle.std.specs.Prelude.{map, IfOk}
 use Rattle.label_set.specs.Lasts.{with_labels}
-use Rattle.label_set.specs.Lent.{pair_of}
+use Rattle.label_set.specs.Borrowed.{pair_of}
 use Rattle.label_set.specs.declared.texts.Pair.{Pair}
 use Rattle.label_set.proofs.OfLemmas.{with_labels-append}
 use Rattle.label_conflict.specs.Merging.{settled}

@@ -1,5 +1,5 @@
 use Rattle.std.proofs.Common.{rules, sym, ◌∙◌}
-use Rattle.label_set.specs.Lent.{pair_of}
+use Rattle.label_set.specs.Borrowed.{pair_of}
 use Rattle.label_set.proofs.SplitLemmas.{split_start, split_none, split_less, split_equal, split_greater}
 use Rattle.label_set.proofs.flat.split_at_name.Goals as goal
 

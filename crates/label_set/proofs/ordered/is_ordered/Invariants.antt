@@ -1,7 +1,7 @@
 use Rattle.std.proofs.Common.{◌≡◌, drop}
 use Rattle.std.specs.Prelude.{map}
 use Rattle.label_set.specs.Lasts.{is_ordered}
-use Rattle.label_set.specs.Lent.{pair_of}
+use Rattle.label_set.specs.Borrowed.{pair_of}
 use Rattle.label_set.proofs.ordered.is_ordered.Given as goal
 
 abbrev pub invariant-loop-place : goal.invariant-loop-place

@@ -6,10 +6,10 @@ use Rattle.std.proofs.lemmas.List.{length-map}
 use Rattle.scrape_machine.specs.Lives.{is_open}
 use Rattle.scrape_machine.specs.Machine.{world}
 use Rattle.scrape_steps.specs.Reloads.{closed_by, begun_by, reload_life, reload_lives, reload_births}
-use Rattle.scrape_steps.specs.declared.acts.Fate.{Fate}
+use Rattle.scrape_steps.specs.declared.acts.Transition.{Transition}
 use Rattle.scrape_machine.specs.declared.lives.Life.{Life}
 use Rattle.scrape_steps.specs.Plans as plan
-use Rattle.scrape_steps.specs.Concerned.{places_where, all_fates, is_open_place}
+use Rattle.scrape_steps.specs.Concerned.{places_where, all_transitions, is_open_place}
 use Rattle.scrape_steps.specs.Endings.{endings_at, endings_from, waiting, HoldSame}
 use Rattle.scrape_steps.proofs.EndingLemmas.{reload_endings}
 use Rattle.scrape_steps.proofs.ListedLemmas.{left_open, reload_stays, reload_places}
@@ -18,13 +18,13 @@ use Rattle.scrape_core.proofs.StateLemmas.{same_change}
 use Rattle.scrape_core.specs.Kept.{live}
 use Rattle.scrape_core.proofs.changes.reload.Goals as goal
 
-pub meet_all-requires-clause-places : goal.meet_all-requires-clause-places
-meet_all-requires-clause-places c =
+pub apply_all-requires-clause-places : goal.apply_all-requires-clause-places
+apply_all-requires-clause-places c =
     c.deref-6.ensures.value ∙ c.in_ok-reserve-2.ensures.items ∙ c.requires.listed.0
     ∙ ap (places_where is_open 0) (sym (c.deref_mut.ensures.value ∙ c.in_ok-reserve.ensures.items))
 
-pub meet_all-requires-clause-each : goal.meet_all-requires-clause-each
-meet_all-requires-clause-each c =
+pub apply_all-requires-clause-each : goal.apply_all-requires-clause-each
+apply_all-requires-clause-each c =
     let ls = c.args.state.now.lives.items in
     c.in_ok-change.ensures.each
     ∙ ap (λ (zs : List Life). length (filter is_open zs)) (c.open-lives.ensures.all ∙ c.deref.ensures.value)
@@ -38,14 +38,14 @@ push_endings-requires c =
 pub overflow_cast-synced : goal.overflow_cast-synced
 overflow_cast-synced c =
     let ls = c.args.state.now.lives.items in
-    let fates = ap (λ (fs : List Fate). length fs) c.deref-5.ensures.value in
+    let transitions = ap (λ (fs : List Transition). length fs) c.deref-5.ensures.value in
     let each = c.in_ok-change.ensures.each ∙ ap (λ (zs : List Life). length (filter is_open zs)) (c.open-lives.ensures.all ∙ c.deref.ensures.value) in
-    omega (arith, c.count_closed.ensures.few, fates, each, filter_few is_open ls, c.requires.few)
+    omega (arith, c.count_closed.ensures.few, transitions, each, filter_few is_open ls, c.requires.few)
 
 pub returns-clause-closed : goal.returns-clause-closed
 returns-clause-closed c =
     c.count_closed.ensures.value
-    ∙ ap (λ (fs : List Fate). length (filter plan.closes fs)) c.deref-5.ensures.value
+    ∙ ap (λ (fs : List Transition). length (filter plan.closes fs)) c.deref-5.ensures.value
     ∙ c.in_ok-change.ensures.closed
     ∙ same_change (λ n o l. closed_by c.args.moment n (world o l [])) _ _ _ _ _ _ c.deref-4.ensures.value c.deref-3.ensures.value (c.open-lives.ensures.all ∙ c.deref.ensures.value)
 
@@ -55,11 +55,11 @@ returns-clause-begun c =
     ∙ same_change (λ n o l. begun_by c.args.moment n (world o l [])) _ _ _ _ _ _ c.deref-4.ensures.value c.deref-3.ensures.value (c.open-lives.ensures.all ∙ c.deref.ensures.value)
 
 -- the lives after what becomes of each
-met : (c : goal.After-drop-state) → c.meet_all.new.lives ≡ reload_lives c.args.moment c.args.jobs.items (live c.args.state.now)
+met : (c : goal.After-drop-state) → c.apply_all.new.lives ≡ reload_lives c.args.moment c.args.jobs.items (live c.args.state.now)
 met c =
     let m = c.args.moment in
-    c.meet_all.ensures
-    ∙ ap (λ ls. plan.after_each m (all_fates is_open c.in_ok-change.change.fates.items ls) ls)
+    c.apply_all.ensures
+    ∙ ap (λ ls. plan.after_each m (all_transitions is_open c.in_ok-change.change.transitions.items ls) ls)
     (c.deref_mut.ensures.value ∙ c.in_ok-reserve.ensures.items ∙ sym (c.open-lives.ensures.all ∙ c.deref.ensures.value))
     ∙ c.in_ok-change.ensures.lives
     ∙ same_change (λ n o l. reload_lives m n (world o l [])) _ _ _ _ _ _ c.deref-4.ensures.value c.deref-3.ensures.value (c.open-lives.ensures.all ∙ c.deref.ensures.value)
@@ -72,12 +72,12 @@ born c =
     ∙ same_change (λ n o l. reload_births m n (world o l [])) _ _ _ _ _ _ c.deref-4.ensures.value c.deref-3.ensures.value (c.open-lives.ensures.all ∙ c.deref.ensures.value)
 
 -- and the list of lives before those join
-front : (c : goal.After-drop-state) → take c.reserve.new.self.len (c.meet_all.new.lives ++ drop (length c.meet_all.new.lives) c.reserve.new.self.items) ≡ c.meet_all.new.lives
+front : (c : goal.After-drop-state) → take c.reserve.new.self.len (c.apply_all.new.lives ++ drop (length c.apply_all.new.lives) c.reserve.new.self.items) ≡ c.apply_all.new.lives
 front c =
-    let rest = drop (length c.meet_all.new.lives) c.reserve.new.self.items in
-    let long : length c.meet_all.new.lives ≡ c.reserve.new.self.len =
+    let rest = drop (length c.apply_all.new.lives) c.reserve.new.self.items in
+    let long : length c.apply_all.new.lives ≡ c.reserve.new.self.len =
     ap (λ (ls : List Life). length ls) (met c) ∙ length-map _ _ ∙ sym (ap (λ (ls : List Life). length ls) c.in_ok-reserve.ensures.items) ∙ sym c.reserve.new.self.ok.0 in
-    ap (λ n. take n (c.meet_all.new.lives ++ rest)) (sym long) ∙ take-append_seam c.meet_all.new.lives rest
+    ap (λ n. take n (c.apply_all.new.lives ++ rest)) (sym long) ∙ take-append_seam c.apply_all.new.lives rest
 
 after : (c : goal.After-drop-state) →
     c.push_lives.new.lives.items ≡ reload_lives c.args.moment c.args.jobs.items (live c.args.state.now) ++ reload_births c.args.moment c.args.jobs.items (live c.args.state.now)

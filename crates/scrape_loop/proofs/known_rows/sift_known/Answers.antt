@@ -1,6 +1,6 @@
 use Rattle.std.proofs.Common.{◌≡◌, ◌<◌, ◌+◌, List, Ok, ap, ap₂, arith, ◌∙◌, length, refl, sym, subst, subst₂}
 use Rattle.std.specs.Prelude.{map, IfSome}
-use Rattle.label_set.specs.Lent.{pair_of}
+use Rattle.label_set.specs.Borrowed.{pair_of}
 use Rattle.label_set.specs.declared.texts.Pair.{Pair}
 use Rattle.rule_conf.specs.declared.conf.RuleConf.{RuleConf}
 use Rattle.sample_rows.specs.Rows.{row_series}
@@ -19,7 +19,7 @@ show_row-requires-clause-right g c =
     let rows = c.args.body.now.rows in
     let row = c.row-row.result in
     let within : c.loop-place.place < length rows = omega (arith, c.len-place-end.ensures) in
-    let target : c.in_ok-lent.lent ≡ c.args.terms.now.target.now = c.in_ok-lent.ensures ∙ ap (map pair_of) c.as_slice.ensures.value ∙ c.in_ok-labels.ensures.labels in
+    let target : c.in_ok-borrowed.borrowed ≡ c.args.terms.now.target.now = c.in_ok-borrowed.ensures ∙ ap (map pair_of) c.as_slice.ensures.value ∙ c.in_ok-labels.ensures.labels in
     subst₂ (λ (rules : List RuleConf) (t : List Pair). IfSome (find row.raw c.loop-place.cache.texts) (λ (k : Known). k.set ≡ row_series honor rules t row))
     (sym c.loop-place.invariant.same) (sym target)
     (right_at honor c.args.terms.now.metric.now c.args.terms.now.target.now c.args.body.now.form c.args.body.now.bytes rows c.row-row.ensures.reading c.loop-place.place row
@@ -38,7 +38,7 @@ loop-place-preserved g c =
     let row = c.row-row.result in
     let same = c.loop-place.invariant.same in
     let within : i < length rows = omega (arith, c.len-place-end.ensures) in
-    let target : c.in_ok-lent.lent ≡ labels = c.in_ok-lent.ensures ∙ ap (map pair_of) c.as_slice.ensures.value ∙ c.in_ok-labels.ensures.labels in
+    let target : c.in_ok-borrowed.borrowed ≡ labels = c.in_ok-borrowed.ensures ∙ ap (map pair_of) c.as_slice.ensures.value ∙ c.in_ok-labels.ensures.labels in
     let series = c.in_ok-series.ensures.series ∙ ap₂ (λ (r : List RuleConf) (t : List Pair). row_series rules.honor_labels r t row) same target in
     let shown : c.show_row.new.cache ≡ shown_row rules metric labels c.loop-place.cache row =
     c.in_ok-series.ensures.cache ∙ ap₂ (λ (r : List RuleConf) (t : List Pair). shown_row rules r t c.loop-place.cache row) same target in
@@ -65,8 +65,8 @@ pub returns-in_err-labels-clause-at_most : goal.returns-in_err-labels-clause-at_
 returns-in_err-labels-clause-at_most g c =
     omega (arith, reply_grows c.args.terms.now.rules.now c.args.terms.now.metric.now c.args.terms.now.target.now c.args.cache.now (Ok c.args.body.now.rows))
 
-pub returns-in_err-lent-clause-at_most : goal.returns-in_err-lent-clause-at_most
-returns-in_err-lent-clause-at_most g c =
+pub returns-in_err-borrowed-clause-at_most : goal.returns-in_err-borrowed-clause-at_most
+returns-in_err-borrowed-clause-at_most g c =
     omega (arith, reply_grows c.args.terms.now.rules.now c.args.terms.now.metric.now c.args.terms.now.target.now c.args.cache.now (Ok c.args.body.now.rows))
 
 pub returns-in_err-series-clause-at_most : goal.returns-in_err-series-clause-at_most
@@ -78,7 +78,7 @@ returns-in_err-series-clause-at_most g c =
     let rows = c.args.body.now.rows in
     let row = c.row-row.result in
     let within : i < length rows = omega (arith, c.len-place-end.ensures) in
-    let target : c.in_ok-lent.lent ≡ labels = c.in_ok-lent.ensures ∙ ap (map pair_of) c.as_slice.ensures.value ∙ c.in_ok-labels.ensures.labels in
+    let target : c.in_ok-borrowed.borrowed ≡ labels = c.in_ok-borrowed.ensures ∙ ap (map pair_of) c.as_slice.ensures.value ∙ c.in_ok-labels.ensures.labels in
     let len =
     ap₂ (λ (r : List RuleConf) (t : List Pair). length (shown_row rules r t c.loop-place.cache row).texts) c.loop-place.invariant.same target
     ∙ ap (λ (v : CacheView). length (shown_row rules metric labels v row).texts) c.loop-place.invariant.cache
@@ -95,7 +95,7 @@ returns-in_err-take-clause-at_most g c =
     let rows = c.args.body.now.rows in
     let row = c.row-row.result in
     let within : i < length rows = omega (arith, c.len-place-end.ensures) in
-    let target : c.in_ok-lent.lent ≡ labels = c.in_ok-lent.ensures ∙ ap (map pair_of) c.as_slice.ensures.value ∙ c.in_ok-labels.ensures.labels in
+    let target : c.in_ok-borrowed.borrowed ≡ labels = c.in_ok-borrowed.ensures ∙ ap (map pair_of) c.as_slice.ensures.value ∙ c.in_ok-labels.ensures.labels in
     let len =
     ap₂ (λ (r : List RuleConf) (t : List Pair). length (shown_row rules r t c.loop-place.cache row).texts) c.loop-place.invariant.same target
     ∙ ap (λ (v : CacheView). length (shown_row rules metric labels v row).texts) c.loop-place.invariant.cache

@@ -4,8 +4,8 @@ use Rattle.scrape_steps.specs.Plans.{IsHeld, after_each}
 use Rattle.scrape_steps.specs.Concerned.{concerned}
 use Rattle.scrape_steps.proofs.reloads.held_of.Given as goal
 
-abbrev pub invariant-loop-fate : goal.invariant-loop-fate
-invariant-loop-fate l = record {
-  place : l.place ≡ l.fate-index;
-  held : (moment : ℤ) → IsHeld l.held l.names (after_each moment (take l.fate-index l.fates) (take l.fate-index (concerned l.lives)));
+abbrev pub invariant-loop-transition : goal.invariant-loop-transition
+invariant-loop-transition l = record {
+  place : l.place ≡ l.transition-index;
+  held : (moment : ℤ) → IsHeld l.held l.names (after_each moment (take l.transition-index l.transitions) (take l.transition-index (concerned l.lives)));
 }

@@ -1,6 +1,6 @@
 use Rattle.std.proofs.Common.{◌≡◌, ◌++◌, not}
 use Rattle.std.specs.Prelude.{filter, map}
-use Rattle.label_set.specs.Lent.{pair_of}
+use Rattle.label_set.specs.Borrowed.{pair_of}
 use Rattle.label_set.specs.declared.texts.Pair.{Pair}
 use Rattle.target_set.specs.Outcomes.{begins_with}
 use Rattle.target_set.proofs.outcomes.labels_without_front.Given as goal

@@ -1,6 +1,6 @@
 use Rattle.std.proofs.Common.{rules}
 use Rattle.std.specs.Prelude.{map}
-use Rattle.label_set.specs.Lent.{pair_of}
+use Rattle.label_set.specs.Borrowed.{pair_of}
 use Rattle.label_set.proofs.SplitLemmas.{made}
 use Rattle.label_set.proofs.sets.LabelSet.from_labels.Goals as goal
 

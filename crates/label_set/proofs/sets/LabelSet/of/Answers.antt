@@ -1,6 +1,6 @@
 use Rattle.std.proofs.Common.{rules, sym, ◌∙◌}
 use Rattle.std.specs.Prelude.{map}
-use Rattle.label_set.specs.Lent.{pair_of}
+use Rattle.label_set.specs.Borrowed.{pair_of}
 use Rattle.label_set.proofs.OfLemmas.{ordered_is_set, set_again}
 use Rattle.label_set.proofs.sets.LabelSet.of.Goals as goal
 

@@ -3,7 +3,7 @@ use Rattle.std.specs.Prelude.{map}
 use Rattle.label_set.specs.Flat.{labels_of}
 use Rattle.label_set.specs.Lasts.{with_labels, lasts, Encodes}
 use Rattle.label_set.specs.declared.ordered.Named.{Named}
-use Rattle.label_set.specs.Lent.{pair_of}
+use Rattle.label_set.specs.Borrowed.{pair_of}
 use Rattle.label_set.specs.Named.{named_pair}
 use Rattle.label_set.proofs.SplitLemmas.{made}
 use Rattle.label_set.proofs.OfLemmas.{of_sorted, sorted_is_set, named_back}

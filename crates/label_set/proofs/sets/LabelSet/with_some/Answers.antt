@@ -1,5 +1,5 @@
 use Rattle.std.proofs.Common.{rules}
-use Rattle.label_set.specs.Lent.{pair_of}
+use Rattle.label_set.specs.Borrowed.{pair_of}
 use Rattle.label_set.proofs.SplitLemmas.{made_with}
 use Rattle.label_set.proofs.sets.LabelSet.with_some.Goals as goal
 

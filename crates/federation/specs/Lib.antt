@@ -1,0 +1,4 @@
+pub mod Federations
+pub mod Merges
+pub mod Texts
+pub mod Readings

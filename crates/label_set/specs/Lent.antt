@@ -1,6 +1,0 @@
--- Labels that are lent.
-use Rattle.label_set.specs.declared.texts.Pair.{Pair}
-use Rattle.label_set.specs.declared.labels.Label.{Label}
-
-abbrev pub pair_of : Label → Pair
-pair_of l = record { name = l.name.now; value = l.value.now }

@@ -1,0 +1,15 @@
+-- Series that have a metric name ("Data model" of the Prometheus documentation: it is the value of the label `__name__`).
+use Rattle.std.specs.Prelude.{◌≡◌, true, List, [], ◌∷◌}
+use Rattle.label_conflict.specs.Merging.{bears}
+use Rattle.label_set.specs.SetText.{metric_label}
+use Rattle.label_set.specs.declared.texts.Pair.{Pair}
+use Rattle.report_samples.specs.declared.entries.Entry.{Entry}
+
+-- a label of the set is called `__name__`
+abbrev pub HasName : List Pair → Type 0
+HasName set = bears set metric_label ≡ true
+
+-- so has each series of some entries
+abbrev pub AreNamed : List Entry → Type 0
+AreNamed [] = Unit {0}
+AreNamed (e ∷ es) = HasName e.series × AreNamed es
