@@ -3,64 +3,24 @@
 pub const CASES: &str = r#"
 == serve_without_files
 $ serve
--- file s
-scrape-journal 1
-load 0 76
-{"scrape_configs":[{"job_name":"j","static_configs":[{"targets":["a:1"]}]}]}
-sweep 0
-body 15 0 200 8
-x 1
-y 2
-
 -- err
 scrape: bad words
 -- status 2
 
 == serve_without_a_configuration
 $ serve s
--- file s
-scrape-journal 1
-load 0 76
-{"scrape_configs":[{"job_name":"j","static_configs":[{"targets":["a:1"]}]}]}
-sweep 0
-body 15 0 200 8
-x 1
-y 2
-
 -- err
 scrape: bad words
 -- status 2
 
 == serve_of_three_files
 $ serve s c d
--- file s
-scrape-journal 1
-load 0 76
-{"scrape_configs":[{"job_name":"j","static_configs":[{"targets":["a:1"]}]}]}
-sweep 0
-body 15 0 200 8
-x 1
-y 2
-
--- file c
-{"scrape_configs":[]}
 -- err
 scrape: bad words
 -- status 2
 
 == serve_with_a_flag
 $ serve --kept s c
--- file s
-scrape-journal 1
-load 0 76
-{"scrape_configs":[{"job_name":"j","static_configs":[{"targets":["a:1"]}]}]}
-sweep 0
-body 15 0 200 8
-x 1
-y 2
-
--- file c
-{"scrape_configs":[]}
 -- err
 scrape: bad words
 -- status 2

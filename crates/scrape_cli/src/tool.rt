@@ -165,8 +165,9 @@ fn handed_back<C, K, F>(status: u8, control: C, clock: K, fetchers: Vec<F>) -> F
 ///
 /// Where nothing began, control and fetchers come back as they were, and the clock gave one reading.
 ///
-/// `still` says of the other commands how they end, what they print, which status is due, and that no count falls; `served` says the same of `serve`,
-/// whose connection is what control gives; `live` says of `run` what it prints and what its record is worth.
+/// `still` says of the other commands how they end, what they print, which status is due, and that no count falls; `served` says of `serve`, whose
+/// connection is what control gives, how it ends, what was served and written, and which status is due; `live` says of `run` what it prints and what
+/// its record is worth.
 /// `markers`, `closed_runs`, `report_markers` and `late` hold of every journal, so of the one whose book is printed. `cuts` says what a trail is
 /// worth that a failing disk cut: what `replay --cut` prints of it is the beginning of what the run would have printed.
 pub fn tool<

@@ -1,5 +1,5 @@
 -- Which status of serving is due, and what each says.
-use Rattle.std.proofs.Common.{◌≡◌, ◌⊎◌, ◌<◌, ◌+◌, inl, inr, ⊎_elim, ℕ, List, length, refl, sym, subst, arith}
+use Rattle.std.proofs.Common.{◌≡◌, ◌⊎◌, inl, inr, ⊎_elim, ℕ, List, refl, sym, subst, arith}
 use Rattle.std.specs.Prelude.{Some, false, Err}
 use Rattle.journal_text.specs.declared.events.Event.{Event}
 use Rattle.journal_text.specs.declared.faults.ScriptFault.{ScriptFault}
@@ -15,7 +15,7 @@ use Rattle.scrape_commands.proofs.FileLemmas.{longer_has, longer_lacks, none_has
 use Rattle.status_server.specs.Serving as server
 use Rattle.status_server.specs.Serving.{ServesAll, most_bytes}
 use Rattle.status_server.specs.declared.serving.ServeEnd.TheVariants as serve
-use Rattle.serve_command.specs.Ends.{Causes, Complete, EndedServe, GaveMore, IsRead, IsSound, TellsLonger, TellsNone, TellsScript, file_said, refusal_of, script_refusal}
+use Rattle.serve_command.specs.Ends.{Complete, EndedServe, GaveMore, IsRead, IsSound, TellsLonger, TellsNone, TellsScript, file_said, refusal_of, script_refusal}
 use Rattle.serve_command.specs.Serves.{AnswersAll, Ends, IsFaulty, IsReplayed, Touched, Unserved, Wrote, most_script_bytes}
 use Rattle.serve_command.specs.declared.ends.ScriptEnd.{ScriptEnd}
 use Rattle.serve_command.specs.declared.ends.ScriptEnd.TheVariants as script

@@ -1,5 +1,5 @@
 -- How serving ends, by the end of the connection and by what is written behind it.
-use Rattle.std.proofs.Common.{◌≡◌, ◌≢◌, List, subst, sym, inl, inr}
+use Rattle.std.proofs.Common.{◌≢◌, List, subst, sym, inl, inr}
 use Rattle.journal_text.specs.Events.{journal_text}
 use Rattle.journal_text.specs.declared.events.Event.{Event}
 use Rattle.journal_text.specs.declared.versions.Version.TheVariants.{Two}

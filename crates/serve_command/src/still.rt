@@ -113,7 +113,7 @@ fn tool_serve<S: Shelf, O: Sink, E: Sink, R: Sink, C: Source>(
 /// | 8 | memory ran out: whole replies stay, and nothing is written of the journal |
 /// | 9 | the connection gave more than 1 MiB: the replies stay, and the journal is written |
 ///
-/// `served` is that table; it leaves `err` and the counts as it says. All other commands are `scrape_commands`',
+/// `served` is that table, with what is said on `err` and which status is due. All other commands are `scrape_commands`',
 /// whose table says how they end (`still`); they leave trail and control as they are (`trail`, `control`). `markers`,
 /// `closed_runs`, `report_markers` and `late` hold of every journal, so of the one that a script spells: in the book
 /// that is printed each closed run of a tracked series has exactly one stale marker, after it, no marker stands
