@@ -11,10 +11,10 @@ use Rattle.clap.specs.declared.error.kind.ErrorKind.TheVariants.{OutOfMemory}
 use Rattle.clap.specs.declared.parser.matches.ArgMatches.{ArgMatches}
 use Rattle.clap.proofs.OnLiterals.{clap_on_literals}
 use Rattle.clap.proofs.WalkLemmas.{first_value-rows}
-use Rattle.command_words.specs.Arguments.{replay_app, file_app, at_app, synth_app, run_app, app_for, fault_in, rows_in}
+use Rattle.command_words.specs.Arguments.{replay_app, file_app, at_app, synth_app, run_app, serve_app, app_for, fault_in, rows_in}
 use Rattle.command_words.specs.Words.{order_of, asked_in, order_by, file_in, file_asked, unless_refused, is_given}
 use Rattle.command_words.specs.declared.words.Verb.{Verb}
-use Rattle.command_words.specs.declared.words.Verb.TheVariants.{Replay, Check, Convert, At, Synth, Run}
+use Rattle.command_words.specs.declared.words.Verb.TheVariants.{Replay, Check, Convert, At, Synth, Run, Serve}
 use Rattle.command_words.specs.declared.words.Asked.{Asked}
 use Rattle.command_words.specs.declared.words.Order.{Order}
 
@@ -42,6 +42,10 @@ free_run : is_simple_and_free run_app ≡ true
 unfolding run_app clap_on_literals
 free_run = refl
 
+free_serve : is_simple_and_free serve_app ≡ true
+unfolding serve_app clap_on_literals
+free_serve = refl
+
 simple_replay : is_simple replay_app ≡ true
 unfolding replay_app clap_on_literals
 simple_replay = refl
@@ -66,6 +70,10 @@ simple_run : is_simple run_app ≡ true
 unfolding run_app clap_on_literals
 simple_run = refl
 
+simple_serve : is_simple serve_app ≡ true
+unfolding serve_app clap_on_literals
+simple_serve = refl
+
 is_free : (command : Verb) → is_simple_and_free (app_for command) ≡ true
 is_free Replay = free_replay
 is_free Check = free_check
@@ -73,6 +81,7 @@ is_free Convert = free_convert
 is_free At = free_at
 is_free Synth = free_synth
 is_free Run = free_run
+is_free Serve = free_serve
 
 has_simple : (command : Verb) → is_simple (app_for command) ≡ true
 has_simple Replay = simple_replay
@@ -81,6 +90,7 @@ has_simple Convert = simple_convert
 has_simple At = simple_at
 has_simple Synth = simple_synth
 has_simple Run = simple_run
+has_simple Serve = simple_serve
 
 module _ (command : Verb) (words : List Text) (app : App) (is : app ≡ app_for command) where
   -- words that are taken have no fault

@@ -5,7 +5,7 @@ use Rattle.clap.specs.Kinds.{Kinds}
 use Rattle.clap.specs.Faults.{fault_of}
 use Rattle.clap.specs.declared.builder.action.ArgAction.TheVariants.{SetTrue}
 use Rattle.command_words.specs.declared.words.Verb.{Verb}
-use Rattle.command_words.specs.declared.words.Verb.TheVariants.{Replay, Check, Convert, At, Synth, Run}
+use Rattle.command_words.specs.declared.words.Verb.TheVariants.{Replay, Check, Convert, At, Synth, Run, Serve}
 
 abbrev pub kept_id : Text
 kept_id = codes "kept"
@@ -33,6 +33,9 @@ scrapes_id = codes "scrapes"
 
 abbrev pub turns_id : Text
 turns_id = codes "turns"
+
+abbrev pub script_id : Text
+script_id = codes "script"
 
 -- `--turns N`
 abbrev pub turns_rule : Rule
@@ -70,6 +73,10 @@ synth_app = with_rule (with_rule (with_rule (bare_app (codes "synth")) (word_rul
 unfoldable pub run_app : App
 run_app = with_rule (with_rule (with_rule (bare_app (codes "run")) turns_rule) (flag_rule kept_id)) (word_rule file_id)
 
+-- `serve SCRIPT FILE`
+unfoldable pub serve_app : App
+serve_app = with_rule (with_rule (bare_app (codes "serve")) (word_rule script_id)) (word_rule file_id)
+
 abbrev pub app_for : Verb → App
 app_for Replay = replay_app
 app_for Check = file_app (codes "check")
@@ -77,6 +84,7 @@ app_for Convert = file_app (codes "convert")
 app_for At = at_app
 app_for Synth = synth_app
 app_for Run = run_app
+app_for Serve = serve_app
 
 -- why the command doesn't take the words, of which the first is its own: nothing where it takes them
 unfoldable pub fault_in : Verb → List Text → Kinds

@@ -1,4 +1,4 @@
--- A command over a file, and a live run.
+-- A command over a file, a live run, and serving.
 use Rattle.std.specs.Prelude.{ℕ, List, Bool}
 use Rattle.command_words.specs.declared.words.Command.{Command}
 
@@ -19,3 +19,11 @@ pub record Running : Type 0 where
 
 abbrev pub running : ℕ → Bool → List ℕ → Running
 running turns kept file = record { turns = turns; kept = kept; file = file }
+
+-- serving: the file of the script whose core answers, and the file that a reload loads
+pub record Serving : Type 0 where
+  pub script : List ℕ
+  pub file : List ℕ
+
+abbrev pub serving : List ℕ → List ℕ → Serving
+serving script file = record { script = script; file = file }

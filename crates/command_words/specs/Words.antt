@@ -9,8 +9,8 @@ use Rattle.value_text.specs.Values.{digits}
 use Rattle.outside.specs.Sizes.{most_body_bytes, most_text_bytes}
 use Rattle.synth.specs.Scripts.{plan, most_targets, most_scrapes, most_scrapes_of_all}
 use Rattle.synth.specs.declared.scripts.Plan.{Plan}
-use Rattle.command_words.specs.Arguments.{kept_id, cut_id, file_id, ms_id, selector_id, seed_id, targets_id, scrapes_id, turns_id, fault_in, rows_in}
-use Rattle.command_words.specs.Askings.{Asking, asking, running}
+use Rattle.command_words.specs.Arguments.{kept_id, cut_id, file_id, ms_id, selector_id, seed_id, targets_id, scrapes_id, turns_id, script_id, fault_in, rows_in}
+use Rattle.command_words.specs.Askings.{Asking, asking, running, serving}
 use Rattle.command_words.specs.Instants.{instant}
 use Rattle.command_words.specs.declared.words.Verb.{Verb}
 use Rattle.command_words.specs.declared.words.Verb.TheVariants as verb
@@ -19,7 +19,7 @@ use Rattle.command_words.specs.declared.words.Command.TheVariants.{Replay, Check
 use Rattle.command_words.specs.declared.words.Asked.{Asked}
 use Rattle.command_words.specs.declared.words.Asked.TheVariants.{File, Synth}
 use Rattle.command_words.specs.declared.words.Order.{Order}
-use Rattle.command_words.specs.declared.words.Order.TheVariants.{Still, Run}
+use Rattle.command_words.specs.declared.words.Order.TheVariants.{Still, Run, Serve}
 
 -- the command of a word
 abbrev pub verb_named : List ℕ → Option Verb
@@ -30,6 +30,7 @@ verb_named word =
     else if bytes_eq word (codes "at") then Some verb.At
     else if bytes_eq word (codes "synth") then Some verb.Synth
     else if bytes_eq word (codes "run") then Some verb.Run
+    else if bytes_eq word (codes "serve") then Some verb.Serve
     else None
 
 -- a flag was given: its value is then `true`
@@ -81,6 +82,11 @@ abbrev pub order_by_turns : Bool → Option ℕ → Option (List ℕ) → Option
 order_by_turns kept (Some turns) (Some file) = Some (Run (running turns kept file))
 order_by_turns kept _ _ = None
 
+-- serving of the script that was named, with the file that a reload loads
+abbrev pub order_by_script : Option (List ℕ) → Option (List ℕ) → Option Order
+order_by_script (Some script) (Some file) = Some (Serve (serving script file))
+order_by_script _ _ = None
+
 -- the workload of the numbers that were given
 abbrev pub workload_by : List Row → Option Asked
 workload_by rows =
@@ -94,6 +100,7 @@ order_by verb.Convert rows = option_map Still (asked_by_file Convert rows)
 order_by verb.At rows = option_map Still (at_asked rows)
 order_by verb.Synth rows = option_map Still (workload_by rows)
 order_by verb.Run rows = order_by_turns (is_given kept_id rows) (number_in turns_id 10 1000001 rows) (first_of file_id rows)
+order_by verb.Serve rows = order_by_script (first_of script_id rows) (first_of file_id rows)
 
 -- nothing is asked for by words that are refused
 abbrev pub unless_refused : Kinds → Option Order → Option Order
@@ -113,6 +120,7 @@ order_in (word ∷ words) = option_and_then (λ v. order_of v (word ∷ words)) 
 abbrev pub still_of : Order → Option Asked
 still_of (Still a) = Some a
 still_of (Run r) = None
+still_of (Serve s) = None
 
 -- what the words ask for that it does by itself
 abbrev pub asked_in : List (List ℕ) → Option Asked

@@ -7,7 +7,9 @@ ghost use Rattle.command_words.specs.declared.words.Order.TheVariants as orders;
 ghost use Rattle.command_words.specs.declared.words.Verb.TheVariants as verbs;
 
 use crate::viewing::viewing_of;
-use crate::words::{Asked, Command, OfFile, Order, Verb, live_of, verb_named, workload_of};
+use crate::words::{
+    Asked, Command, OfFile, Order, Serving, Verb, live_of, verb_named, workload_of,
+};
 use clap::error::ErrorKind;
 use clap::{Arg, ArgAction, ArgMatches, Command as Grammar};
 use std::alloc::{AllocError, Global};
@@ -108,6 +110,15 @@ fn run_grammar<'a>(alloc: Global) -> Result<Grammar<'a>, AllocError>
     Ok(whole)
 }
 
+/// `serve SCRIPT FILE`.
+fn serve_grammar<'a>(alloc: Global) -> Result<Grammar<'a>, AllocError>
+    ensures { IfOk result (λ g. app_of g ≡ grammar.serve_app) }
+{
+    let with_script = bare(alloc, "serve").arg(word(alloc, "script"))?;
+    let whole = with_script.arg(word(alloc, "file"))?;
+    Ok(whole)
+}
+
 fn grammar_of<'a>(alloc: Global, verb: Verb) -> Result<Grammar<'a>, AllocError>
     ensures { IfOk result (λ g. app_of g ≡ grammar.app_for verb) }
 {
@@ -118,6 +129,7 @@ fn grammar_of<'a>(alloc: Global, verb: Verb) -> Result<Grammar<'a>, AllocError>
         Verb::At => at_grammar(alloc),
         Verb::Synth => synth_grammar(alloc),
         Verb::Run => run_grammar(alloc),
+        Verb::Serve => serve_grammar(alloc),
     }
 }
 
@@ -245,6 +257,16 @@ fn order_by_turns<'a>(matches: &ArgMatches<'a>) -> Option<Order<'a>>
     }
 }
 
+/// The serving that is asked for.
+fn order_by_script<'a>(matches: &ArgMatches<'a>) -> Option<Order<'a>>
+    ensures { result ≡ spec.order_by verbs.Serve (rows_of (found_of matches.now)) }
+{
+    match (word_in("script", matches), word_in("file", matches)) {
+        (Some(script), Some(file)) => Some(Order::Serve(Serving { script, file })),
+        _ => None,
+    }
+}
+
 /// What the program does by itself for a command.
 fn still(asked: Option<Asked<'_>>) -> Option<Order<'_>>
     ensures { result ≡ option_map orders.Still asked.entry }
@@ -266,6 +288,7 @@ fn order_by<'a>(verb: Verb, matches: &ArgMatches<'a>) -> Option<Order<'a>>
         Verb::At => still(at_asked(matches)),
         Verb::Synth => still(asked_by_numbers(matches)),
         Verb::Run => order_by_turns(matches),
+        Verb::Serve => order_by_script(matches),
     }
 }
 
@@ -302,6 +325,6 @@ pub fn asked_in<'a>(alloc: Global, words: &'a [String]) -> Result<Asked<'a>, Wor
 {
     match order_in(alloc, words)? {
         Order::Still(asked) => Ok(asked),
-        Order::Run(_) => Err(WordsError::Bad),
+        Order::Run(_) | Order::Serve(_) => Err(WordsError::Bad),
     }
 }

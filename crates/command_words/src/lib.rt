@@ -9,4 +9,4 @@ pub mod words;
 
 pub use arguments::{WordsError, asked_in, order_in};
 pub use viewing::Viewing;
-pub use words::{Asked, Command, Live, OfFile, Order, Verb, Workload, limit_of};
+pub use words::{Asked, Command, Live, OfFile, Order, Serving, Verb, Workload, limit_of};

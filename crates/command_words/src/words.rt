@@ -19,6 +19,7 @@ pub enum Verb {
     At,
     Synth,
     Run,
+    Serve,
 }
 
 /// The commands over a file.
@@ -141,6 +142,21 @@ impl<'a> Live<'a> {
     }
 }
 
+/// Serving: the file of the script whose core answers, and the file that a reload loads.
+#[derive(Drop, Debug)]
+pub struct Serving<'a> {
+    pub script: &'a str,
+    pub file: &'a str,
+}
+
+impl<'a> Model for Serving<'a> {
+    ghost use Rattle.command_words.specs.Askings as askings;
+
+    ghost Value = { askings.Serving };
+
+    ghost view = { λ s. record { script = s.script.now; file = s.file.now } };
+}
+
 /// What the program can be asked for that it does by itself.
 #[derive(Drop, Debug)]
 pub enum Asked<'a> {
@@ -157,6 +173,8 @@ pub enum Order<'a> {
     Still(Asked<'a>),
     /// A live run, with whatever fetches, tells the time and gives control lines.
     Run(Live<'a>),
+    /// Answers to the requests of a connection, over the core of a script.
+    Serve(Serving<'a>),
 }
 
 /// The command of a word.
@@ -175,6 +193,8 @@ pub fn verb_named(word: &str) -> Option<Verb>
         Some(Verb::Synth)
     } else if word == "run" {
         Some(Verb::Run)
+    } else if word == "serve" {
+        Some(Verb::Serve)
     } else {
         None
     }

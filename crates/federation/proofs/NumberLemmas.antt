@@ -1,5 +1,5 @@
 -- A moment that is printed is a timestamp.
-use Rattle.std.proofs.Common.{◌≡◌, ℕ, ℤ, pos, negsuc, suc, ◌<◌, ◌^◌, true, false, not, List, [], ◌∷◌, length, refl, ap, ◌∙◌, arith, ◌==◌, Some, nat_lt}
+use Rattle.std.proofs.Common.{◌≡◌, ℕ, ℤ, pos, negsuc, suc, ◌<◌, ◌^◌, true, false, not, List, [], ◌∷◌, length, refl, ap, ◌∙◌, arith, ◌==◌, Some, nat_lt, FitsSigned, w64}
 use Rattle.std.specs.Fmt.{decimal, signed_decimal}
 use Rattle.std.specs.List.{list_all}
 use Rattle.std.specs.Char.{is_ascii_digit}
@@ -42,3 +42,11 @@ millis_printed (negsuc n) r =
     let digits = decimal-digits (suc n) (omega (arith, small)) in
     let value : digits_value 10 (decimal (suc n)) ≡ suc n = (decimal_is_IsNumeral (suc n) (omega (arith, small))).1 in
     rw (digits, value, r) refl
+
+-- a number of 64 bits is in range
+below : (n : ℕ) → n < 2 ^ 63 → nat_lt n (2 ^ 63) ≡ true
+below n h = grind (arith, nat_tests)
+
+pub fits_in_range : (z : ℤ) → FitsSigned w64 z → is_in_range z ≡ true
+fits_in_range (pos n) e = below n e.sfits
+fits_in_range (negsuc n) e = below n e.sfits

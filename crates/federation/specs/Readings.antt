@@ -20,6 +20,18 @@ pub record IsNamedText (p : Pair) : Type 0 where
   pub name : IsUtf8 p.name
   pub value : IsUtf8 p.value
 
+-- both texts of a label are texts
+pub record IsLabelText (p : Pair) : Type 0 where
+  pub name : IsUtf8 p.name
+  pub value : IsUtf8 p.value
+
+-- what a row is always: its series a label set of texts, its value a value, its moment within 64 bits
+pub record IsWellFormed (row : ViewRow) : Type 0 where
+  pub set : IsSet row.series
+  pub texts : All IsLabelText row.series
+  pub value : is_value row.value ≡ true
+  pub moment : is_in_range row.moment ≡ true
+
 -- a row of a series with a metric name; its other parts are what a label set, a value and a moment always are
 pub record HasMetric (row : ViewRow) : Type 0 where
   pub metric : value_in row.series metric_label ≢ []

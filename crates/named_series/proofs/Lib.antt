@@ -1,3 +1,11 @@
 pub mod SetLemmas
 pub mod LifeLemmas
 pub mod BookLemmas
+pub mod LabelLemmas
+pub mod RuleLabels
+pub mod RowLabels
+pub mod ConfLabels
+pub mod TargetLabels
+pub mod JobLabels
+pub mod LifeLabels
+pub mod BookLabels

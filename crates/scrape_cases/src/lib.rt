@@ -19,6 +19,7 @@ pub mod relabelling;
 pub mod reloads;
 pub mod scripts;
 pub mod selectors;
+pub mod served;
 pub mod synths;
 pub mod targets;
 pub mod texts;

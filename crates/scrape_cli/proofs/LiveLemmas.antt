@@ -2,27 +2,21 @@
 use Rattle.std.proofs.Common.{◌≡◌, ◌≤◌, ℕ, List, refl, ap, arith}
 use Rattle.std.specs.Prelude.{Option, Some, None, IfSome, Result, Ok, Err}
 use Rattle.command_words.specs.Askings.{Running}
-use Rattle.command_words.specs.declared.words.Order.TheVariants.{Run}
+use Rattle.command_words.specs.declared.words.Order.{Order}
+use Rattle.command_words.specs.declared.words.Order.TheVariants.{Still, Run, Serve}
+use Rattle.serve_command.specs.Ends.{LacksServe}
 use Rattle.live_run.specs.Runs as runs
 use Rattle.live_run.specs.Runs.{IsUnbegun, Touched, wanted}
 use Rattle.live_run.specs.declared.asked.LiveEnd.{LiveEnd}
 use Rattle.live_run.specs.declared.asked.LiveEnd.TheVariants.{NoMemory}
 use Rattle.outside.specs.Objects.{SinkSeen, Use, used, IsUntouched}
 use Rattle.outside.specs.Sources.{SourceSeen}
-use Rattle.scrape_commands.specs.Ends.{Call, Ended, Speaks}
-use Rattle.scrape_cli.specs.Lives.{EndedLive, EndedStill}
+use Rattle.scrape_commands.specs.Ends.{Speaks}
+use Rattle.scrape_cli.specs.Lives.{EndedLive, IsStill}
 use Rattle.scrape_commands.specs.declared.refusals.Refusal.{Refusal}
 use Rattle.scrape_commands.specs.declared.refusals.Refusal.TheVariants as refusal
-use Rattle.scrape_commands.proofs.DueLemmas.{complete_by}
-use Rattle.scrape_commands.proofs.EndLemmas.{ended_by, later_by, printed_by, unwritten_by}
 use Rattle.station.specs.Ends.{ShelfWent, SinkWent, SourceWent}
 use Rattle.scrape_cli.proofs.DueLemmas.{causes, complete}
-
-pub ended_still : (status : ℕ) (c : Call) → Ended status c → EndedStill status c
-ended_still status c e = record { ended = e; printed = printed_by status c e; unwritten = unwritten_by status c e; complete = complete_by status c e; later = later_by status c e }
-
-pub still_wanting : (c : Call) (file : List ℕ) → IsUntouched c.shelf → IsUntouched c.out → Speaks (Err refusal.NoMemory) file c.err → EndedStill 8 c
-still_wanting c file shelf out speaks = ended_still 8 c (ended_by (Err refusal.NoMemory) c (record { cause = tt; shelf = shelf; out = out }) speaks)
 
 pub live_wanting : (r : Running) (t : Touched) (back : Type 0) (file : List ℕ) → IsUntouched t.trail → IsUntouched t.out → ShelfWent t.shelf → SinkWent (used t.err.before t.err.before) → SourceWent t.control → IsUntouched t.control
     → Speaks (Err refusal.NoMemory) file t.err → EndedLive 8 r t back
@@ -48,6 +42,13 @@ later_said (Err r) file err h = h.later
 -- where a run didn't begin, control came back as it was
 pub still_control : {C : Type 0} (seen : C → SourceSeen) (end : LiveEnd) (before after : C) → (IsUnbegun end → after ≡ before) → IsUnbegun end → IsUntouched (used (seen before) (seen after))
 still_control seen end before after h u = ap seen (h u)
+
+-- where neither a run nor serving is asked for, no serving is
+pub lacks_serve : (o : Option Order) → IsStill o → LacksServe o
+lacks_serve None h = tt
+lacks_serve (Some (Still a)) h = tt
+lacks_serve (Some (Run r)) h = tt
+lacks_serve (Some (Serve s)) h = h
 
 -- words ask for one run
 pub same_run : (a b : Running) → Some (Run a) ≡ Some (Run b) → a ≡ b

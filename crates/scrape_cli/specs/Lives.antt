@@ -1,5 +1,5 @@
 -- How a call of the program ends that makes a live run.
-use Rattle.std.specs.Prelude.{◌≡◌, ◌≢◌, ◌⊎◌, ◌<◌, ◌≤◌, ⊤, ℕ, ◌+◌, List, [], length, codes, Option, Some, None, IsSomeAnd, Result, Ok, Err}
+use Rattle.std.specs.Prelude.{◌≡◌, ◌⊎◌, ◌<◌, ◌≤◌, ⊤, ℕ, ◌+◌, List, [], length, codes, Option, Some, None, IsSomeAnd, Result, Ok, Err}
 use Rattle.config_fields.specs.declared.fault.ConfFault.{ConfFault}
 use Rattle.jobs_in_force.specs.Jobs.{loaded}
 use Rattle.outside.specs.Fetches.{FetchSeen}
@@ -9,21 +9,22 @@ use Rattle.station.specs.Control.{most_control_bytes}
 use Rattle.station.specs.Ends.{IsShort}
 use Rattle.command_words.specs.Askings.{Running}
 use Rattle.command_words.specs.declared.words.Order.{Order}
-use Rattle.command_words.specs.declared.words.Order.TheVariants.{Still, Run}
+use Rattle.command_words.specs.declared.words.Order.TheVariants.{Still, Run, Serve}
 use Rattle.live_run.specs.Runs as run
 use Rattle.live_run.specs.Runs.{IsTaken, IsUnbegun, Touched, wanted}
 use Rattle.live_run.specs.declared.asked.LiveEnd.{LiveEnd}
 use Rattle.live_run.specs.declared.asked.LiveEnd.TheVariants.{Done, ControlFault, ControlLong, Absent, TooLong, Config, ReadFault, WriteFault, NoMemory}
-use Rattle.scrape_commands.specs.Ends.{Call, Ended, Prints, Speaks, status_at, work_of}
-use Rattle.scrape_commands.specs.Laws.{Complete, IsFreely, NoCountFell}
+use Rattle.scrape_commands.specs.Ends.{Speaks, status_at}
+use Rattle.scrape_commands.specs.Laws.{IsFreely}
 use Rattle.scrape_commands.specs.declared.refusals.Refusal.{Refusal}
 use Rattle.scrape_commands.specs.declared.refusals.Refusal.TheVariants as refusal
 
--- no live run is asked for
+-- neither a live run nor serving is asked for
 abbrev pub IsStill : Option Order → Type 0
 IsStill None = ⊤
 IsStill (Some (Still a)) = ⊤
 IsStill (Some (Run r)) = ⊥
+IsStill (Some (Serve s)) = ⊥
 
 -- the refusal that a run's end is; none where all went well
 abbrev pub refusal_of : LiveEnd → Result (Unit {0}) Refusal
@@ -101,11 +102,3 @@ pub record EndedLive (status : ℕ) (r : Running) (t : Touched) (back : Type 0) 
   pub unbegun : IsUnbegun end → back
   pub complete : CompleteLive status r t
   pub causes : CausesLive status t
-
--- a call of another command ended with this status, by the one table; and what a reader looks for first, which follows from it
-pub record EndedStill (status : ℕ) (c : Call) : Type 0 where
-  pub ended : Ended status c
-  pub printed : status ≡ 0 → Prints (work_of c)
-  pub unwritten : status ≢ 0 → status ≢ 7 → IsUntouched c.out
-  pub complete : Complete status c
-  pub later : NoCountFell c

@@ -1,5 +1,5 @@
 //! The whole program, over whatever has files, takes bytes, gives control lines, tells the time and fetches.
-ghost use Rattle.std.specs.Prelude.{◌≡◌, ◌≢◌, ◌<◌, ◌≤◌, ℕ, Bool, List, map, string_bytes, is_some, vec_len, Some, None, IfSome, IsTrue};
+ghost use Rattle.std.specs.Prelude.{◌≡◌, ◌<◌, ◌≤◌, ℕ, Bool, List, map, string_bytes, is_some, vec_len, Some, None, IfSome, IsTrue};
 ghost use Rattle.label_set.specs.declared.texts.Pair.{Pair};
 ghost use Rattle.journal_text.specs.declared.events.Event.{Event};
 ghost use Rattle.outside.specs.Objects.{used};
@@ -8,22 +8,28 @@ ghost use Rattle.scrape_laws.specs.Markers.{MarkerLaw, ReportMarkerLaw};
 ghost use Rattle.scrape_laws.specs.Runs.{ClosedRunsLaw};
 ghost use Rattle.scrape_laws.specs.Late.{LateLaw};
 ghost use Rattle.command_words.specs.Askings.{Running};
+ghost use Rattle.command_words.specs.Askings as askings;
 ghost use Rattle.command_words.specs.Words.{order_in};
 ghost use Rattle.command_words.specs.declared.words.Order.TheVariants.{Run};
+ghost use Rattle.command_words.specs.declared.words.Order.TheVariants as orders;
 ghost use Rattle.live_run.specs.Runs.{IsReadOnce, touched};
 ghost use Rattle.scrape_commands.specs.Cuts.{CutLaw, IsCutOf};
 ghost use Rattle.scrape_commands.specs.Ends.{call};
+ghost use Rattle.scrape_commands.specs.Laws.{EndedStill};
+ghost use Rattle.serve_command.specs.Ends.{EndedServe};
+ghost use Rattle.serve_command.specs.Serves as serving;
 ghost use Rattle.scrape_cli.specs.Lives as lives;
-ghost use Rattle.scrape_cli.specs.Lives.{EndedLive, EndedStill, IsAlone, IsStill};
+ghost use Rattle.scrape_cli.specs.Lives.{EndedLive, IsAlone, IsStill};
 
 use command_words::{Live, Order, WordsError, order_in};
 use live_run::{Asked as AskedRun, LiveEnd, Lived, run_live};
 use outside::{Clock, Fetch, Shelf, Sink, Source};
 use scrape_commands::Refusal;
+pub use scrape_commands::still::causes;
 use scrape_commands::still::{cuts, status_at, tell};
-pub use scrape_commands::still::{causes, tool_still};
 use scrape_core::Means;
 use scrape_laws::laws::{closed_runs, late, markers, report_markers};
+pub use serve_command::tool_still;
 use std::marker::{Send, Sync};
 use std::sync::Wait;
 use std::thread::Threads;
@@ -140,9 +146,9 @@ fn handed_back<C, K, F>(status: u8, control: C, clock: K, fetchers: Vec<F>) -> F
     }
 }
 
-/// The program: takes the words after its name, and answers the exit status. All commands but `run` go through `tool_still`, whose table says
-/// how they end; for them the trail is left alone (`alone`), and control, clock and fetchers come back as they were (`same`). What each of their
-/// statuses says, taken alone, is the law `causes`. There are 1 to 1,000 fetchers.
+/// The program: takes the words after its name, and answers the exit status. All commands but `run` go through `tool_still`, whose tables say
+/// how they end. `serve` leaves clock and fetchers as they were (`served`); for the others the trail is left alone too (`alone`), and control comes back
+/// as it was (`same`). What each of their statuses says, taken alone, is the law `causes`. There are 1 to 1,000 fetchers.
 ///
 /// `run` loads the file of the words at the clock's reading, makes so many sweeps while control gives its lines, and writes the text of the
 /// run's journal to the trail, and then the text of its book to `out`:
@@ -159,8 +165,9 @@ fn handed_back<C, K, F>(status: u8, control: C, clock: K, fetchers: Vec<F>) -> F
 ///
 /// Where nothing began, control and fetchers come back as they were, and the clock gave one reading.
 ///
-/// `still` says of the other commands how they end, what they print, which status is due, and that no count falls; `live` says of `run` what it
-/// prints and what its record is worth.
+/// `still` says of the other commands how they end, what they print, which status is due, and that no count falls; `served` says of `serve`, whose
+/// connection is what control gives, how it ends, what was served and written, and which status is due; `live` says of `run` what it prints and what
+/// its record is worth.
 /// `markers`, `closed_runs`, `report_markers` and `late` hold of every journal, so of the one whose book is printed. `cuts` says what a trail is
 /// worth that a failing disk cut: what `replay --cut` prints of it is the beginning of what the run would have printed.
 pub fn tool<
@@ -191,6 +198,11 @@ pub fn tool<
         (used (map F.seen fetchers.items) (map F.seen result.fetchers.items)) }
     ensures same { IsStill (order_in (map string_bytes words.now)) →
         (result.control ≡ Some control) × (result.clock ≡ Some clock) × (result.fetchers ≡ fetchers) }
+    ensures served { (s : askings.Serving) → order_in (map string_bytes words.now) ≡ Some (orders.Serve s) →
+        IfSome result.control (λ c. EndedServe result.status s
+        (serving.touched (used (S.seen shelf.old) (S.seen shelf.new)) (used (O.seen out.old) (O.seen out.new))
+        (used (R.seen trail.old) (R.seen trail.new)) (used (C.seen control) (C.seen c))) (used (E.seen err.old) (E.seen err.new)))
+        × (result.clock ≡ Some clock) × (result.fetchers ≡ fetchers) }
     ensures live { (r : Running) → order_in (map string_bytes words.now) ≡ Some (Run r) →
         IfSome result.clock (λ k. IfSome result.control (λ c. EndedLive result.status r
         (touched (used (S.seen shelf.old) (S.seen shelf.new)) (used (O.seen out.old) (O.seen out.new)) (used (E.seen err.old) (E.seen err.new))

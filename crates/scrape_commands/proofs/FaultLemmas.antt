@@ -83,7 +83,7 @@ pub fault_stands : (cut : Bool) (bytes : List ℕ) (fault : ScriptFault) → IsF
 fault_stands false bytes fault f s = f.none s.0 s.1 s.2
 fault_stands true bytes fault f s = f.lacks s.0 s.1 s.2
 
-script_not : (cut : Bool) (bytes : List ℕ) (journal : List Event) → IsScriptOf cut bytes journal → StandsForNone cut bytes → ⊥
+pub script_not : (cut : Bool) (bytes : List ℕ) (journal : List Event) → IsScriptOf cut bytes journal → StandsForNone cut bytes → ⊥
 script_not false bytes journal s none = none s.version journal s.spells
 script_not true bytes journal s none =
     let stops = s.1.stops in

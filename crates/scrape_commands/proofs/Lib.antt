@@ -6,3 +6,4 @@ pub mod AskedLemmas
 pub mod DueLemmas
 pub mod PrintLemmas
 pub mod CutLemmas
+pub mod StillLemmas

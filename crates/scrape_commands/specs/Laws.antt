@@ -1,5 +1,5 @@
 -- What follows of a call that ended.
-use Rattle.std.specs.Prelude.{◌≡◌, ◌⊎◌, ℕ, ◌<◌, ◌≤◌, Bool, ⊤, List, length, Some, None, IsSomeAnd, Ok, Err}
+use Rattle.std.specs.Prelude.{◌≡◌, ◌≢◌, ◌⊎◌, ℕ, ◌<◌, ◌≤◌, Bool, ⊤, List, length, Some, None, IsSomeAnd, Ok, Err}
 use Rattle.outside.specs.Objects.{IsUntouched, Rose, file_of, LacksFile, HasLongerFile, Missed, MetLonger, FailedToRead}
 use Rattle.journal_text.specs.declared.faults.ScriptFault.{ScriptFault}
 use Rattle.jobs_in_force.specs.declared.jobs.Filed.{Filed}
@@ -133,3 +133,11 @@ pub record NoCountFell (c : Call) : Type 0 where
   pub reads : c.shelf.before.faults ≤ c.shelf.after.faults
   pub puts : c.out.before.faults ≤ c.out.after.faults
   pub messages : c.err.before.faults ≤ c.err.after.faults
+
+-- a call ended with this status, by the one table; and what a reader looks for first, which follows from it
+pub record EndedStill (status : ℕ) (c : Call) : Type 0 where
+  pub ended : Ended status c
+  pub printed : status ≡ 0 → Prints (work_of c)
+  pub unwritten : status ≢ 0 → status ≢ 7 → IsUntouched c.out
+  pub complete : Complete status c
+  pub later : NoCountFell c

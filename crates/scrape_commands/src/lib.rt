@@ -11,7 +11,7 @@ mod commands;
 mod instants;
 mod messages;
 pub mod refusals;
-mod replays;
+pub mod replays;
 pub mod still;
 
 pub use refusals::{Refusal, SelectorFault};

@@ -1,24 +1,18 @@
-//! The program but for its live run, over whatever has files and takes bytes.
-ghost use Rattle.std.specs.Prelude.{◌≡◌, ◌≢◌, ℕ, Bool, List, map, string_bytes};
-ghost use Rattle.label_set.specs.declared.texts.Pair.{Pair};
+//! The commands that make no run and serve nothing, over whatever has files and takes bytes.
+ghost use Rattle.std.specs.Prelude.{◌≡◌, ℕ, Bool, List, map, string_bytes};
 ghost use Rattle.journal_text.specs.declared.events.Event.{Event};
-ghost use Rattle.outside.specs.Objects.{SinkSeen, Use, used, IsUntouched};
-ghost use Rattle.scrape_machine.specs.Machine.{World};
-ghost use Rattle.scrape_laws.specs.Markers.{MarkerLaw, ReportMarkerLaw};
-ghost use Rattle.scrape_laws.specs.Runs.{ClosedRunsLaw};
-ghost use Rattle.scrape_laws.specs.Late.{LateLaw};
+ghost use Rattle.outside.specs.Objects.{SinkSeen, Use, used};
 ghost use Rattle.scrape_commands.specs.Cuts.{CutLaw, IsCutOf};
 ghost use Rattle.scrape_commands.specs.Ends as spec;
-ghost use Rattle.scrape_commands.specs.Laws.{Causes, Complete, NoCountFell, IsStatus};
+ghost use Rattle.scrape_commands.specs.Laws.{Causes, EndedStill, IsStatus};
 ghost use Rattle.command_words.specs.Words.{asked_in, file_in, file_asked};
 
 use crate::commands::perform;
 use crate::messages::say;
 use crate::refusals::Refusal;
 use command_words::{Asked, WordsError, asked_in};
-use outside::{Shelf, Sink, Source};
+use outside::{Shelf, Sink};
 use scrape_core::Means;
-use scrape_laws::laws::{closed_runs, late, markers, report_markers};
 
 /// How the work ended, and the name of the file that was asked for; no name where the words were not read.
 #[derive(Drop)]
@@ -102,8 +96,8 @@ pub fn status_at(end: &Result<(), Refusal>) -> u8
     }
 }
 
-/// The program but for `run`, whose words are none of its: takes the words after the program's name, and answers the exit status. How it ends is
-/// one table, `specs/Ends.antt`.
+/// The commands that make no run and serve nothing, whose words are others': takes the words after the program's name, and answers the exit status.
+/// How it ends is one table, `specs/Ends.antt`.
 ///
 /// | status | comes |
 /// |---|---|
@@ -118,43 +112,18 @@ pub fn status_at(end: &Result<(), Refusal>) -> u8
 /// | 12 | `at`: the text is no selector: it isn't written as one (`Syntax`), a pattern of it isn't one or nests too deep (`Pattern`), or it asks for nothing (`Bare`); looked for before the file |
 /// | 13 | `convert`: a line of the file is faulty, the first of the number that the message names |
 ///
-/// `ended` is that table; `printed`, `unwritten`, `complete` and `later` are what a reader looks for first, and follow from it. What each status
-/// says, taken alone, is `causes`. Trail and control are left as they are (`trail`, `control`). What a run whose trail was cut leaves behind replays to
-/// a front of what the run would have printed (`cuts`).
-/// `markers`, `closed_runs`, `report_markers` and `late` hold of every journal, so of the one that a script spells:
-/// in the book that is printed each closed run of a tracked series has exactly one stale marker, after it, no marker
-/// stands elsewhere, and a fetch that was cancelled adds nothing.
-pub fn tool_still<S: Shelf, O: Sink, E: Sink, R: Sink, C: Source>(
+/// The clause is that table; what each status says, taken alone, is `causes`. What a run whose trail was cut leaves behind replays to a front of what
+/// the run would have printed (`cuts`).
+pub fn tool_plain<S: Shelf, O: Sink, E: Sink>(
     means: Means,
     words: &[String],
     shelf: &mut S,
     out: &mut O,
     err: &mut E,
-    trail: &mut R,
-    control: &mut C,
 ) -> u8
-    ensures ended { spec.Ended result (spec.call (map string_bytes words.now)
+    ensures { EndedStill result (spec.call (map string_bytes words.now)
         (used (S.seen shelf.old) (S.seen shelf.new)) (used (O.seen out.old) (O.seen out.new)) (used (E.seen err.old) (E.seen err.new))) }
-    ensures printed { result ≡ 0 → spec.Prints
-        (spec.work (asked_in (map string_bytes words.now)) (used (S.seen shelf.old) (S.seen shelf.new)) (used (O.seen out.old) (O.seen out.new))) }
-    ensures unwritten { result ≢ 0 → result ≢ 7 → IsUntouched (used (O.seen out.old) (O.seen out.new)) }
-    ensures complete { Complete result (spec.call (map string_bytes words.now)
-        (used (S.seen shelf.old) (S.seen shelf.new)) (used (O.seen out.old) (O.seen out.new)) (used (E.seen err.old) (E.seen err.new))) }
-    ensures later { NoCountFell (spec.call (map string_bytes words.now)
-        (used (S.seen shelf.old) (S.seen shelf.new)) (used (O.seen out.old) (O.seen out.new)) (used (E.seen err.old) (E.seen err.new))) }
-    ensures trail { trail.new ≡ trail.old }
-    ensures control { control.new ≡ control.old }
-    ensures markers { (journal : List Event) → MarkerLaw journal }
-    ensures closed_runs { (journal : List Event) (n : ℕ) (x : List Pair) → ClosedRunsLaw journal n x }
-    ensures report_markers { (journal : List Event) → ReportMarkerLaw journal }
-    ensures late { (w : World) → LateLaw w }
-    ensures cuts { (journal front : List Event) (kept : Bool) → IsCutOf journal front → CutLaw journal front kept }
 {
-    cuts();
-    markers();
-    closed_runs();
-    report_markers();
-    late();
     let ending = run(means, words, shelf, out);
     tell(err, ending.file, &ending.end);
     status_at(&ending.end)

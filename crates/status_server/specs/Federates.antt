@@ -3,6 +3,7 @@
 use Rattle.std.specs.Prelude.{◌≡◌, ◌≢◌, ◌⊎◌, ℕ, pos, Bool, false, All, List, [], ◌∷◌, ◌++◌, Option, Some, None}
 use Rattle.std.specs.List.{Any}
 use Rattle.federation.specs.Federations.{IsFederated}
+use Rattle.federation.specs.Readings.{IsWellFormed}
 use Rattle.federation.specs.Texts.{rows_text}
 use Rattle.instant_view.specs.Grammar.{IsSelector}
 use Rattle.instant_view.specs.Selectors.{IsBuilt, Refuses, is_bare}
@@ -45,6 +46,7 @@ pub record SeesRows (es : List Event) (query : List ℕ) (rows : List ViewRow) :
   pub parts : List SelectorParts
   pub asks : AsksFor query parts
   pub sees : IsFederated (book_of es) parts (pos (now_of es)) rows
+  pub well : All IsWellFormed rows
 
 -- after a journal, a request for federation with this query is answered so
 abbrev pub IsFederate : List Event → List ℕ → Bool → List ℕ → Type 0
@@ -67,7 +69,8 @@ AsksSo query (Some parts) = AsksFor query parts
 
 -- a text is that of what selectors see
 abbrev pub IsTextSeen : List Event → List SelectorParts → List ℕ → Type 0
-IsTextSeen es parts text = (rows : List ViewRow) × IsFederated (book_of es) parts (pos (now_of es)) rows × (text ≡ rows_text rows)
+IsTextSeen es parts text =
+    (rows : List ViewRow) × IsFederated (book_of es) parts (pos (now_of es)) rows × All IsWellFormed rows × (text ≡ rows_text rows)
 
 -- a reply was appended
 abbrev pub Adds : List Event → List ℕ → Bool → List ℕ → List ℕ → Type 0

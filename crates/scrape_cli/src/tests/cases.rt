@@ -16,7 +16,7 @@ use std::alloc::Global;
 use std::test::Fail;
 
 /// All cases, by subject.
-const TEXTS: [&str; 23] = [
+const TEXTS: [&str; 24] = [
     scrape_cases::quoted::CASES,
     scrape_cases::words::CASES,
     scrape_cases::flags::CASES,
@@ -27,6 +27,7 @@ const TEXTS: [&str; 23] = [
     scrape_cases::conversions::CASES,
     scrape_cases::instants::CASES,
     scrape_cases::selectors::CASES,
+    scrape_cases::served::CASES,
     scrape_cases::reloads::CASES,
     scrape_cases::updates::CASES,
     scrape_cases::endings::CASES,

@@ -1,11 +1,17 @@
-use Rattle.std.proofs.Common.{◌≡◌, ◌∙◌, [], ℕ, ap, map, refl, string_bytes, subst, sym}
+use Rattle.std.proofs.Common.{◌≡◌, ◌∙◌, [], List, ℕ, ap, map, refl, string_bytes, subst, sym}
 use Rattle.std.specs.Prelude.{Some, IfSome}
 use Rattle.outside.specs.Objects.{used}
 use Rattle.live_run.specs.Runs.{IsReadOnce, touched}
 use Rattle.scrape_commands.specs.Ends.{call}
-use Rattle.scrape_cli.specs.Lives.{EndedLive, EndedStill}
+use Rattle.scrape_commands.specs.Laws.{EndedStill}
+use Rattle.scrape_commands.proofs.StillLemmas.{still_wanting}
+use Rattle.serve_command.specs.Ends.{EndedServe}
+use Rattle.serve_command.specs.Serves as serving
+use Rattle.serve_command.proofs.EndLemmas.{wanting}
+use Rattle.scrape_cli.specs.Lives.{EndedLive}
 use Rattle.command_words.specs.Askings.{Running}
-use Rattle.scrape_cli.proofs.LiveLemmas.{ended_still, live_wanting, same_run, still_wanting}
+use Rattle.command_words.specs.Words.{order_in}
+use Rattle.scrape_cli.proofs.LiveLemmas.{lacks_serve, live_wanting, same_run}
 use Rattle.station.proofs.EndLemmas.{shelf_same, sink_same, source_same}
 use Rattle.scrape_cli.proofs.tool.tool.Goals as goal
 
@@ -34,7 +40,53 @@ pub returns-in_default-clause-still : goal.returns-in_default-clause-still
 returns-in_default-clause-still g c =
     let it = call (map string_bytes c.args.words.now) (used (g.S.Shelf.seen c.args.shelf.now) (g.S.Shelf.seen c.tool_still-status.new.shelf))
     (used (g.O.Sink.seen c.args.out.now) (g.O.Sink.seen c.tool_still-status.new.out)) (used (g.E.Sink.seen c.args.err.now) (g.E.Sink.seen c.tool_still-status.new.err)) in
-    λ _. subst (λ (s : ℕ). EndedStill s it) (sym c.handed_back-in_default.ensures.status) (ended_still c.tool_still-status.result it c.tool_still-status.ensures.ended)
+    λ h. subst (λ (s : ℕ). EndedStill s it) (sym c.handed_back-in_default.ensures.status)
+    (c.tool_still-status.ensures.still (lacks_serve (order_in (map string_bytes c.args.words.now)) h))
+
+pub returns-in_default-clause-alone : goal.returns-in_default-clause-alone
+returns-in_default-clause-alone g c = λ h. record {
+  trail_same = ap g.R.Sink.seen (c.tool_still-status.ensures.trail (lacks_serve (order_in (map string_bytes c.args.words.now)) h));
+  fetchers_same = ap (λ (v : List g.row.F.Denot). map g.F.Fetch.seen v) (ap (λ v. v.items) c.handed_back-in_default.ensures.fetchers);
+}
+
+pub returns-in_default-clause-same : goal.returns-in_default-clause-same
+returns-in_default-clause-same g c = λ h. (
+  c.handed_back-in_default.ensures.control ∙ ap Some (c.tool_still-status.ensures.control (lacks_serve (order_in (map string_bytes c.args.words.now)) h)),
+  c.handed_back-in_default.ensures.clock,
+  c.handed_back-in_default.ensures.fetchers,
+)
+
+pub returns-in_default-clause-served : goal.returns-in_default-clause-served
+returns-in_default-clause-served g c =
+    let shelf = used (g.S.Shelf.seen c.args.shelf.now) (g.S.Shelf.seen c.tool_still-status.new.shelf) in
+    let out = used (g.O.Sink.seen c.args.out.now) (g.O.Sink.seen c.tool_still-status.new.out) in
+    let err = used (g.E.Sink.seen c.args.err.now) (g.E.Sink.seen c.tool_still-status.new.err) in
+    let trail = used (g.R.Sink.seen c.args.trail.now) (g.R.Sink.seen c.tool_still-status.new.trail) in
+    let source = g.C.Source.seen c.args.control in
+    λ s is. (
+      subst (λ o. IfSome o (λ x. EndedServe c.handed_back-in_default.result.status s (serving.touched shelf out trail (used source (g.C.Source.seen x))) err))
+          (sym c.handed_back-in_default.ensures.control)
+          (subst (λ (n : ℕ). EndedServe n s (serving.touched shelf out trail (used source (g.C.Source.seen c.tool_still-status.new.control))) err)
+          (sym c.handed_back-in_default.ensures.status) (c.tool_still-status.ensures.served s is)),
+      c.handed_back-in_default.ensures.clock,
+      c.handed_back-in_default.ensures.fetchers,
+    )
+
+pub returns-in-Err-NoMemory-clause-served : goal.returns-in-Err-NoMemory-clause-served
+returns-in-Err-NoMemory-clause-served g c =
+    let shelf = g.S.Shelf.seen c.args.shelf.now in
+    let out = g.O.Sink.seen c.args.out.now in
+    let trail = g.R.Sink.seen c.args.trail.now in
+    let source = g.C.Source.seen c.args.control in
+    let err = used (g.E.Sink.seen c.args.err.now) (g.E.Sink.seen c.tell.new.err) in
+    let t = λ (x : g.row.C.Denot). serving.touched (used shelf shelf) (used out out) (used trail trail) (used source (g.C.Source.seen x)) in
+    λ s is. (
+      subst (λ o. IfSome o (λ x. EndedServe c.handed_back.result.status s (t x) err)) (sym c.handed_back.ensures.control)
+          (subst (λ (n : ℕ). EndedServe n s (t c.args.control) err) (sym (c.handed_back.ensures.status ∙ c.status_at.ensures))
+          (wanting s (t c.args.control) err [] refl refl refl refl c.tell.ensures)),
+      c.handed_back.ensures.clock,
+      c.handed_back.ensures.fetchers,
+    )
 
 pub returns-in-Ok-Run-clause-live : goal.returns-in-Ok-Run-clause-live
 returns-in-Ok-Run-clause-live g c =
