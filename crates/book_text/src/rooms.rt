@@ -1,4 +1,4 @@
-//! How much room the parts of a line take at most, told without writing them.
+//! How much room the parts of a line take at most, known without writing them.
 ghost use Rattle.std.specs.Prelude.{◌≡◌, ◌+◌, ◌<◌, ◌≤◌, ◌^◌, length, sum_by, IfOk, IfSome};
 ghost use Rattle.std.specs.Fmt.{decimal, signed_decimal};
 ghost use Rattle.label_set.specs.Borrowed.{pair_of};

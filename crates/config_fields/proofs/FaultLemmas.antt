@@ -1,6 +1,6 @@
--- Laws of the fault that is told.
+-- Laws of the fault that is reported.
 use Rattle.std.proofs.Common.{◌≡◌, ℕ, Bool, true, false, List, [], ◌∷◌, ◌++◌, refl, Option, None, Some, if◌then◌else◌}
-use Rattle.config_fields.specs.Faults.{number_of, is_told_over, better, best, told}
+use Rattle.config_fields.specs.Faults.{number_of, is_reported_over, better, best, reported}
 use Rattle.config_fields.specs.Walks.{flaws, of_shape}
 use Rattle.config_fields.specs.declared.fault.ConfFault.{ConfFault}
 use Rattle.config_fields.specs.declared.fault.Flaw.{Flaw}
@@ -16,12 +16,12 @@ stays_by f g fs false later e = later f e
 
 stays : (f : ConfFault) (fs : List ConfFault) → best (Some f) fs ≡ None → ⊥
 stays f [] e = absurd cc
-stays f (g ∷ fs) e = stays_by f g fs (is_told_over (number_of g) (Some f)) (λ h. stays h fs) e
+stays f (g ∷ fs) e = stays_by f g fs (is_reported_over (number_of g) (Some f)) (λ h. stays h fs) e
 
--- where no fault is told there is none
-pub told-none : (fs : List ConfFault) → told fs ≡ None → fs ≡ []
-told-none [] e = refl
-told-none (f ∷ fs) e = absurd (stays f fs e)
+-- where no fault is reported there is none
+pub reported-none : (fs : List ConfFault) → reported fs ≡ None → fs ≡ []
+reported-none [] e = refl
+reported-none (f ∷ fs) e = absurd (stays f fs e)
 
 -- two lists without faults
 pub both_clean : (fs gs : List ConfFault) → fs ++ gs ≡ [] → (fs ≡ []) × (gs ≡ [])

@@ -1,4 +1,4 @@
--- Which of several faults is told: the first of the least number in the walk through the text.
+-- Which of several faults is reported: the first of the least number in the walk through the text.
 use Rattle.std.specs.Prelude.{ℕ, List, [], ◌∷◌, Bool, true, nat_lt, Option, None, Some, if◌then◌else◌}
 use Rattle.config_fields.specs.declared.fault.ConfFault.{ConfFault}
 use Rattle.config_fields.specs.declared.fault.ConfFault.TheVariants.{NotJson, Shape, Unknown, Missing, Value, TwiceNamed, TooMany, Rule}
@@ -33,14 +33,14 @@ placed flaw.Value place = Value place
 placed (flaw.TooMany limit) place = TooMany place limit
 placed flaw.Rule place = Rule place
 
--- a fault of this number is told rather than the one found before
-abbrev pub is_told_over : ℕ → Option ConfFault → Bool
-is_told_over number None = true
-is_told_over number (Some found) = nat_lt number (number_of found)
+-- a fault of this number is reported rather than the one found before
+abbrev pub is_reported_over : ℕ → Option ConfFault → Bool
+is_reported_over number None = true
+is_reported_over number (Some found) = nat_lt number (number_of found)
 
--- of the fault found before and a later one, the one that is told
+-- of the fault found before and a later one, the one that is reported
 abbrev pub better : Option ConfFault → ConfFault → Option ConfFault
-better found later = if is_told_over (number_of later) found then Some later else found
+better found later = if is_reported_over (number_of later) found then Some later else found
 
 -- the first fault of the least number, where one was found before
 abbrev pub best : Option ConfFault → List ConfFault → Option ConfFault
@@ -48,5 +48,5 @@ best found [] = found
 best found (f ∷ fs) = best (better found f) fs
 
 -- the first fault of the least number
-abbrev pub told : List ConfFault → Option ConfFault
-told faults = best None faults
+abbrev pub reported : List ConfFault → Option ConfFault
+reported faults = best None faults

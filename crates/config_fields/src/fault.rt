@@ -1,7 +1,7 @@
-//! What can be wrong with a configuration, and which of several faults is told.
+//! What can be wrong with a configuration, and which of several faults is reported.
 ghost use Rattle.std.specs.Prelude.{◌≡◌, IfOk, OnOk};
 ghost use Rattle.config_fields.specs.Places.{field_place, item_place};
-ghost use Rattle.config_fields.specs.Faults.{flaw_number, number_of, is_told_over, better, placed};
+ghost use Rattle.config_fields.specs.Faults.{flaw_number, number_of, is_reported_over, better, placed};
 
 use crate::place::{at_field, at_item};
 use label_set::{Name, NoMemory};
@@ -67,9 +67,9 @@ fn number_of(fault: &ConfFault) -> u8
     }
 }
 
-/// Whether a fault of this number would be told rather than the one found so far: it is the first, or its number is less.
-pub fn is_told_over(number: u8, found: &Option<ConfFault>) -> bool
-    ensures { result ≡ is_told_over number found.now }
+/// Whether a fault of this number would be reported rather than the one found so far: it is the first, or its number is less.
+pub fn is_reported_over(number: u8, found: &Option<ConfFault>) -> bool
+    ensures { result ≡ is_reported_over number found.now }
 {
     match found {
         None => true,
@@ -90,7 +90,7 @@ fn placed(flaw: Flaw, place: Name) -> ConfFault
     }
 }
 
-/// Notes a flaw of the value at a place. The fault is made only where it is told rather than the one found so far;
+/// Notes a flaw of the value at a place. The fault is made only where it is reported rather than the one found so far;
 /// an error is out of memory for it.
 pub fn note(
     alloc: Global,
@@ -100,7 +100,7 @@ pub fn note(
 ) -> Result<(), NoMemory>
     ensures { OnOk result (found.new ≡ better found.old (placed flaw place.now)) }
 {
-    if is_told_over(flaw_number(flaw), found) {
+    if is_reported_over(flaw_number(flaw), found) {
         *found = Some(placed(flaw, Name::from_str(alloc, place)?));
     }
     Ok(())
@@ -116,7 +116,7 @@ pub fn note_field(
 ) -> Result<(), NoMemory>
     ensures { OnOk result (found.new ≡ better found.old (placed flaw (field_place place.now key.now))) }
 {
-    if is_told_over(flaw_number(flaw), found) {
+    if is_reported_over(flaw_number(flaw), found) {
         *found = Some(placed(flaw, at_field(alloc, place, key)?));
     }
     Ok(())
@@ -132,7 +132,7 @@ pub fn note_item(
 ) -> Result<(), NoMemory>
     ensures { OnOk result (found.new ≡ better found.old (placed flaw (item_place place.now index))) }
 {
-    if is_told_over(flaw_number(flaw), found) {
+    if is_reported_over(flaw_number(flaw), found) {
         *found = Some(placed(flaw, at_item(alloc, place, index)?));
     }
     Ok(())

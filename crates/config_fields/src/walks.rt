@@ -1,4 +1,4 @@
-//! The walk through the objects that hold no further objects. Each step keeps in `found` the fault that is told so far;
+//! The walk through the objects that hold no further objects. Each step keeps in `found` the fault that is reported so far;
 //! an error is out of memory.
 ghost use Rattle.std.specs.Prelude.{◌≡◌, OnOk, IfOk};
 ghost use Rattle.serde_json.specs.View.{view, members_view, items_view};

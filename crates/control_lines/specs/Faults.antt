@@ -1,4 +1,4 @@
--- How a fault of a configuration is told: its word, and behind it its place, and the limit that is passed.
+-- How a fault of a configuration is written: its word, and behind it its place, and the limit that is passed.
 use Rattle.std.specs.Prelude.{ℕ, List, [], ◌++◌, codes}
 use Rattle.std.specs.Fmt.{decimal}
 use Rattle.config_fields.specs.declared.fault.ConfFault.{ConfFault}

@@ -1,4 +1,4 @@
-//! How a fault of a configuration is told.
+//! How a fault of a configuration is written.
 ghost use Rattle.std.specs.Prelude.{◌≡◌, ◌++◌, OnOk, string_bytes};
 ghost use Rattle.control_lines.specs.Faults as spec;
 

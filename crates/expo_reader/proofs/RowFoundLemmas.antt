@@ -1,29 +1,26 @@
 -- A row that is written in the format is read.
-use Rattle.std.proofs.Common.{◌≡◌, ◌≢◌, ℕ, ℤ, suc, zero, ◌+◌, ◌-◌, ◌<◌, ◌≤◌, Bool, true, false, not, ◌&&◌, ◌||◌, List, [], ◌∷◌, ◌++◌, length, take, refl, sym, ap, ap₂, ◌∙◌, arith, ◌==◌, Option, Some, None, subst, slice_index, ⊎_elim, inl, inr, ◌⊎◌, append_assoc, append-nil, length-append, option_map, option_and_then, true≢false, nat_lt}
+use Rattle.std.proofs.Common.{◌≡◌, ◌≢◌, ℕ, ℤ, ◌+◌, ◌-◌, ◌<◌, true, false, not, ◌&&◌, List, [], ◌∷◌, ◌++◌, length, take, refl, sym, ap, ap₂, ◌∙◌, arith, ◌==◌, Option, Some, None, subst, slice_index, ⊎_elim, inl, inr, ◌⊎◌, append_assoc, append-nil, length-append, option_map, option_and_then}
 use Rattle.std.specs.List.{list_all}
 use Rattle.std.proofs.Math.Seq.{take-append_seam}
-use Rattle.std.proofs.lemmas.Bool.{or_from, or_left, or_right, eqb-true, not-true, false_from_ne_true}
+use Rattle.std.proofs.lemmas.Bool.{or_from, or_left, or_right}
 use Rattle.std.proofs.lemmas.Bool.Decides.{nat_tests}
 use Rattle.std.proofs.lemmas.Grind.{common_steps}
 use Rattle.label_set.specs.Bytes.{is_metric_name, is_metric_start, is_metric_byte, is_name_start}
 use Rattle.label_set.specs.declared.texts.Pair.{Pair}
 use Rattle.value_text.specs.Values.{is_value}
-use Rattle.expo_lexer.specs.Tokens.{is_blank, is_mark, is_word_byte, word_len}
+use Rattle.expo_lexer.specs.Tokens.{is_blank, is_mark, is_word_byte}
 use Rattle.expo_reader.specs.declared.rows.BodyRow.{BodyRow}
 use Rattle.label_set.specs.declared.forms.Form.{Form}
 use Rattle.label_set.specs.declared.forms.Form.TheVariants.{Quoted}
-use Rattle.expo_reader.specs.Texts.{bare, is_end, word_at, word_in, mark_in, text_in}
-use Rattle.expo_reader.specs.Names.{or_else, passing, quote_in, resolved_text, is_exposed_name, is_quoted_metric, is_quoted_name, bare_name, quoted_name, name_in, braced_name}
-use Rattle.expo_reader.specs.Forms.{label_in, named_label, labels_after, labels_in, names_differ, stamp_in, value_in, valued, last_word, sample_in, named_row, braced_row, after_name, row_of, labelled_row, differing_row, closed_or, label_and_more, after_label, with_first}
-use Rattle.expo_reader.specs.Grammar.{IsBlanks, IsBraced, IsLabel, IsLabelName, IsLabels, IsLineEnd, IsMiddle, IsNameAndLabels, IsNamed, IsQuote, IsSample, IsSkipped}
+use Rattle.expo_reader.specs.Texts.{bare, is_end, word_in, mark_in}
+use Rattle.expo_reader.specs.Names.{or_else, passing, quote_in, is_quoted_metric, braced_name}
+use Rattle.expo_reader.specs.Forms.{labels_after, labels_in, names_differ, stamp_in, value_in, valued, last_word, sample_in, named_row, braced_row, after_name, row_of, labelled_row, differing_row, after_label}
+use Rattle.expo_reader.specs.Grammar.{IsBlanks, IsBraced, IsLabels, IsLineEnd, IsMiddle, IsNameAndLabels, IsNamed, IsSample, IsSkipped}
 use Rattle.expo_reader.specs.Bodies.{is_skipped}
-use Rattle.expo_reader.proofs.LabelLemmas.{behind-some}
-use Rattle.expo_reader.proofs.FormLemmas.{bare-name, named-sample}
-use Rattle.expo_reader.proofs.FrontLemmas.{both, Stops, bare-front, end-front, word-front, mark-front, mark-front_not, text-front, blank_no_word, word_no_blank}
-use Rattle.expo_reader.proofs.QuoteLemmas.{written, text-found}
-use Rattle.expo_reader.proofs.SoundLemmas.{blanks, blanks-are, word-sound}
+use Rattle.expo_reader.proofs.FormLemmas.{named-sample}
+use Rattle.expo_reader.proofs.FrontLemmas.{both, Stops, bare-front, end-front, word-front, mark-front, mark-front_not, blank_no_word, word_no_blank}
 use Rattle.value_text.proofs.GrammarLemmas.{value-found as value-test}
-use Rattle.expo_reader.proofs.WordLemmas.{IsWord, metric_name-word, exposed_name-word, value-word, stamp-word}
+use Rattle.expo_reader.proofs.WordLemmas.{IsWord, metric_name-word, value-word, stamp-word}
 use Rattle.expo_reader.proofs.CompleteLemmas.{labels-few, labels-found, mark-word, passed, quote-front, stops-blanks, word-mark}
 
 -- the end of a line

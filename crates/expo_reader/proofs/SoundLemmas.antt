@@ -1,29 +1,23 @@
 -- What is read is written in the format: the parts of a line that are found make it up.
-use Rattle.std.proofs.Common.{◌≡◌, ◌≢◌, ℕ, ℤ, suc, zero, ◌+◌, ◌-◌, ◌<◌, Bool, true, false, not, ◌&&◌, List, [], ◌∷◌, ◌++◌, length, take, drop, refl, sym, ap, ap₂, ◌∙◌, arith, ◌==◌, Option, Some, None, subst, slice_index, ⊎_elim, inl, inr, append_assoc, append-nil, length-append, option_map, option_and_then, true≢false, nat_lt}
+use Rattle.std.proofs.Common.{◌≡◌, ◌≢◌, ℕ, ℤ, suc, zero, ◌+◌, ◌<◌, Bool, true, false, not, ◌&&◌, List, [], ◌∷◌, ◌++◌, length, take, drop, refl, sym, ap, ap₂, ◌∙◌, arith, ◌==◌, Option, Some, None, subst, ⊎_elim, inl, inr, append_assoc, append-nil, option_map, true≢false, nat_lt}
 use Rattle.std.specs.List.{list_all}
-use Rattle.std.proofs.Math.Seq.{take-append_seam}
 use Rattle.std.proofs.lemmas.List.{take-append-drop, nil_from_length}
 use Rattle.std.proofs.lemmas.List.Folds.{list_all-append, length-prefix_len}
 use Rattle.std.proofs.lemmas.Bool.{and_from, eqb-true, cases_Bool}
 use Rattle.std.proofs.lemmas.Bool.Decides.{nat_tests}
-use Rattle.label_set.specs.Bytes.{is_metric_name}
 use Rattle.label_set.specs.declared.texts.Pair.{Pair}
-use Rattle.value_text.specs.Values.{is_value}
 use Rattle.value_text.specs.Numbers.{millis}
 use Rattle.expo_lexer.specs.Tokens.{is_blank, is_word_byte, blank_len, word_len, quote_from, text_len}
-use Rattle.expo_reader.specs.declared.rows.BodyRow.{BodyRow}
-use Rattle.expo_reader.specs.Bodies.{is_skipped}
 use Rattle.expo_reader.specs.Texts.{bare, is_end, word_at, mark_at, text_at, word_in, mark_in, text_in, text_value}
 use Rattle.label_set.specs.declared.forms.Form.{Form}
 use Rattle.label_set.specs.declared.forms.Form.TheVariants.{Plain, Quoted}
-use Rattle.expo_reader.specs.Forms.{label_in, labels_in, labels_after, names_differ, stamp_in, value_in, valued, last_word, sample_in, named_row, braced_row, after_name, row_of, labelled_row, differing_row, closed_or, label_and_more, after_label}
-use Rattle.expo_reader.specs.Names.{passing, quote_in, resolved_text, is_exposed_name, is_quoted_metric, is_quoted_name, bare_name, quoted_name, name_in, braced_name}
-use Rattle.expo_reader.specs.Grammar.{IsBlanks, IsBraced, IsLabel, IsLabelName, IsLabels, IsLineEnd, IsMiddle, IsNameAndLabels, IsNamed, IsQuote, IsSample, IsSkipped}
+use Rattle.expo_reader.specs.Forms.{label_in, labels_in, stamp_in, last_word, closed_or, label_and_more, after_label}
+use Rattle.expo_reader.specs.Names.{quote_in, resolved_text, is_exposed_name, is_quoted_name, bare_name, quoted_name, name_in}
+use Rattle.expo_reader.specs.Grammar.{IsBlanks, IsLabel, IsLabelName, IsLabels, IsLineEnd, IsQuote}
 use Rattle.expo_reader.proofs.FrontLemmas.{both, Stops, passes, stops-drop}
 use Rattle.expo_reader.proofs.QuoteLemmas.{is_text, text-sound as text-pieces}
 use Rattle.expo_reader.proofs.RowLemmas.{chosen, first-label, mapped, pair, passing-sound, either, behind-sound, label-parts}
 use Rattle.expo_reader.proofs.WordLemmas.{IsWord}
-use Rattle.value_text.proofs.GrammarLemmas.{value-sound as value-written}
 
 -- the blanks in front
 abbrev pub blanks : List ℕ → List ℕ

@@ -1,5 +1,5 @@
 -- Rows that are offsets: where the parts of a line stand, and the rows line by line.
-use Rattle.std.proofs.Common.{◌≡◌, ◌≢◌, ℕ, ◌+◌, ◌-◌, ◌≤◌, ◌<◌, List, [], ◌∷◌, ◌++◌, length, take, drop, Option, Some, None, Result, Ok, Err, MatchResult, IfSome, true, false, refl, sym, ap, ap₂, ◌∙◌, arith, subst, ⊎_elim, length-append, length-drop, length-take, get_or, append-nil, append_assoc, drop-drop}
+use Rattle.std.proofs.Common.{◌≡◌, ◌≢◌, ℕ, ◌+◌, ◌-◌, ◌≤◌, ◌<◌, List, [], ◌∷◌, ◌++◌, length, take, drop, Option, Some, None, Result, Ok, Err, MatchResult, IfSome, true, refl, sym, ap, ap₂, ◌∙◌, arith, subst, ⊎_elim, length-append, length-drop, length-take, get_or, append-nil, append_assoc, drop-drop}
 use Rattle.std.specs.List.{All}
 use Rattle.std.proofs.Math.Seq.{take-append_seam}
 use Rattle.std.proofs.lemmas.List.{map-append, drop-take, get_or-map, length-map}
@@ -202,13 +202,13 @@ pub line-seen : (form : Form) (body rest : List ℕ) (rows new : List RowSpan) (
     IfSome o (λ p. p.0 ≤ end) → new ≡ rows ++ span_list number place end o → line_reading form number (take end rest) ≡ Ok (span_row number (take end rest) o) →
     (said : Result (List BodyRow) ℕ) → joined (rows_seen body rows) (rows_from form number (lines_of (drop place body))) ≡ said →
     joined (rows_seen body new) (rows_from form (number + 1) (lines_of (drop (place + (end + 1)) body))) ≡ said
-line-seen form body rest rows new number place end o rest_is lt end_is h new_is reading said told =
+line-seen form body rest rows new number place end o rest_is lt end_is h new_is reading said known =
     let bs = drop place body in
     let row = span_row number (take end bs) o in
     let e : end ≡ line_len bs = end_is ∙ ap line_len rest_is in
     let rd : line_reading form number (take (line_len bs) bs) ≡ Ok row =
     ap (λ k. line_reading form number (take k bs)) (sym e) ∙ subst (λ (r : List ℕ). line_reading form number (take end r) ≡ Ok (span_row number (take end r) o)) rest_is reading in
-    let t = rows-line form (rows_seen body rows) number row bs said (some-rest body place lt) rd told in
+    let t = rows-line form (rows_seen body rows) number row bs said (some-rest body place lt) rd known in
     let next : drop (place + (end + 1)) body ≡ drop (line_len bs + 1) bs = sym (drop-drop (end + 1) place body) ∙ ap (λ k. drop (k + 1) bs) e in
     ap₂ (λ xs d. joined xs (rows_from form (number + 1) (lines_of d))) (ap (rows_seen body) new_is ∙ seen-push body rows number place end o h) next ∙ t
 

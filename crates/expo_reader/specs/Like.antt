@@ -12,13 +12,15 @@ raws rows = map (λ (r : BodyRow). r.raw) rows
 
 -- it is the raw text of a row of some body of that form
 abbrev pub IsRawText : Form → List ℕ → Type 0
-IsRawText form raw = (bytes : List ℕ) × (rows : List BodyRow) × (place : ℕ) × (reading form bytes ≡ Ok rows) × (slice_get (raws rows) place ≡ Some raw)
+IsRawText form raw =
+    (bytes : List ℕ) × (rows : List BodyRow) × (place : ℕ)
+    × (reading form bytes ≡ Ok rows) × (slice_get (raws rows) place ≡ Some raw)
 
 -- each line of a body of the one form is read alike in a body of the other
 abbrev pub GoesIn : Form → Form → Type 0
 GoesIn from into = (from ≡ into) ⊎ (into ≡ Quoted)
 
--- a place tells which of some texts this one is: 0 none of them, and suc k the one at k
+-- a place says which of some texts this one is: 0 none of them, and suc k the one at k
 abbrev pub IsLike : List (List ℕ) → ℕ → List ℕ → Type 0
 IsLike texts zero raw = ⊤
 IsLike texts (suc k) raw = slice_get texts k ≡ Some raw

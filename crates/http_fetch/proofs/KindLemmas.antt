@@ -9,7 +9,7 @@ use Rattle.http_fetch.specs.declared.fields.Framing.TheVariants as framings
 use Rattle.http_fetch.specs.declared.stages.Stage.{Stage}
 use Rattle.http_fetch.specs.declared.stages.Stage.TheVariants.{Heads, Length, Line, Data, Trailer, Open, Whole, Over, Never}
 use Rattle.http_fetch.specs.declared.stages.Step.{Step}
-use Rattle.http_fetch.specs.Kinds.{GoesOn, HasKind, KeepsKind, Tells, is_heads}
+use Rattle.http_fetch.specs.Kinds.{GoesOn, HasKind, KeepsKind, StageKind, is_heads}
 use Rattle.http_fetch.specs.Reading.{HasHead}
 use Rattle.http_fetch.specs.Replies.{Reaches}
 use Rattle.http_fetch.specs.Steps.{after_good, after_head, after_length, after_line, is_body, is_done}
@@ -45,19 +45,19 @@ body-behind (Whole code) e = refl
 body-behind Over e = refl
 body-behind Never e = refl
 
-tells-of : (next : Stage) (kind : Kind) (n : ℕ) (b p : List ℕ) → is_heads next ≡ false → HasKind n b kind → Tells next kind n b p
-tells-of (Heads left) kind n b p e k = absurd cc
-tells-of (Length left) kind n b p e k = k
-tells-of Line kind n b p e k = k
-tells-of (Data left) kind n b p e k = k
-tells-of (Trailer room) kind n b p e k = k
-tells-of Open kind n b p e k = k
-tells-of (Whole code) kind n b p e k = k
-tells-of Over kind n b p e k = k
-tells-of Never kind n b p e k = tt
+stage_kind-of : (next : Stage) (kind : Kind) (n : ℕ) (b p : List ℕ) → is_heads next ≡ false → HasKind n b kind → StageKind next kind n b p
+stage_kind-of (Heads left) kind n b p e k = absurd cc
+stage_kind-of (Length left) kind n b p e k = k
+stage_kind-of Line kind n b p e k = k
+stage_kind-of (Data left) kind n b p e k = k
+stage_kind-of (Trailer room) kind n b p e k = k
+stage_kind-of Open kind n b p e k = k
+stage_kind-of (Whole code) kind n b p e k = k
+stage_kind-of Over kind n b p e k = k
+stage_kind-of Never kind n b p e k = tt
 
 -- a step over a head
-pub head-kind : (text : List ℕ) (status len : ℕ) (f : Framing) (kind : Kind) (limit left : ℕ) → HasHead text status len f kind → Tells (after_head status f left limit) kind left text (drop len text)
+pub head-kind : (text : List ℕ) (status len : ℕ) (f : Framing) (kind : Kind) (limit left : ℕ) → HasHead text status len f kind → StageKind (after_head status f left limit) kind left text (drop len text)
 head-kind text status len f kind limit left w =
     ⊎_elim
     (λ (low : nat_lt status 100 ≡ true). rw low tt)
@@ -75,7 +75,7 @@ head-kind text status len f kind limit left w =
     (λ (interim : nat_lt status 200 ≡ false).
     (let final : 200 ≤ status_code w.head = (let h : 200 ≤ status = grind (arith, nat_tests) in omega (arith, h, w.status_is)) in
     let known : HasKind left text kind = (w.head, drop len text, reaches-here left w.reads final, w.kind_is) in
-    rw (low, interim) (tells-of (if status == 200 then after_good f limit else Whole status) kind left text (drop len text)
+    rw (low, interim) (stage_kind-of (if status == 200 then after_good f limit else Whole status) kind left text (drop len text)
     (if-behind (status == 200) (after_good f limit) (Whole status) (good-behind f limit) refl) known)))
     (cases_Bool (nat_lt status 200)))
     (cases_Bool (nat_lt status 100))
@@ -87,67 +87,67 @@ kind-behind n left b text kind g k =
     let there : Reaches n (b ++ []) k.0 (k.1 ++ []) = g [] k.0 (k.1 ++ []) here in
     (k.0, k.1 ++ [], subst (λ (t : List ℕ). Reaches n t k.0 (k.1 ++ [])) (append-nil b) there, k.3)
 
-tells-behind : (next : Stage) (kind : Kind) (n left : ℕ) (b text rest : List ℕ) → GoesOn n b left text → Tells next kind left text rest → Tells next kind n b rest
-tells-behind (Heads m) kind n left b text rest g k = λ more h r x. g more h r (k more h r x)
-tells-behind (Length m) kind n left b text rest g k = kind-behind n left b text kind g k
-tells-behind Line kind n left b text rest g k = kind-behind n left b text kind g k
-tells-behind (Data m) kind n left b text rest g k = kind-behind n left b text kind g k
-tells-behind (Trailer room) kind n left b text rest g k = kind-behind n left b text kind g k
-tells-behind Open kind n left b text rest g k = kind-behind n left b text kind g k
-tells-behind (Whole code) kind n left b text rest g k = kind-behind n left b text kind g k
-tells-behind Over kind n left b text rest g k = kind-behind n left b text kind g k
-tells-behind Never kind n left b text rest g k = tt
+stage_kind-behind : (next : Stage) (kind : Kind) (n left : ℕ) (b text rest : List ℕ) → GoesOn n b left text → StageKind next kind left text rest → StageKind next kind n b rest
+stage_kind-behind (Heads m) kind n left b text rest g k = λ more h r x. g more h r (k more h r x)
+stage_kind-behind (Length m) kind n left b text rest g k = kind-behind n left b text kind g k
+stage_kind-behind Line kind n left b text rest g k = kind-behind n left b text kind g k
+stage_kind-behind (Data m) kind n left b text rest g k = kind-behind n left b text kind g k
+stage_kind-behind (Trailer room) kind n left b text rest g k = kind-behind n left b text kind g k
+stage_kind-behind Open kind n left b text rest g k = kind-behind n left b text kind g k
+stage_kind-behind (Whole code) kind n left b text rest g k = kind-behind n left b text kind g k
+stage_kind-behind Over kind n left b text rest g k = kind-behind n left b text kind g k
+stage_kind-behind Never kind n left b text rest g k = tt
 
-pub tells-on : (stage next : Stage) (kind : Kind) (n : ℕ) (b p q : List ℕ) → is_heads stage ≡ false → is_done stage ≡ false → is_heads next ≡ false → Tells stage kind n b p → Tells next kind n b q
-tells-on (Heads left) next kind n b p q e d f k = absurd cc
-tells-on (Length left) next kind n b p q e d f k = tells-of next kind n b q f k
-tells-on Line next kind n b p q e d f k = tells-of next kind n b q f k
-tells-on (Data left) next kind n b p q e d f k = tells-of next kind n b q f k
-tells-on (Trailer room) next kind n b p q e d f k = tells-of next kind n b q f k
-tells-on Open next kind n b p q e d f k = tells-of next kind n b q f k
-tells-on (Whole code) next kind n b p q e d f k = absurd cc
-tells-on Over next kind n b p q e d f k = absurd cc
-tells-on Never next kind n b p q e d f k = absurd cc
+pub stage_kind-on : (stage next : Stage) (kind : Kind) (n : ℕ) (b p q : List ℕ) → is_heads stage ≡ false → is_done stage ≡ false → is_heads next ≡ false → StageKind stage kind n b p → StageKind next kind n b q
+stage_kind-on (Heads left) next kind n b p q e d f k = absurd cc
+stage_kind-on (Length left) next kind n b p q e d f k = stage_kind-of next kind n b q f k
+stage_kind-on Line next kind n b p q e d f k = stage_kind-of next kind n b q f k
+stage_kind-on (Data left) next kind n b p q e d f k = stage_kind-of next kind n b q f k
+stage_kind-on (Trailer room) next kind n b p q e d f k = stage_kind-of next kind n b q f k
+stage_kind-on Open next kind n b p q e d f k = stage_kind-of next kind n b q f k
+stage_kind-on (Whole code) next kind n b p q e d f k = absurd cc
+stage_kind-on Over next kind n b p q e d f k = absurd cc
+stage_kind-on Never next kind n b p q e d f k = absurd cc
 
-pub tells-frame : (stage : Stage) (kind : Kind) (n : ℕ) (b rest : List ℕ) (s : Step) → is_done stage ≡ false → KeepsKind stage rest (Some s) → Tells stage kind n b rest →
-    Tells s.next (if is_heads stage then s.kind else kind) n b (drop s.used rest)
-tells-frame (Heads left) kind n b rest s d k t = tells-behind s.next s.kind n left b rest (drop s.used rest) t k
-tells-frame (Length left) kind n b rest s d k t = tells-of s.next kind n b (drop s.used rest) k t
-tells-frame Line kind n b rest s d k t = tells-of s.next kind n b (drop s.used rest) k t
-tells-frame (Data left) kind n b rest s d k t = tells-of s.next kind n b (drop s.used rest) k t
-tells-frame (Trailer room) kind n b rest s d k t = tells-of s.next kind n b (drop s.used rest) k t
-tells-frame Open kind n b rest s d k t = tells-of s.next kind n b (drop s.used rest) k t
-tells-frame (Whole code) kind n b rest s d k t = absurd cc
-tells-frame Over kind n b rest s d k t = absurd cc
-tells-frame Never kind n b rest s d k t = absurd cc
+pub stage_kind-frame : (stage : Stage) (kind : Kind) (n : ℕ) (b rest : List ℕ) (s : Step) → is_done stage ≡ false → KeepsKind stage rest (Some s) → StageKind stage kind n b rest →
+    StageKind s.next (if is_heads stage then s.kind else kind) n b (drop s.used rest)
+stage_kind-frame (Heads left) kind n b rest s d k t = stage_kind-behind s.next s.kind n left b rest (drop s.used rest) t k
+stage_kind-frame (Length left) kind n b rest s d k t = stage_kind-of s.next kind n b (drop s.used rest) k t
+stage_kind-frame Line kind n b rest s d k t = stage_kind-of s.next kind n b (drop s.used rest) k t
+stage_kind-frame (Data left) kind n b rest s d k t = stage_kind-of s.next kind n b (drop s.used rest) k t
+stage_kind-frame (Trailer room) kind n b rest s d k t = stage_kind-of s.next kind n b (drop s.used rest) k t
+stage_kind-frame Open kind n b rest s d k t = stage_kind-of s.next kind n b (drop s.used rest) k t
+stage_kind-frame (Whole code) kind n b rest s d k t = absurd cc
+stage_kind-frame Over kind n b rest s d k t = absurd cc
+stage_kind-frame Never kind n b rest s d k t = absurd cc
 
 -- more bytes
 kind-more : (n : ℕ) (b piece : List ℕ) (kind : Kind) → HasKind n b kind → HasKind n (b ++ piece) kind
 kind-more n b piece kind k = (k.0, k.1 ++ piece, reaches-append piece k.2, k.3)
 
-pub tells-more : (stage : Stage) (kind : Kind) (n : ℕ) (b p piece : List ℕ) → Tells stage kind n b p → Tells stage kind n (b ++ piece) (p ++ piece)
-tells-more (Heads left) kind n b p piece t = λ more h rest r.
+pub stage_kind-more : (stage : Stage) (kind : Kind) (n : ℕ) (b p piece : List ℕ) → StageKind stage kind n b p → StageKind stage kind n (b ++ piece) (p ++ piece)
+stage_kind-more (Heads left) kind n b p piece t = λ more h rest r.
     subst (λ (s : List ℕ). Reaches n s h rest) (sym (append_assoc b piece more)) (t (piece ++ more) h rest (subst (λ (s : List ℕ). Reaches left s h rest) (append_assoc p piece more) r))
-tells-more (Length left) kind n b p piece t = kind-more n b piece kind t
-tells-more Line kind n b p piece t = kind-more n b piece kind t
-tells-more (Data left) kind n b p piece t = kind-more n b piece kind t
-tells-more (Trailer room) kind n b p piece t = kind-more n b piece kind t
-tells-more Open kind n b p piece t = kind-more n b piece kind t
-tells-more (Whole code) kind n b p piece t = kind-more n b piece kind t
-tells-more Over kind n b p piece t = kind-more n b piece kind t
-tells-more Never kind n b p piece t = tt
+stage_kind-more (Length left) kind n b p piece t = kind-more n b piece kind t
+stage_kind-more Line kind n b p piece t = kind-more n b piece kind t
+stage_kind-more (Data left) kind n b p piece t = kind-more n b piece kind t
+stage_kind-more (Trailer room) kind n b p piece t = kind-more n b piece kind t
+stage_kind-more Open kind n b p piece t = kind-more n b piece kind t
+stage_kind-more (Whole code) kind n b p piece t = kind-more n b piece kind t
+stage_kind-more Over kind n b p piece t = kind-more n b piece kind t
+stage_kind-more Never kind n b p piece t = tt
 
-pub tells-done : (stage : Stage) (kind : Kind) (n : ℕ) (b p piece : List ℕ) → is_done stage ≡ true → Tells stage kind n b p → Tells stage kind n (b ++ piece) p
-tells-done (Heads left) kind n b p piece d t = absurd cc
-tells-done (Length left) kind n b p piece d t = absurd cc
-tells-done Line kind n b p piece d t = absurd cc
-tells-done (Data left) kind n b p piece d t = absurd cc
-tells-done (Trailer room) kind n b p piece d t = absurd cc
-tells-done Open kind n b p piece d t = absurd cc
-tells-done (Whole code) kind n b p piece d t = kind-more n b piece kind t
-tells-done Over kind n b p piece d t = kind-more n b piece kind t
-tells-done Never kind n b p piece d t = tt
+pub stage_kind-done : (stage : Stage) (kind : Kind) (n : ℕ) (b p piece : List ℕ) → is_done stage ≡ true → StageKind stage kind n b p → StageKind stage kind n (b ++ piece) p
+stage_kind-done (Heads left) kind n b p piece d t = absurd cc
+stage_kind-done (Length left) kind n b p piece d t = absurd cc
+stage_kind-done Line kind n b p piece d t = absurd cc
+stage_kind-done (Data left) kind n b p piece d t = absurd cc
+stage_kind-done (Trailer room) kind n b p piece d t = absurd cc
+stage_kind-done Open kind n b p piece d t = absurd cc
+stage_kind-done (Whole code) kind n b p piece d t = kind-more n b piece kind t
+stage_kind-done Over kind n b p piece d t = kind-more n b piece kind t
+stage_kind-done Never kind n b p piece d t = tt
 
 -- nothing was taken
-pub tells-new : (kind : Kind) → Tells (Heads 8) kind 8 [] []
-tells-new kind = λ more h rest r. r
+pub stage_kind-new : (kind : Kind) → StageKind (Heads 8) kind 8 [] []
+stage_kind-new kind = λ more h rest r. r

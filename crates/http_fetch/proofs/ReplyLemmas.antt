@@ -12,7 +12,7 @@ use Rattle.http_fetch.specs.declared.fields.Kind.TheVariants as kinds
 use Rattle.http_fetch.specs.declared.stages.Stage.{Stage}
 use Rattle.http_fetch.specs.declared.stages.Stage.TheVariants.{Heads, Length, Line, Data, Trailer, Open, Whole, Over, Never}
 use Rattle.http_fetch.specs.Decoders.{IsSettled}
-use Rattle.http_fetch.specs.Kinds.{Tells}
+use Rattle.http_fetch.specs.Kinds.{StageKind}
 use Rattle.http_fetch.specs.Replies.{Becomes, Came, Http, converted_reply, kind_of, page_of, rendered}
 use Rattle.http_fetch.specs.Stages.{Stands}
 use Rattle.http_fetch.proofs.DecoderLemmas.{CameSettled, reaches-append}
@@ -147,7 +147,7 @@ final (Whole code) kind limit got = rendered kind limit code got
 final Over kind limit got = Oversize
 final Never kind limit got = Garbled
 
-pub http-final : (limit : ℕ) (stage : Stage) (kind : Kind) (got pending b : List ℕ) → Stands limit stage got pending b → Tells stage kind 8 b pending → Http b limit (final stage kind limit got)
+pub http-final : (limit : ℕ) (stage : Stage) (kind : Kind) (got pending b : List ℕ) → Stands limit stage got pending b → StageKind stage kind 8 b pending → Http b limit (final stage kind limit got)
 http-final limit (Heads left) kind got pending b st t = (Garbled, http-answer limit (Heads left) got pending b st, refl)
 http-final limit (Length left) kind got pending b st t = (Garbled, http-answer limit (Length left) got pending b st, refl)
 http-final limit Line kind got pending b st t = (Garbled, http-answer limit Line got pending b st, refl)

@@ -3,7 +3,7 @@ use Rattle.std.specs.Prelude.{◌≡◌, ℕ, false, ◌⊎◌, ◌≤◌, lengt
 use Rattle.http_fetch.specs.declared.decoder.Decoder.{Decoder}
 use Rattle.outside.specs.declared.replies.Reply.{Reply}
 use Rattle.http_fetch.specs.Replies.{Http, IsOver, IsEnded}
-use Rattle.http_fetch.specs.Kinds.{Tells}
+use Rattle.http_fetch.specs.Kinds.{StageKind}
 use Rattle.http_fetch.specs.Stages.{Stands}
 use Rattle.http_fetch.specs.Steps.{is_done}
 use Rattle.http_fetch.specs.Reading.{IsShort}
@@ -15,7 +15,7 @@ pub record StandsFor (d : Decoder) (limit : ℕ) (b : List ℕ) : Type 0 where
   pub limit_is : d.limit ≡ limit
   pub stands : Stands limit d.stage d.body.items d.pending.items b
   pub short : is_done d.stage ≡ false → IsShort d.pending.items
-  pub kind : Tells d.stage d.kind 8 b d.pending.items
+  pub kind : StageKind d.stage d.kind 8 b d.pending.items
 
 -- of all that it took the decoder holds a body within the limit, and a text that waits for its end and is short
 abbrev pub HoldsLittle : Decoder → ℕ → Type 0

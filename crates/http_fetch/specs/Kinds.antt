@@ -28,20 +28,20 @@ abbrev pub GoesOn : ℕ → List ℕ → ℕ → List ℕ → Type 0
 GoesOn n b left pending = (more : List ℕ) (h : ResponseHead) (rest : List ℕ) → Reaches left (pending ++ more) h rest → Reaches n (b ++ more) h rest
 
 -- at a place where b has been taken but for the pending text: what is known of its kind
-abbrev pub Tells : Stage → Kind → ℕ → List ℕ → List ℕ → Type 0
-Tells (Heads left) kind n b pending = GoesOn n b left pending
-Tells (Length left) kind n b pending = HasKind n b kind
-Tells Line kind n b pending = HasKind n b kind
-Tells (Data left) kind n b pending = HasKind n b kind
-Tells (Trailer room) kind n b pending = HasKind n b kind
-Tells Open kind n b pending = HasKind n b kind
-Tells (Whole code) kind n b pending = HasKind n b kind
-Tells Over kind n b pending = HasKind n b kind
-Tells Never kind n b pending = Unit {0}
+abbrev pub StageKind : Stage → Kind → ℕ → List ℕ → List ℕ → Type 0
+StageKind (Heads left) kind n b pending = GoesOn n b left pending
+StageKind (Length left) kind n b pending = HasKind n b kind
+StageKind Line kind n b pending = HasKind n b kind
+StageKind (Data left) kind n b pending = HasKind n b kind
+StageKind (Trailer room) kind n b pending = HasKind n b kind
+StageKind Open kind n b pending = HasKind n b kind
+StageKind (Whole code) kind n b pending = HasKind n b kind
+StageKind Over kind n b pending = HasKind n b kind
+StageKind Never kind n b pending = Unit {0}
 
--- a step keeps that: one over a head tells of the text in front of it, and any other doesn't lead back to one
+-- a step keeps that: one over a head knows the text in front of it, and any other doesn't lead back to one
 abbrev pub KeepsKind : Stage → List ℕ → Option Step → Type 0
 KeepsKind (Heads left) text None = Unit {0}
-KeepsKind (Heads left) text (Some s) = Tells s.next s.kind left text (drop s.used text)
+KeepsKind (Heads left) text (Some s) = StageKind s.next s.kind left text (drop s.used text)
 KeepsKind _ text None = Unit {0}
 KeepsKind _ text (Some s) = is_heads s.next ≡ false

@@ -1,4 +1,4 @@
--- What is sent over a link and what comes back, by what the link tells.
+-- What is sent over a link and what comes back, by what is known of the link.
 use Rattle.std.specs.Prelude.{◌≡◌, ℕ, ◌-◌, ◌≤◌, ℤ, pos, List, ◌++◌, length, Option, Some, IfSome}
 use Rattle.value_text.specs.Numbers.{number}
 use Rattle.outside.specs.declared.requests.Request.{Request}
@@ -13,7 +13,7 @@ use Rattle.http_fetch.specs.Decoders.{StandsFor, MustEnd}
 use Rattle.http_fetch.specs.Replies.{Http}
 use Rattle.http_fetch.specs.Requests.{request_text}
 
--- where it was told what was sent, these bytes were sent behind it
+-- where what was sent is known, these bytes were sent behind it
 abbrev pub Adds : List ℕ → Use LinkSeen → Type 0
 Adds bytes u = IfSome u.before.sent (λ had. u.after.sent ≡ Some (had ++ bytes))
 
@@ -41,7 +41,7 @@ abbrev pub SendsRequest : Request → Reply → Use LinkSeen → Type 0
 SendsRequest request Lost u = AddsFront (request_text request) u
 SendsRequest request r u = Adds (request_text request) u
 
--- the reply to these bytes is this one, where the link told them
+-- the reply to these bytes is this one, where the link's bytes are known
 abbrev pub RepliesTo : ℕ → Reply → Use LinkSeen → Type 0
 RepliesTo limit r u = (u.after.faults ≡ u.before.faults) × IfSome u.before.left (λ b. Http b limit r)
 
@@ -64,7 +64,7 @@ pub record HasRead (u : Use LinkSeen) (d : Decoder) (limit count : ℕ) : Type 0
 abbrev pub time_between : ℤ → ℤ → ℤ
 time_between before after = pos (number after - number before)
 
--- so long it took, by two readings of the clock, where it tells them
+-- so long it took, by two readings of the clock, where they are known
 pub record TakesTime (took : ℤ) (readings : List ℤ) (after : Option (List ℤ)) : Type 0 where
   pub time : took ≡ time_between (next_reading readings) (next_reading (later_readings readings))
   pub later : after ≡ Some (later_readings (later_readings readings))

@@ -1,7 +1,7 @@
 //! The decoder.
 ghost use Rattle.std.specs.Prelude.{◌≡◌, ◌++◌, ℕ, [], List, ◌<◌, ◌≤◌, ◌+◌, ◌-◌, length, take, drop, IfOk, OnOk, OnErr, Ok, false, vec_len, vec_capacity, max, if◌then◌else◌};
 ghost use Rattle.http_fetch.specs.Kinds as kinds;
-ghost use Rattle.http_fetch.specs.Kinds.{Tells};
+ghost use Rattle.http_fetch.specs.Kinds.{StageKind};
 ghost use Rattle.http_fetch.specs.Replies as replies;
 ghost use Rattle.http_fetch.specs.Replies.{Http, converted_reply};
 ghost use Rattle.om_reader.specs.Bodies as spec;
@@ -83,7 +83,7 @@ fn run<'a>(place: Place, limit: u64, body: &mut Vec<u8>, text: &'a [u8]) -> Left
     ensures waits { Fits place.stage limit body.old.items → Waits result.stage result.rest.now }
     ensures short { Fits place.stage limit body.old.items → is_done result.stage ≡ false → IsShort result.rest.now }
     ensures rest { LeavesOff text.now result.rest.now }
-    ensures kind { (b : List ℕ) → Tells place.stage place.kind 8 b text.now → Tells result.stage result.kind 8 b result.rest.now }
+    ensures kind { (b : List ℕ) → StageKind place.stage place.kind 8 b text.now → StageKind result.stage result.kind 8 b result.rest.now }
 {
     let mut stage = place.stage;
     let mut kind = place.kind;
@@ -147,8 +147,8 @@ fn advance(
         Leads limit place.stage body.old.items (pending.old.items ++ piece.now) next.stage body.new.items pending.new.items) }
     ensures waits { IfOk result (λ next. Fits place.stage limit body.old.items → Waits next.stage pending.new.items) }
     ensures short { IfOk result (λ next. Fits place.stage limit body.old.items → is_done next.stage ≡ false → IsShort pending.new.items) }
-    ensures kind { IfOk result (λ next. (b : List ℕ) → Tells place.stage place.kind 8 b (pending.old.items ++ piece.now) →
-        Tells next.stage next.kind 8 b pending.new.items) }
+    ensures kind { IfOk result (λ next. (b : List ℕ) → StageKind place.stage place.kind 8 b (pending.old.items ++ piece.now) →
+        StageKind next.stage next.kind 8 b pending.new.items) }
     ensures body { OnErr result (body.new.items ≡ body.old.items) }
     ensures pending { OnErr result (pending.new.items ≡ pending.old.items) }
 {

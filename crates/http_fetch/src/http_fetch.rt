@@ -3,21 +3,21 @@ ghost use Rattle.std.specs.Prelude.{◌≡◌, ◌≤◌, [], false, pos, IfOk, 
 ghost use Rattle.outside.specs.declared.requests.Scheme.TheVariants.{Http, Https};
 ghost use Rattle.outside.specs.Objects.{used, IsUntouched};
 ghost use Rattle.outside.specs.Sizes.{most_body_bytes};
-ghost use Rattle.outside.specs.Fetches.{IsTimeout, IsInLimits, IsUnsentRightly, Tells, CountsReply};
+ghost use Rattle.outside.specs.Fetches.{IsTimeout, IsInLimits, IsUnsentRightly, AddsCall, CountsReply};
 ghost use Rattle.http_fetch.specs.Links.{IsReplyOf, SendsRequest, WasTimed};
 ghost use Rattle.http_fetch.specs.Fetches.{fetch_seen};
 
 use crate::exchange::exchange;
 use label_set::NoMemory;
-use outside::{Clock, Fetch, Fetched, Link, Reply, Request, Scheme, ToldCall, tell_call};
+use outside::{AnsweredCall, Clock, Fetch, Fetched, Link, Reply, Request, Scheme, note_call};
 use std::alloc::Global;
 
-/// What fetches over HTTP, by a link and a clock. It tells its answered calls; its count of faults is that of its link.
+/// What fetches over HTTP, by a link and a clock. Its answered calls are known; its count of faults is that of its link.
 #[derive(Drop)]
 pub struct HttpFetch<L: Link, K: Clock> {
     pub link: L,
     pub clock: K,
-    pub told: Vec<ToldCall>,
+    pub answered: Vec<AnsweredCall>,
 }
 
 impl<L: Link, K: Clock> HttpFetch<L, K> {
@@ -25,12 +25,12 @@ impl<L: Link, K: Clock> HttpFetch<L, K> {
     pub fn new(alloc: Global, link: L, clock: K) -> HttpFetch<L, K>
         ensures link { result.link ≡ link }
         ensures clock { result.clock ≡ clock }
-        ensures told { result.told.items ≡ [] }
+        ensures answered { result.answered.items ≡ [] }
     {
         HttpFetch {
             link,
             clock,
-            told: Vec::new(alloc),
+            answered: Vec::new(alloc),
         }
     }
 }
@@ -38,7 +38,7 @@ impl<L: Link, K: Clock> HttpFetch<L, K> {
 impl<L: Link, K: Clock> Fetch for HttpFetch<L, K> {
     ghost use Rattle.http_fetch.specs.Fetches.{fetch_seen};
 
-    ghost seen = { λ f. fetch_seen f.told.items (L.seen f.link) };
+    ghost seen = { λ f. fetch_seen f.answered.items (L.seen f.link) };
 
     fn fetch(&mut self, alloc: Global, request: &Request) -> Result<Fetched, NoMemory>
         requires limit { request.now.limit ≤ most_body_bytes }
@@ -46,14 +46,14 @@ impl<L: Link, K: Clock> Fetch for HttpFetch<L, K> {
         ensures limits { IfOk result (λ f. IsInLimits f) }
         ensures unsent { IfOk result (λ f. IsUnsentRightly request.now f) }
         ensures counts { IfOk result (λ f. CountsReply f.reply
-            (used (fetch_seen self.old.told.items (L.seen self.old.link))
-            (fetch_seen self.new.told.items (L.seen self.new.link)))) }
-        ensures told { IfOk result (λ f. Tells request.now f
-            (used (fetch_seen self.old.told.items (L.seen self.old.link))
-            (fetch_seen self.new.told.items (L.seen self.new.link)))) }
+            (used (fetch_seen self.old.answered.items (L.seen self.old.link))
+            (fetch_seen self.new.answered.items (L.seen self.new.link)))) }
+        ensures added { IfOk result (λ f. AddsCall request.now f
+            (used (fetch_seen self.old.answered.items (L.seen self.old.link))
+            (fetch_seen self.new.answered.items (L.seen self.new.link)))) }
         ensures none { OnErr result (IsUntouched
-            (used (fetch_seen self.old.told.items (L.seen self.old.link))
-            (fetch_seen self.new.told.items (L.seen self.new.link)))) }
+            (used (fetch_seen self.old.answered.items (L.seen self.old.link))
+            (fetch_seen self.new.answered.items (L.seen self.new.link)))) }
         ensures reply { request.now.scheme ≡ Http →
             IfOk result (λ f. IsReplyOf request.now.limit f.reply
             (used (L.seen self.old.link) (L.seen self.new.link))) }
@@ -65,7 +65,7 @@ impl<L: Link, K: Clock> Fetch for HttpFetch<L, K> {
         ensures https { request.now.scheme ≡ Https → (self.new.link ≡ self.old.link) × (self.new.clock ≡ self.old.clock) }
         ensures at_once { request.now.scheme ≡ Https → IfOk result (λ f. f.took ≡ pos 0) }
     {
-        self.told.reserve(1)?;
+        self.answered.reserve(1)?;
         let fetched = match request.scheme {
             Scheme::Https => Fetched {
                 took: 0,
@@ -73,7 +73,7 @@ impl<L: Link, K: Clock> Fetch for HttpFetch<L, K> {
             },
             Scheme::Http => exchange(alloc, &mut self.link, &mut self.clock, request)?,
         };
-        tell_call(&mut self.told, request, &fetched);
+        note_call(&mut self.answered, request, &fetched);
         Ok(fetched)
     }
 }

@@ -1,37 +1,10 @@
-//! Names in front of bytes.
-ghost use Rattle.std.specs.Prelude.{◌≡◌, ◌≤◌, length, IfOk, IsTrue};
-ghost use Rattle.std.specs.List.{prefix_len};
-ghost use Rattle.std.specs.Str.{IsUtf8};
+//! Names as texts of their own.
+ghost use Rattle.std.specs.Prelude.{◌≡◌, IfOk, IsTrue};
 ghost use Rattle.label_set.specs.Bytes as spec;
 
-use label_set::names::{is_metric_byte, is_name_byte};
+use expo_reader::texts::utf8_text;
 use label_set::{Name, NoMemory};
 use std::alloc::Global;
-
-/// How many bytes of a label name stand in front.
-pub fn name_len(bytes: &[u8]) -> usize
-    ensures value { result ≡ prefix_len spec.is_name_byte bytes.now }
-    ensures within { result ≤ length bytes.now }
-{
-    bytes.iter().take_while(|b| is_name_byte(**b)).count()
-}
-
-/// How many bytes of a metric name stand in front.
-pub fn metric_len(bytes: &[u8]) -> usize
-    ensures value { result ≡ prefix_len spec.is_metric_byte bytes.now }
-    ensures within { result ≤ length bytes.now }
-{
-    bytes.iter().take_while(|b| is_metric_byte(**b)).count()
-}
-
-/// Bytes as the text that they are.
-fn utf8_text(bytes: &[u8]) -> &str
-    requires { IsUtf8 bytes.now }
-    ensures { result.now ≡ bytes.now }
-{
-    // SAFETY: the bytes are UTF-8.
-    unsafe { str::from_utf8_unchecked(bytes) }
-}
 
 /// A copy of a label name.
 pub fn label_name(alloc: Global, bytes: &[u8]) -> Result<Name, NoMemory>

@@ -1,77 +1,18 @@
 //! The parts of a selector.
-ghost use Rattle.std.specs.Prelude.{◌≡◌, ◌<◌, ◌≤◌, length, MatchOption, IfSome, IsTrue, None, Some};
+ghost use Rattle.std.specs.Prelude.{◌≡◌, ◌≤◌, length, MatchOption, IfSome, IsTrue, None, Some};
 ghost use Rattle.label_set.specs.Bytes.{is_label_name};
-ghost use Rattle.expo_reader.specs.Texts as texts;
 ghost use Rattle.instant_view.specs.Forms as spec;
 
 use crate::matchers::Operator;
-use crate::names::name_len;
-use expo_lexer::scan;
+use expo_reader::names::name_len;
+use expo_reader::parts::{Part, bare};
 use label_set::names::are_label_name;
-
-/// A part of a text, and what follows it.
-#[derive(Clone, Copy)]
-pub struct Part<'a> {
-    pub bytes: &'a [u8],
-    pub rest: &'a [u8],
-}
 
 /// An operator, and what follows it.
 #[derive(Clone, Copy)]
 pub struct Compares<'a> {
     pub operator: Operator,
     pub rest: &'a [u8],
-}
-
-/// What follows the blanks in front.
-fn bare(text: &[u8]) -> &[u8]
-    ensures bytes { result.now ≡ texts.bare text.now }
-    ensures within { length result.now ≤ length text.now }
-{
-    &text[scan::blank_len(text)..]
-}
-
-/// What follows a mark in front.
-pub fn mark_at(mark: u8, text: &[u8]) -> Option<&[u8]>
-    requires { 0 < mark }
-    ensures rest { MatchOption result (texts.mark_at mark text.now ≡ None) (λ rest. texts.mark_at mark text.now ≡ Some rest.now) }
-    ensures shorter { IfSome result (λ rest. length rest.now < length text.now) }
-{
-    if !text.is_empty() && text[0] == mark {
-        Some(&text[1..])
-    } else {
-        None
-    }
-}
-
-/// What follows a mark behind the blanks.
-#[tactic(auto, unfolding(expo_reader::specs::Texts::mark_in))]
-pub fn mark_in(mark: u8, text: &[u8]) -> Option<&[u8]>
-    requires { 0 < mark }
-    ensures rest { MatchOption result (texts.mark_in mark text.now ≡ None) (λ rest. texts.mark_in mark text.now ≡ Some rest.now) }
-    ensures shorter { IfSome result (λ rest. length rest.now < length text.now) }
-{
-    mark_at(mark, bare(text))
-}
-
-/// The text in quotes behind the blanks, and what follows it.
-#[tactic(auto, unfolding(expo_reader::specs::Texts::text_in))]
-pub fn text_in(text: &[u8]) -> Option<Part<'_>>
-    ensures part { MatchOption result (texts.text_in text.now ≡ None) (λ p. texts.text_in text.now ≡ Some (p.bytes.now, p.rest.now)) }
-    ensures shorter { IfSome result (λ p. length p.rest.now < length text.now) }
-{
-    let text = bare(text);
-    if text.is_empty() || text[0] != b'"' {
-        return None;
-    }
-    let inside = &text[1..];
-    match scan::text_len(inside) {
-        Some(len) => Some(Part {
-            bytes: &inside[..len],
-            rest: &text[len + 2..],
-        }),
-        None => None,
-    }
 }
 
 /// The label name behind the blanks, and what follows it.

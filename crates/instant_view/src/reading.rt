@@ -9,9 +9,11 @@ ghost use Rattle.instant_view.specs.Forms as spec;
 ghost use Rattle.instant_view.specs.Grammar.{is_apart};
 
 use crate::matchers::{Matcher, MatcherList, Operator, SelectorError, SelectorParts};
-use crate::names::{label_name, metric_len, metric_name};
-use crate::parts::{Part, label_in, mark_at, mark_in, operator_in, text_in};
+use crate::names::{label_name, metric_name};
+use crate::parts::{label_in, operator_in};
 use crate::texts::{is_one_line, text_value};
+use expo_reader::names::metric_len;
+use expo_reader::parts::{Part, mark_at, mark_in, text_in};
 use label_set::Name;
 use label_set::names::are_metric_name;
 use std::alloc::Global;

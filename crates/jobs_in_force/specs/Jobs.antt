@@ -85,7 +85,7 @@ is_crowd f = nat_lt most_targets (count_of f)
 abbrev pub most_targets_of_all : ℕ
 most_targets_of_all = 100000
 
--- too many targets: those of the first job that lists more than one job may, told at its place; else those of all jobs, where they list more than all may
+-- too many targets: those of the first job that lists more than one job may, reported at its place; else those of all jobs, where they list more than all may
 abbrev pub crowd_by : (ℕ → List ℕ) → ℕ → Option ℕ → Option ConfFault
 crowd_by at total (Some n) = Some (TooMany (at n) most_targets)
 crowd_by at total None = if nat_lt most_targets_of_all total then Some (TooMany [] most_targets_of_all) else None

@@ -12,7 +12,7 @@ use Rattle.target_set.specs.declared.targets.Target.{Target}
 abbrev pub is_target : List Pair → Target → Bool
 is_target identity t = is_eq (set_cmp identity t.identity)
 
--- hashed identities tell which targets there are
+-- hashed identities say which targets there are
 abbrev pub IsIndexed : List Target → List (List Pair) → Type 0
 IsIndexed targets keys = (identity : List Pair) → list_any (λ (x : List Pair). is_eq (set_cmp identity x)) keys ≡ list_any (is_target identity) targets
 

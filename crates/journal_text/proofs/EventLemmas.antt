@@ -43,10 +43,10 @@ inside bs k e =
 block-some : (len : ℕ) (bytes : List ℕ) (p : List ℕ × List ℕ) → block len bytes ≡ Some p → Block len bytes p
 unfolding block
 block-some len bytes p e =
-    let told = cond_some (eqb (get_or bytes len 0) 10) (take len bytes, drop (len + 1) bytes) p e in
-    let feed = eqb-true (get_or bytes len 0) 10 told.0 in
+    let known = cond_some (eqb (get_or bytes len 0) 10) (take len bytes, drop (len + 1) bytes) p e in
+    let feed = eqb-true (get_or bytes len 0) 10 known.0 in
     let within = inside bytes len feed in
-    subst (Block len bytes) told.1 (record { long = length-take-le len bytes (omega arith); text = split_at bytes len 10 (omega arith) feed })
+    subst (Block len bytes) known.1 (record { long = length-take-le len bytes (omega arith); text = split_at bytes len 10 (omega arith) feed })
 
 targets_with-names : (m : ℤ) (job file text : List ℕ) → IsUtf8 job → IsUtf8 file → targets_with m job file text ≡ Some (event.Targets m job file text)
 unfolding targets_with
@@ -56,9 +56,9 @@ targets_with-some : (m : ℤ) (job file text : List ℕ) (e : Event) → targets
     IsUtf8 job × IsUtf8 file × (event.Targets m job file text ≡ e)
 unfolding targets_with
 targets_with-some m job file text e is =
-    let told = cond_some (is_utf8 job && is_utf8 file) (event.Targets m job file text) e is in
-    let texts = and_parts (is_utf8 job) (is_utf8 file) told.0 in
-    (IsUtf8-from_is_utf8 job texts.0, IsUtf8-from_is_utf8 file texts.1, told.1)
+    let known = cond_some (is_utf8 job && is_utf8 file) (event.Targets m job file text) e is in
+    let texts = and_parts (is_utf8 job) (is_utf8 file) known.0 in
+    (IsUtf8-from_is_utf8 job texts.0, IsUtf8-from_is_utf8 file texts.1, known.1)
 
 -- the content of an event
 content_of : Event → List ℕ
@@ -181,12 +181,12 @@ record Content (l : Line) (bytes : List ℕ) (p : List ℕ × List ℕ) : Type 0
 
 content_after-some : (l : Line) (bytes : List ℕ) (p : List ℕ × List ℕ) → content_after l bytes ≡ Some p → Content l bytes p
 unfolding tail_of
-content_after-some (Load m len) bytes p e = let told = block-some (len) bytes p e in record { long = told.long; text = told.text ∙ sym (append_assoc p.0 (10 ∷ []) p.1) }
-content_after-some (Targets m job file len) bytes p e = let told = block-some (job + file + len) bytes p e in record { long = told.long; text = told.text ∙ sym (append_assoc p.0 (10 ∷ []) p.1) }
+content_after-some (Load m len) bytes p e = let known = block-some (len) bytes p e in record { long = known.long; text = known.text ∙ sym (append_assoc p.0 (10 ∷ []) p.1) }
+content_after-some (Targets m job file len) bytes p e = let known = block-some (job + file + len) bytes p e in record { long = known.long; text = known.text ∙ sym (append_assoc p.0 (10 ∷ []) p.1) }
 content_after-some (Tick m life) bytes p e = subst (Content (Tick m life) bytes) (same_Some ([], bytes) p e) (record { long = refl; text = refl })
 content_after-some (Sweep m) bytes p e = subst (Content (Sweep m) bytes) (same_Some ([], bytes) p e) (record { long = refl; text = refl })
-content_after-some (Body took ticket status len) bytes p e = let told = block-some (len) bytes p e in record { long = told.long; text = told.text ∙ sym (append_assoc p.0 (10 ∷ []) p.1) }
-content_after-some (Quoted took ticket status len) bytes p e = let told = block-some (len) bytes p e in record { long = told.long; text = told.text ∙ sym (append_assoc p.0 (10 ∷ []) p.1) }
+content_after-some (Body took ticket status len) bytes p e = let known = block-some (len) bytes p e in record { long = known.long; text = known.text ∙ sym (append_assoc p.0 (10 ∷ []) p.1) }
+content_after-some (Quoted took ticket status len) bytes p e = let known = block-some (len) bytes p e in record { long = known.long; text = known.text ∙ sym (append_assoc p.0 (10 ∷ []) p.1) }
 content_after-some (Lost took ticket) bytes p e = subst (Content (Lost took ticket) bytes) (same_Some ([], bytes) p e) (record { long = refl; text = refl })
 content_after-some (Garbled took ticket) bytes p e = subst (Content (Garbled took ticket) bytes) (same_Some ([], bytes) p e) (record { long = refl; text = refl })
 content_after-some (Unsent took ticket) bytes p e = subst (Content (Unsent took ticket) bytes) (same_Some ([], bytes) p e) (record { long = refl; text = refl })
@@ -203,15 +203,15 @@ unfolding tail_of
 event_with-some (Load m len) content e long is =
     subst (Made (Load m len) content) (same_Some _ e is) (record { line = ap (Load m) long; names = tt; rest = refl })
 event_with-some (Targets m job file len) content e long is =
-    let told = targets_with-some m (take job content) (take file (drop job content)) (drop file (drop job content)) e is in
+    let known = targets_with-some m (take job content) (take file (drop job content)) (drop file (drop job content)) e is in
     let job_long : length (take job content) ≡ job = length-take-le job content (omega arith) in
     let file_long : length (take file (drop job content)) ≡ file = length-take-le file (drop job content) (omega (arith, length-drop job content)) in
     let text_long : length (drop file (drop job content)) ≡ len = omega (arith, length-drop job content, length-drop file (drop job content)) in
     let joined : take job content ++ (take file (drop job content) ++ drop file (drop job content)) ≡ content =
     ap (λ t. take job content ++ t) (take-append-drop file (drop job content)) ∙ take-append-drop job content in
-    subst (Made (Targets m job file len) content) told.2 (record {
+    subst (Made (Targets m job file len) content) known.2 (record {
       line = rw (job_long, file_long, text_long) refl;
-      names = (told.0, told.1);
+      names = (known.0, known.1);
       rest = sym (simp append_assoc) ∙ ap (λ t. t ++ 10 ∷ []) joined;
     })
 event_with-some (Body took ticket status len) content e long is =
@@ -268,11 +268,11 @@ verdict_event version now bytes p q read content None is =
     )
 verdict_event version now bytes p q read content (Some e) is =
     let line = line_in-some version bytes p read in
-    let told = content_after-some p.0 p.1 q content in
-    let made = event_with-some p.0 q.0 e told.long is in
+    let known = content_after-some p.0 p.1 q content in
+    let made = event_with-some p.0 q.0 e known.long is in
     let limits : IsInLimits e = subst InRange (sym made.line) line.range in
     let text : bytes ≡ spelling e ++ q.1 =
-    line.text ∙ ap₂ (λ (l : Line) (r : List ℕ). line_text l ++ r) (sym made.line) (told.text ∙ ap (λ r. r ++ q.1) (sym made.rest))
+    line.text ∙ ap₂ (λ (l : Line) (r : List ℕ). line_text l ++ r) (sym made.line) (known.text ∙ ap (λ r. r ++ q.1) (sym made.rest))
     ∙ sym (append_assoc (line_text (line_of e)) (rest_of e) q.1) in
     verdict_ordered version now bytes q.1 e (has_event version e (subst (HasLine version) (sym made.line) line.has)) limits made.names text
 

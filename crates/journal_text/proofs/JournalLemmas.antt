@@ -57,18 +57,18 @@ event_line version bytes (e, rest, has, limits, names, text) = (line_of e, rest_
 
 -- an event that fails for a cause isn't read for this cause
 fails_as : (c : ScriptCause) (version : Version) (now : ℕ) (bytes : List ℕ) → Fails c version now bytes → (r : Result (Event × List ℕ) ScriptCause) → event_in version now bytes ≡ r → Verdict version now bytes r → r ≡ Err c
-fails_as cause.Header version now bytes fails r is told = absurd fails
-fails_as cause.Line version now bytes fails (Ok p) is told = absurd (fails (event_line version bytes (p.0, p.1, told.has, told.limits, told.names, told.text)))
-fails_as cause.Line version now bytes fails (Err cause.Header) is told = absurd told
-fails_as cause.Line version now bytes fails (Err cause.Line) is told = refl
-fails_as cause.Line version now bytes fails (Err cause.Rest) is told = absurd (fails told.0)
+fails_as cause.Header version now bytes fails r is known = absurd fails
+fails_as cause.Line version now bytes fails (Ok p) is known = absurd (fails (event_line version bytes (p.0, p.1, known.has, known.limits, known.names, known.text)))
+fails_as cause.Line version now bytes fails (Err cause.Header) is known = absurd known
+fails_as cause.Line version now bytes fails (Err cause.Line) is known = refl
+fails_as cause.Line version now bytes fails (Err cause.Rest) is known = absurd (fails known.0)
 fails_as cause.Line version now bytes fails (Err cause.Order) is (e, rest, has, limits, names, text, earlier) = absurd (fails (event_line version bytes (e, rest, has, limits, names, text)))
-fails_as cause.Rest version now bytes fails (Ok p) is told = absurd (fails.1 (p.0, p.1, told.has, told.limits, told.names, told.text))
-fails_as cause.Rest version now bytes fails (Err cause.Header) is told = absurd told
-fails_as cause.Rest version now bytes fails (Err cause.Line) is told = absurd (told fails.0)
-fails_as cause.Rest version now bytes fails (Err cause.Rest) is told = refl
+fails_as cause.Rest version now bytes fails (Ok p) is known = absurd (fails.1 (p.0, p.1, known.has, known.limits, known.names, known.text))
+fails_as cause.Rest version now bytes fails (Err cause.Header) is known = absurd known
+fails_as cause.Rest version now bytes fails (Err cause.Line) is known = absurd (known fails.0)
+fails_as cause.Rest version now bytes fails (Err cause.Rest) is known = refl
 fails_as cause.Rest version now bytes fails (Err cause.Order) is (e, rest, has, limits, names, text, earlier) = absurd (fails.1 (e, rest, has, limits, names, text))
-fails_as cause.Order version now bytes (e, rest, has, limits, names, text, earlier) r is told = sym is ∙ ap (event_in version now) text ∙ event_in-earlier version now e rest has limits names earlier
+fails_as cause.Order version now bytes (e, rest, has, limits, names, text, earlier) r is known = sym is ∙ ap (event_in version now) text ∙ event_in-earlier version now e rest has limits names earlier
 
 pub event_in-fails : (c : ScriptCause) (version : Version) (now : ℕ) (bytes : List ℕ) → Fails c version now bytes → event_in version now bytes ≡ Err c
 event_in-fails c version now bytes fails = fails_as c version now bytes fails (event_in version now bytes) refl (verdict version now bytes)

@@ -28,8 +28,8 @@ unfolding moment_field
 moment_field-some stop bytes p some e =
     option_map_some (λ q. (pos q.0, q.1)) (field 0 (2 ^ 52 - 1) stop bytes) p e
     (λ q read same.
-    let told = field-some 0 (2 ^ 52 - 1) stop q.0 bytes q.1 (omega arith) some read in
-    subst (Moment stop bytes) same (record { range = omega (arith, told.1); text = told.2 }))
+    let known = field-some 0 (2 ^ 52 - 1) stop q.0 bytes q.1 (omega arith) some read in
+    subst (Moment stop bytes) same (record { range = omega (arith, known.1); text = known.2 }))
 
 moment_field-decimal : (stop : ℕ) (m : ℤ) (rest : List ℕ) → IsMoment m → is_ascii_digit stop ≡ false → moment_field stop (decimal (number m) ++ stop ∷ rest) ≡ Some (m, rest)
 unfolding moment_field
@@ -73,56 +73,56 @@ unfolding tick_line
 tick_line-some version bytes p e =
     option_map_some (λ q. (Tick q.0 q.1, q.2)) (pair_fields bytes) p e
     (λ q read same.
-    let told = pair_fields-some bytes q read in
-    subst (Reads version (codes "tick ") bytes) same (record { has = tt; range = (told.moment, told.word); text = ap (λ r. codes "tick " ++ r) told.text ∙ sym (simp append_assoc) }))
+    let known = pair_fields-some bytes q read in
+    subst (Reads version (codes "tick ") bytes) same (record { has = tt; range = (known.moment, known.word); text = ap (λ r. codes "tick " ++ r) known.text ∙ sym (simp append_assoc) }))
 
 lost_line-some : (version : Version) (bytes : List ℕ) (p : Line × List ℕ) → lost_line bytes ≡ Some p → Reads version (codes "lost ") bytes p
 unfolding lost_line
 lost_line-some version bytes p e =
     option_map_some (λ q. (Lost q.0 q.1, q.2)) (pair_fields bytes) p e
     (λ q read same.
-    let told = pair_fields-some bytes q read in
-    subst (Reads version (codes "lost ") bytes) same (record { has = tt; range = (told.moment, told.word); text = ap (λ r. codes "lost " ++ r) told.text ∙ sym (simp append_assoc) }))
+    let known = pair_fields-some bytes q read in
+    subst (Reads version (codes "lost ") bytes) same (record { has = tt; range = (known.moment, known.word); text = ap (λ r. codes "lost " ++ r) known.text ∙ sym (simp append_assoc) }))
 
 garbled_line-some : (version : Version) (bytes : List ℕ) (p : Line × List ℕ) → garbled_line bytes ≡ Some p → Reads version (codes "garbled ") bytes p
 unfolding garbled_line
 garbled_line-some version bytes p e =
     option_map_some (λ q. (Garbled q.0 q.1, q.2)) (pair_fields bytes) p e
     (λ q read same.
-    let told = pair_fields-some bytes q read in
-    subst (Reads version (codes "garbled ") bytes) same (record { has = tt; range = (told.moment, told.word); text = ap (λ r. codes "garbled " ++ r) told.text ∙ sym (simp append_assoc) }))
+    let known = pair_fields-some bytes q read in
+    subst (Reads version (codes "garbled ") bytes) same (record { has = tt; range = (known.moment, known.word); text = ap (λ r. codes "garbled " ++ r) known.text ∙ sym (simp append_assoc) }))
 
 unsent_line-some : (version : Version) (bytes : List ℕ) (p : Line × List ℕ) → unsent_line bytes ≡ Some p → Reads version (codes "unsent ") bytes p
 unfolding unsent_line
 unsent_line-some version bytes p e =
     option_map_some (λ q. (Unsent q.0 q.1, q.2)) (pair_fields bytes) p e
     (λ q read same.
-    let told = pair_fields-some bytes q read in
-    subst (Reads version (codes "unsent ") bytes) same (record { has = tt; range = (told.moment, told.word); text = ap (λ r. codes "unsent " ++ r) told.text ∙ sym (simp append_assoc) }))
+    let known = pair_fields-some bytes q read in
+    subst (Reads version (codes "unsent ") bytes) same (record { has = tt; range = (known.moment, known.word); text = ap (λ r. codes "unsent " ++ r) known.text ∙ sym (simp append_assoc) }))
 
 oversize_line-some : (version : Version) (bytes : List ℕ) (p : Line × List ℕ) → oversize_line bytes ≡ Some p → Reads version (codes "oversize ") bytes p
 unfolding oversize_line
 oversize_line-some version bytes p e =
     option_map_some (λ q. (Oversize q.0 q.1, q.2)) (pair_fields bytes) p e
     (λ q read same.
-    let told = pair_fields-some bytes q read in
-    subst (Reads version (codes "oversize ") bytes) same (record { has = tt; range = (told.moment, told.word); text = ap (λ r. codes "oversize " ++ r) told.text ∙ sym (simp append_assoc) }))
+    let known = pair_fields-some bytes q read in
+    subst (Reads version (codes "oversize ") bytes) same (record { has = tt; range = (known.moment, known.word); text = ap (λ r. codes "oversize " ++ r) known.text ∙ sym (simp append_assoc) }))
 
 sweep_line-some : (version : Version) (bytes : List ℕ) (p : Line × List ℕ) → sweep_line bytes ≡ Some p → Reads version (codes "sweep ") bytes p
 unfolding sweep_line
 sweep_line-some version bytes p e =
     option_map_some (λ q. (Sweep q.0, q.1)) (moment_field 10 bytes) p e
     (λ q read same.
-    let told = moment_field-some 10 bytes q (omega arith) read in
-    subst (Reads version (codes "sweep ") bytes) same (record { has = tt; range = told.range; text = ap (λ r. codes "sweep " ++ r) told.text ∙ sym (simp append_assoc) }))
+    let known = moment_field-some 10 bytes q (omega arith) read in
+    subst (Reads version (codes "sweep ") bytes) same (record { has = tt; range = known.range; text = ap (λ r. codes "sweep " ++ r) known.text ∙ sym (simp append_assoc) }))
 
 halt_line-some : (version : Version) (bytes : List ℕ) (p : Line × List ℕ) → halt_line bytes ≡ Some p → Reads version (codes "halt ") bytes p
 unfolding halt_line
 halt_line-some version bytes p e =
     option_map_some (λ q. (Halt q.0, q.1)) (moment_field 10 bytes) p e
     (λ q read same.
-    let told = moment_field-some 10 bytes q (omega arith) read in
-    subst (Reads version (codes "halt ") bytes) same (record { has = tt; range = told.range; text = ap (λ r. codes "halt " ++ r) told.text ∙ sym (simp append_assoc) }))
+    let known = moment_field-some 10 bytes q (omega arith) read in
+    subst (Reads version (codes "halt ") bytes) same (record { has = tt; range = known.range; text = ap (λ r. codes "halt " ++ r) known.text ∙ sym (simp append_assoc) }))
 
 load_line-some : (version : Version) (bytes : List ℕ) (p : Line × List ℕ) → load_line bytes ≡ Some p → Reads version (codes "load ") bytes p
 unfolding load_line
@@ -223,8 +223,8 @@ quoted_line-some bytes p e =
 after-some : (word bytes rest : List ℕ) → after word bytes ≡ Some rest → bytes ≡ word ++ rest
 unfolding after
 after-some word bytes rest e =
-    let told = cond_some (starts_with nat_eq bytes word) (drop (length word) bytes) rest e in
-    (starts_is (λ a b. Decides-eqb a b) bytes word _ refl).0 told.0 ∙ ap (λ r. word ++ r) told.1
+    let known = cond_some (starts_with nat_eq bytes word) (drop (length word) bytes) rest e in
+    (starts_is (λ a b. Decides-eqb a b) bytes word _ refl).0 known.0 ∙ ap (λ r. word ++ r) known.1
 
 behind-some : {P : Type 0} (word : List ℕ) (read : List ℕ → Option (Line × List ℕ)) (bytes : List ℕ) (other : Option (Line × List ℕ)) (p : Line × List ℕ) →
     behind word read bytes other ≡ Some p → ((rest : List ℕ) → bytes ≡ word ++ rest → read rest ≡ Some p → P) → (other ≡ Some p → P) → P
@@ -236,38 +236,38 @@ finish_line_in-some : (version : Version) (bytes : List ℕ) (p : Line × List �
 unfolding finish_line_in
 finish_line_in-some version bytes p e5 =
     behind-some (codes "body ") body_line bytes (behind (codes "lost ") lost_line bytes (behind (codes "garbled ") garbled_line bytes (behind (codes "unsent ") unsent_line bytes (behind (codes "oversize ") oversize_line bytes None)))) p e5
-    (λ rest is got. let told = body_line-some version rest p got in record { has = told.has; range = told.range; text = is ∙ told.text })
+    (λ rest is got. let known = body_line-some version rest p got in record { has = known.has; range = known.range; text = is ∙ known.text })
     (λ e4.
     behind-some (codes "lost ") lost_line bytes (behind (codes "garbled ") garbled_line bytes (behind (codes "unsent ") unsent_line bytes (behind (codes "oversize ") oversize_line bytes None))) p e4
-    (λ rest is got. let told = lost_line-some version rest p got in record { has = told.has; range = told.range; text = is ∙ told.text })
+    (λ rest is got. let known = lost_line-some version rest p got in record { has = known.has; range = known.range; text = is ∙ known.text })
     (λ e3.
     behind-some (codes "garbled ") garbled_line bytes (behind (codes "unsent ") unsent_line bytes (behind (codes "oversize ") oversize_line bytes None)) p e3
-    (λ rest is got. let told = garbled_line-some version rest p got in record { has = told.has; range = told.range; text = is ∙ told.text })
+    (λ rest is got. let known = garbled_line-some version rest p got in record { has = known.has; range = known.range; text = is ∙ known.text })
     (λ e2.
     behind-some (codes "unsent ") unsent_line bytes (behind (codes "oversize ") oversize_line bytes None) p e2
-    (λ rest is got. let told = unsent_line-some version rest p got in record { has = told.has; range = told.range; text = is ∙ told.text })
+    (λ rest is got. let known = unsent_line-some version rest p got in record { has = known.has; range = known.range; text = is ∙ known.text })
     (λ e1.
     behind-some (codes "oversize ") oversize_line bytes None p e1
-    (λ rest is got. let told = oversize_line-some version rest p got in record { has = told.has; range = told.range; text = is ∙ told.text })
+    (λ rest is got. let known = oversize_line-some version rest p got in record { has = known.has; range = known.range; text = is ∙ known.text })
     (λ e0. absurd (none-some p e0))))))
 
 first_line_in-some : (version : Version) (bytes : List ℕ) (p : Line × List ℕ) → first_line_in bytes ≡ Some p → Reads version [] bytes p
 unfolding first_line_in
 first_line_in-some version bytes p e5 =
     behind-some (codes "load ") load_line bytes (behind (codes "targets ") targets_line bytes (behind (codes "tick ") tick_line bytes (behind (codes "sweep ") sweep_line bytes (behind (codes "halt ") halt_line bytes (finish_line_in bytes))))) p e5
-    (λ rest is got. let told = load_line-some version rest p got in record { has = told.has; range = told.range; text = is ∙ told.text })
+    (λ rest is got. let known = load_line-some version rest p got in record { has = known.has; range = known.range; text = is ∙ known.text })
     (λ e4.
     behind-some (codes "targets ") targets_line bytes (behind (codes "tick ") tick_line bytes (behind (codes "sweep ") sweep_line bytes (behind (codes "halt ") halt_line bytes (finish_line_in bytes)))) p e4
-    (λ rest is got. let told = targets_line-some version rest p got in record { has = told.has; range = told.range; text = is ∙ told.text })
+    (λ rest is got. let known = targets_line-some version rest p got in record { has = known.has; range = known.range; text = is ∙ known.text })
     (λ e3.
     behind-some (codes "tick ") tick_line bytes (behind (codes "sweep ") sweep_line bytes (behind (codes "halt ") halt_line bytes (finish_line_in bytes))) p e3
-    (λ rest is got. let told = tick_line-some version rest p got in record { has = told.has; range = told.range; text = is ∙ told.text })
+    (λ rest is got. let known = tick_line-some version rest p got in record { has = known.has; range = known.range; text = is ∙ known.text })
     (λ e2.
     behind-some (codes "sweep ") sweep_line bytes (behind (codes "halt ") halt_line bytes (finish_line_in bytes)) p e2
-    (λ rest is got. let told = sweep_line-some version rest p got in record { has = told.has; range = told.range; text = is ∙ told.text })
+    (λ rest is got. let known = sweep_line-some version rest p got in record { has = known.has; range = known.range; text = is ∙ known.text })
     (λ e1.
     behind-some (codes "halt ") halt_line bytes (finish_line_in bytes) p e1
-    (λ rest is got. let told = halt_line-some version rest p got in record { has = told.has; range = told.range; text = is ∙ told.text })
+    (λ rest is got. let known = halt_line-some version rest p got in record { has = known.has; range = known.range; text = is ∙ known.text })
     (λ e0. finish_line_in-some version bytes p e0)))))
 
 -- a line that is read is one of the version, in range and spelled so
@@ -276,7 +276,7 @@ unfolding line_in
 line_in-some One bytes p e = first_line_in-some One bytes p e
 line_in-some Two bytes p e =
     behind-some (codes "quoted ") quoted_line bytes (first_line_in bytes) p e
-    (λ rest is got. let told = quoted_line-some rest p got in record { has = told.has; range = told.range; text = is ∙ told.text })
+    (λ rest is got. let known = quoted_line-some rest p got in record { has = known.has; range = known.range; text = is ∙ known.text })
     (λ other. first_line_in-some Two bytes p other)
 
 at_load : (version : Version) (bytes : List ℕ) → line_in version (codes "load " ++ bytes) ≡ load_line bytes
@@ -429,4 +429,4 @@ line_in-text version (Halt m) rest has range = simp append_assoc (at_halt versio
 -- a line that was read is in range
 pub range_read : (version : Version) (r : Option (Line × Bor (List ℕ))) (bytes : List ℕ) → option_map {U = Line × List ℕ} (λ p. (p.0, p.1.now)) r ≡ line_in version bytes → IfSome r (λ p. InRange p.0)
 range_read version None bytes is = tt
-range_read version (Some p) bytes is = let told = line_in-some version bytes (p.0, p.1.now) (sym is) in told.range
+range_read version (Some p) bytes is = let known = line_in-some version bytes (p.0, p.1.now) (sym is) in known.range

@@ -66,13 +66,13 @@ pub number_in-some : (low high : ℕ) (ds : List ℕ) (n : ℕ) → high < 2 ^ 6
     (low ≤ n) × (n ≤ high) × (ds ≡ decimal n)
 unfolding number_in
 number_in-some low high ds n small digits e =
-    let told = cond_some (is_plain ds && is_between low high (digits_value 10 ds)) (digits_value 10 ds) n e in
-    let tests = and_parts (is_plain ds) (is_between low high (digits_value 10 ds)) told.0 in
+    let known = cond_some (is_plain ds && is_between low high (digits_value 10 ds)) (digits_value 10 ds) n e in
+    let tests = and_parts (is_plain ds) (is_between low high (digits_value 10 ds)) known.0 in
     let bounds = and_parts (leb low (digits_value 10 ds)) (leb (digits_value 10 ds) high) tests.1 in
     let some = and_parts (ltb 0 (length ds)) _ tests.0 in
-    let above : low ≤ n = subst (λ m. low ≤ m) told.1 (leb-true low (digits_value 10 ds) bounds.0) in
-    let below : n ≤ high = subst (λ m. m ≤ high) told.1 (leb-true (digits_value 10 ds) high bounds.1) in
-    (above, below, sym (decimal-digits_value own ds digits (ltb-true 0 (length ds) some.0) (zero_alone ds tests.0) (omega arith)) ∙ ap decimal told.1)
+    let above : low ≤ n = subst (λ m. low ≤ m) known.1 (leb-true low (digits_value 10 ds) bounds.0) in
+    let below : n ≤ high = subst (λ m. m ≤ high) known.1 (leb-true (digits_value 10 ds) high bounds.1) in
+    (above, below, sym (decimal-digits_value own ds digits (ltb-true 0 (length ds) some.0) (zero_alone ds tests.0) (omega arith)) ∙ ap decimal known.1)
 
 -- the parts of a list at a place
 pub split_at : (bs : List ℕ) (k stop : ℕ) → 0 < stop → get_or bs k 0 ≡ stop → bs ≡ take k bs ++ stop ∷ drop (k + 1) bs

@@ -1,4 +1,4 @@
--- Where a text that is no journal's has its fault, by whole events, and what reading a text tells.
+-- Where a text that is no journal's has its fault, by whole events, and what reading a text answers.
 use Rattle.std.specs.Prelude.{ℕ, ◌≡◌, ◌≢◌, ◌<◌, All, List, [], ◌++◌, length, Option, Some, None, Result, Err}
 use Rattle.journal_text.specs.declared.lines.Line.{Line}
 use Rattle.journal_text.specs.declared.events.Event.{Event}
@@ -22,7 +22,9 @@ BeginsEvent version bytes = (e : Event) × (rest : List ℕ) × HasEvent version
 
 -- an event begins here whose moment is before `now`
 abbrev pub BeginsEarlier : Version → ℕ → List ℕ → Type 0
-BeginsEarlier version now bytes = (e : Event) × (rest : List ℕ) × HasEvent version e × IsInLimits e × HasNames e × (bytes ≡ spelling e ++ rest) × (now_after now e < now)
+BeginsEarlier version now bytes =
+    (e : Event) × (rest : List ℕ) × HasEvent version e × IsInLimits e × HasNames e
+    × (bytes ≡ spelling e ++ rest) × (now_after now e < now)
 
 -- the text of a journal ends at the offset, more follows, and no event of that journal can begin there, for this reason
 pub record FailsAt (bytes : List ℕ) (offset : ℕ) (Why : Version → ℕ → List ℕ → Type 0) : Type 0 where

@@ -11,7 +11,9 @@ SpellsOne = (v w : Version) (es fs : List Event) → IsJournal es → IsJournal 
 
 -- a journal whose text begins that of another begins that journal
 abbrev pub BeginAlike : Type 0
-BeginAlike = (v w : Version) (es fs : List Event) (rest : List ℕ) → IsJournal es → IsJournal fs → journal_text v es ++ rest ≡ journal_text w fs → Begins es fs
+BeginAlike =
+    (v w : Version) (es fs : List Event) (rest : List ℕ) → IsJournal es → IsJournal fs →
+    journal_text v es ++ rest ≡ journal_text w fs → Begins es fs
 
 -- an event's spelling begins with that of no other event, and is no longer than its own
 abbrev pub StandApart : Type 0

@@ -42,7 +42,11 @@ body_line bytes =
 unfoldable pub quoted_line : List ℕ → Option (Line × List ℕ)
 quoted_line bytes =
     option_and_then
-    (λ m. option_and_then (λ t. option_and_then (λ s. option_map (λ n. (Quoted m.0 t.0 s.0 n.0, n.1)) (field 0 most_body_bytes 10 s.1)) (field 100 999 32 t.1)) (word_field 32 m.1))
+    (λ m. option_and_then
+    (λ t. option_and_then
+    (λ s. option_map (λ n. (Quoted m.0 t.0 s.0 n.0, n.1)) (field 0 most_body_bytes 10 s.1))
+    (field 100 999 32 t.1))
+    (word_field 32 m.1))
     (moment_field 32 bytes)
 
 unfoldable pub lost_line : List ℕ → Option (Line × List ℕ)

@@ -191,7 +191,7 @@ pub fn write_version(alloc: Global, version: Version, journal: &Journal) -> Resu
     Ok(Blob { bytes: text })
 }
 
-/// The laws that tell texts apart: none is that of two journals, whatever their versions, a journal whose text begins another's begins that journal, and an event's
+/// The laws that texts differ: none is that of two journals, whatever their versions, a journal whose text begins another's begins that journal, and an event's
 /// spelling begins with that of no other event. It does nothing.
 pub fn texts_tell_apart()
     ensures journals { SpellsOne }

@@ -115,12 +115,12 @@ HasStarted (Ok Forced) = ⊥
 HasStarted (Err e) = ⊥
 
 -- the answer is what was said; out of memory stands only for a scrape that would have started
-abbrev pub Tells : Result Began TickRefusal → Result Began TickRefusal → Type 0
-Tells (Ok b) said = said ≡ Ok b
-Tells (Err NoLife) said = said ≡ Err NoLife
-Tells (Err Busy) said = said ≡ Err Busy
-Tells (Err NotDue) said = said ≡ Err NotDue
-Tells (Err NoMemory) said = HasStarted said
+abbrev pub AnswersAs : Result Began TickRefusal → Result Began TickRefusal → Type 0
+AnswersAs (Ok b) said = said ≡ Ok b
+AnswersAs (Err NoLife) said = said ≡ Err NoLife
+AnswersAs (Err Busy) said = said ≡ Err Busy
+AnswersAs (Err NotDue) said = said ≡ Err NotDue
+AnswersAs (Err NoMemory) said = HasStarted said
 
 -- the scrape that an answer begins
 abbrev pub starts_of : ℤ → ℕ → Began → List Start

@@ -4,7 +4,7 @@ ghost use Rattle.journal_text.specs.Lines.{IsMoment, number};
 ghost use Rattle.life_roll.specs.Schedules.{scanned, landed as freed_schedule};
 ghost use Rattle.life_roll.specs.Wants.{HaveIntervals, AreWishes, terms_at, found};
 ghost use Rattle.life_roll.specs.Counts.{AreDifferent, HaveOneEach, AreOpen};
-ghost use Rattle.life_roll.specs.Rolls.{Tells, room_of};
+ghost use Rattle.life_roll.specs.Rolls.{AnswersAs, room_of};
 ghost use Rattle.life_roll.specs.Rolls as spec;
 ghost use Rattle.life_roll.specs.Flights as flights;
 
@@ -107,7 +107,7 @@ fn made(
     over: bool,
 ) -> Result<Began, TickRefusal>
     requires { life < length lives.old }
-    ensures answer { Tells result (spec.answer_by (length started.old.items) over None) }
+    ensures answer { AnswersAs result (spec.answer_by (length started.old.items) over None) }
     ensures lives { OnOk result (lives.new ≡ spec.rescheduled life (scanned moment (length started.old.items) over) lives.old) }
     ensures started { IfOk result (λ b. started.new.items ≡ started.old.items ++ spec.starts_of moment life b) }
     ensures room { room_of started.old ≤ room_of started.new + 1 }
@@ -139,7 +139,7 @@ fn tick(
     life: u64,
     over: bool,
 ) -> Result<Began, TickRefusal>
-    ensures answer { Tells result (spec.answer_by (length started.old.items) over (spec.refusal (number moment) (slice_get lives.old life))) }
+    ensures answer { AnswersAs result (spec.answer_by (length started.old.items) over (spec.refusal (number moment) (slice_get lives.old life))) }
     ensures lives { OnOk result (lives.new ≡ spec.rescheduled life (scanned moment (length started.old.items) over) lives.old) }
     ensures started { IfOk result (λ b. started.new.items ≡ started.old.items ++ spec.starts_of moment life b) }
     ensures room { room_of started.old ≤ room_of started.new + 1 }
@@ -251,7 +251,7 @@ impl Roll {
     /// A tick of a life at a moment: it starts a scrape, or forces one where the job is over its limit of targets.
     pub fn begin(&mut self, moment: i64, life: u64, over: bool) -> Result<Began, TickRefusal>
         requires { IsMoment moment }
-        ensures answer { Tells result (spec.tick_answer self.old moment life over) }
+        ensures answer { AnswersAs result (spec.tick_answer self.old moment life over) }
         ensures lives { OnOk result (self.new.lives ≡ spec.rescheduled life (scanned moment (length self.old.started) over) self.old.lives) }
         ensures started { IfOk result (λ b. self.new.started ≡ self.old.started ++ spec.starts_of moment life b) }
         ensures room { self.old.spare ≤ self.new.spare + 1 }

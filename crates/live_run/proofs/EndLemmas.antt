@@ -14,8 +14,8 @@ use Rattle.outside.specs.Sizes.{most_text_bytes}
 use Rattle.scrape_core.specs.Records.{IsWhole}
 use Rattle.scrape_machine.specs.Machine.{book_of}
 use Rattle.run_lock.specs.Callers.{BeginsWith}
-use Rattle.station.specs.Control.{CallerTells}
-use Rattle.station.specs.Crews.{AllTell, TellsSweeps}
+use Rattle.station.specs.Control.{RecordsCaller}
+use Rattle.station.specs.Crews.{AllRecorded, RecordsSweeps}
 use Rattle.station.specs.Ends.{ShelfWent, SinkWent, SourceWent, EndsSo}
 use Rattle.station.specs.declared.ends.RunEnd.{RunEnd}
 use Rattle.station.specs.declared.ends.RunEnd.TheVariants as run
@@ -34,12 +34,12 @@ pub record Known (end : RunEnd) (w : Wanted) (t : Touched) (es : List Event) (se
   pub short : length text ≤ most_text_bytes
   pub taken : IsTaken text
   pub begins : end ≢ run.NoMemory → BeginsWith (Load moment text ∷ []) es
-  pub caller : CallerTells (Load moment text ∷ []) end t.shelf t.control es seats t.err
+  pub caller : RecordsCaller (Load moment text ∷ []) end t.shelf t.control es seats t.err
   pub whole : end ≢ run.NoMemory → IsWhole es
   pub each : end ≢ run.NoMemory → length seats ≡ length es
   pub known : end ≢ run.NoMemory → All (λ q. q < 2 + length t.fetchers.before) seats
-  pub sweeps : end ≢ run.NoMemory → TellsSweeps w.turns es seats later t.clock.after
-  pub workers : end ≢ run.NoMemory → AllTell 0 es seats t.fetchers.before t.fetchers.after
+  pub sweeps : end ≢ run.NoMemory → RecordsSweeps w.turns es seats later t.clock.after
+  pub workers : end ≢ run.NoMemory → AllRecorded 0 es seats t.fetchers.before t.fetchers.after
   pub shelf : ShelfWent t.shelf
   pub err : SinkWent t.err
   pub control : SourceWent t.control

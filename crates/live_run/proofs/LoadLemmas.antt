@@ -23,14 +23,14 @@ first_answered m text a is = subst (LoadAnswered (loaded [] text)) (sym is) (ans
 
 pub load_refused : (m : ℤ) (text : List ℕ) (a : Answer) (o : Option ConfFault) (fault : ConfFault) → a ≡ answer (world_of []) (Load m text) → ((said : Result (List Filed) ConfFault) → LoadAnswered said a → o ≡ load_fault said) → o ≡ Some fault
     → loaded [] text ≡ Err fault
-load_refused m text a o fault is told some = of (loaded [] text) (sym some ∙ told (loaded [] text) (first_answered m text a is))
+load_refused m text a o fault is known some = of (loaded [] text) (sym some ∙ known (loaded [] text) (first_answered m text a is))
   where
     of : (r : Result (List Filed) ConfFault) → Some fault ≡ load_fault r → r ≡ Err fault
     of (Ok jobs) e = absurd cc
     of (Err f) e = cc
 
 pub load_taken : (m : ℤ) (text : List ℕ) (a : Answer) (o : Option ConfFault) → a ≡ answer (world_of []) (Load m text) → ((said : Result (List Filed) ConfFault) → LoadAnswered said a → o ≡ load_fault said) → o ≡ None → IsTaken text
-load_taken m text a o is told none = of (loaded [] text) refl (sym none ∙ told (loaded [] text) (first_answered m text a is))
+load_taken m text a o is known none = of (loaded [] text) refl (sym none ∙ known (loaded [] text) (first_answered m text a is))
   where
     of : (r : Result (List Filed) ConfFault) → loaded [] text ≡ r → None ≡ load_fault r → IsTaken text
     of (Ok jobs) at e = (jobs, at)

@@ -17,8 +17,8 @@ use Rattle.book_text.specs.Texts.{printed}
 use Rattle.scrape_core.specs.Records.{IsWhole}
 use Rattle.scrape_machine.specs.Machine.{book_of}
 use Rattle.run_lock.specs.Callers.{BeginsWith}
-use Rattle.station.specs.Control.{CallerTells}
-use Rattle.station.specs.Crews.{AllTell, TellsSweeps}
+use Rattle.station.specs.Control.{RecordsCaller}
+use Rattle.station.specs.Crews.{AllRecorded, RecordsSweeps}
 use Rattle.station.specs.Ends.{ShelfWent, SinkWent, SourceWent, EndsSo}
 use Rattle.station.specs.declared.ends.RunEnd.{RunEnd}
 use Rattle.station.specs.declared.ends.RunEnd.TheVariants as run
@@ -102,9 +102,9 @@ pub record IsRunOf (end : RunEnd) (w : Wanted) (t : Touched) (es : List Event) :
   pub seats : List ℕ
   pub each : length seats ≡ length es
   pub known : All (λ q. q < 2 + length t.fetchers.before) seats
-  pub sweeps : TellsSweeps w.turns es seats later t.clock.after
-  pub workers : AllTell 0 es seats t.fetchers.before t.fetchers.after
-  pub caller : CallerTells (Load moment text ∷ []) end t.shelf t.control es seats t.err
+  pub sweeps : RecordsSweeps w.turns es seats later t.clock.after
+  pub workers : AllRecorded 0 es seats t.fetchers.before t.fetchers.after
+  pub caller : RecordsCaller (Load moment text ∷ []) end t.shelf t.control es seats t.err
 
 -- the text of that journal went to the trail, and then that of its book to the output
 pub record Wrote (end : RunEnd) (w : Wanted) (t : Touched) : Type 0 where
@@ -177,7 +177,7 @@ IsUnbegun (Config fault) = ⊤
 IsUnbegun ReadFault = ⊤
 IsUnbegun _ = ⊥
 
--- a clock gave one reading, the next of those that it tells
+-- a clock gave one reading, the next of those that are known
 abbrev pub IsReadOnce : Use ClockSeen → Type 0
 IsReadOnce clock = (reading : ℤ) × IfSome clock.before.readings (λ readings. Reads reading readings clock.after.readings)
 

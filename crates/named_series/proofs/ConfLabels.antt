@@ -7,11 +7,11 @@ use Rattle.label_set.specs.declared.texts.Pair.{Pair}
 use Rattle.serde_json.specs.Data.{Data, Items, no_items, item}
 use Rattle.relabel.proofs.FaultLemmas.{all_fine}
 use Rattle.rule_conf.specs.Refusals.{HasNoBadField}
-use Rattle.config_fields.specs.Faults.{told}
+use Rattle.config_fields.specs.Faults.{reported}
 use Rattle.config_fields.specs.Places.{item_place}
 use Rattle.config_fields.specs.declared.fault.ConfFault.{ConfFault}
 use Rattle.config_fields.specs.declared.fault.ConfFault.TheVariants.{Rule}
-use Rattle.config_fields.proofs.FaultLemmas.{told-none}
+use Rattle.config_fields.proofs.FaultLemmas.{reported-none}
 use Rattle.scrape_config.specs.Bounds.{HasLabelNames, IsSound}
 use Rattle.scrape_config.specs.Defaults.{base_of, list_under}
 use Rattle.scrape_config.specs.Lists.{conf_faults, groups_faults, jobs_walk}
@@ -75,9 +75,9 @@ if-clean P (Some fault) a f = tt
 conf-by : (text : List ℕ) (o : Option Data) → json_of text ≡ o → IfOk (conf_in o) ConfLabelled
 conf-by text None e = tt
 conf-by text (Some d) e =
-    if-clean ConfLabelled (told (conf_faults d)) (conf_of d)
-    (λ none. both (conf_of d).jobs (conf-good d (told-none (conf_faults d) none))
-    (conf_sound text d e (told-none (conf_faults d) none)))
+    if-clean ConfLabelled (reported (conf_faults d)) (conf_of d)
+    (λ none. both (conf_of d).jobs (conf-good d (reported-none (conf_faults d) none))
+    (conf_sound text d e (reported-none (conf_faults d) none)))
 
 pattern-labels : (r : Result Conf ConfFault) → IfOk r ConfLabelled → IfOk (with_patterns r) ConfLabelled
 pattern-labels (Err fault) h = tt
@@ -90,8 +90,8 @@ conf-labels text = pattern-labels (reading text) (conf-by text (json_of text) re
 groups-by : (file text : List ℕ) (o : Option Data) → json_of text ≡ o → IfOk (groups_in file o) (All GroupLabelled)
 groups-by file text None e = tt
 groups-by file text (Some d) e =
-    if-clean (All GroupLabelled) (told (groups_faults d)) (file_groups_of file d)
-    (λ none. named-groups (file_groups_of file d) (groups_sound text file d e (told-none (groups_faults d) none)))
+    if-clean (All GroupLabelled) (reported (groups_faults d)) (file_groups_of file d)
+    (λ none. named-groups (file_groups_of file d) (groups_sound text file d e (reported-none (groups_faults d) none)))
 
 pub groups-labels : (file text : List ℕ) → IfOk (groups_reading file text) (All GroupLabelled)
 unfolding groups_reading

@@ -12,9 +12,9 @@ use Rattle.label_set.specs.SetText.{metric_label}
 use Rattle.expo_reader.specs.Bodies.{has_metric_label, names_of}
 use Rattle.expo_reader.specs.Forms.{closed_or, names_differ, names_differ_from, with_first}
 use Rattle.expo_reader.specs.Texts.{word_at, mark_at, text_at, text_value}
-use Rattle.om_reader.specs.declared.faults.Fault.{Fault}
-use Rattle.om_reader.specs.declared.faults.Fault.TheVariants.{Faulty, NoMemory}
-use Rattle.om_reader.specs.Faults.{FaultIs}
+use Rattle.expo_reader.specs.declared.faults.Fault.{Fault}
+use Rattle.expo_reader.specs.declared.faults.Fault.TheVariants.{Faulty, NoMemory}
+use Rattle.expo_reader.specs.Faults.{FaultIs}
 use Rattle.om_reader.specs.Forms.{after_label, braced, differing, label_and_more, label_at, labels_at, named_label, valued_label}
 
 -- a label by its parts

@@ -30,11 +30,11 @@ module _ (number : ℕ) (line : List ℕ) (other : (slice_index line 0 == 35) �
 pub record HasConverted (old new : List ℕ) (number : ℕ) (rest : List ℕ) (total : Result (List BodyRow) ℕ) : Type 0 where
   pub rows : List BodyRow
   pub items : new ≡ old ++ plain_text rows
-  pub told : joined rows (rows_from number (lines_of rest)) ≡ total
+  pub known : joined rows (rows_from number (lines_of rest)) ≡ total
 
 pub converted-start : (text body : List ℕ) → HasConverted text text 1 body (reading body)
 unfolding reading
-converted-start text body = record { rows = []; items = sym (append-nil text); told = nothing (rows_from 1 (lines_of body)) }
+converted-start text body = record { rows = []; items = sym (append-nil text); known = nothing (rows_from 1 (lines_of body)) }
   where
     nothing : (r : Result (List BodyRow) ℕ) → joined [] r ≡ r
     nothing (Ok rows) = refl
@@ -62,10 +62,10 @@ module _ (old new : List ℕ) (number : ℕ) (bs : List ℕ) (total : Result (Li
   at-line (b ∷ l) said s e r = first number b l ∙ rw e (ap (λ x. line_then x (rows_from (number + 1) (lines_of (drop (line_len (b ∷ l) + 1) (b ∷ l))))) r)
 
   pub converted-end : bytes_eq (take (line_len bs) bs) eof ≡ true → joined h.rows (ended number (lines_of (drop (line_len bs + 1) bs))) ≡ total
-  converted-end e = sym (ap (joined h.rows) (at-end bs some e)) ∙ h.told
+  converted-end e = sym (ap (joined h.rows) (at-end bs some e)) ∙ h.known
 
   pub converted-fault : (n : ℕ) → bytes_eq (take (line_len bs) bs) eof ≡ false → line_reading number (take (line_len bs) bs) ≡ Err n → total ≡ Err n
-  converted-fault n e r = sym h.told ∙ ap (joined h.rows) (at-line bs (Err n) some e r)
+  converted-fault n e r = sym h.known ∙ ap (joined h.rows) (at-line bs (Err n) some e r)
 
   pub converted-more : (row : Option BodyRow) (longer : List ℕ) → bytes_eq (take (line_len bs) bs) eof ≡ false → line_reading number (take (line_len bs) bs) ≡ Ok row →
       longer ≡ new ++ plain_text (row_list row) → HasConverted old longer (number + 1) (drop (line_len bs + 1) bs) total
@@ -73,7 +73,7 @@ module _ (old new : List ℕ) (number : ℕ) (bs : List ℕ) (total : Result (Li
     rows = h.rows ++ row_list row;
     items = added ∙ ap (λ t. t ++ plain_text (row_list row)) h.items ∙ append_assoc old (plain_text h.rows) (plain_text (row_list row))
         ∙ ap (λ t. old ++ t) (sym (flat_map-append row_text h.rows (row_list row)));
-    told = sym (joined-twice h.rows (row_list row) (rows_from (number + 1) (lines_of (drop (line_len bs + 1) bs)))) ∙ sym (ap (joined h.rows) (at-line bs (Ok row) some e r)) ∙ h.told;
+    known = sym (joined-twice h.rows (row_list row) (rows_from (number + 1) (lines_of (drop (line_len bs + 1) bs)))) ∙ sym (ap (joined h.rows) (at-line bs (Ok row) some e r)) ∙ h.known;
   }
 
 -- the cause
@@ -103,17 +103,17 @@ none-added old = sym (append-nil old)
 
 -- a body that ends here
 pub body-end : (rows : List BodyRow) (said total : Result (List BodyRow) ℕ) → joined rows said ≡ total → said ≡ Ok [] → total ≡ Ok rows
-body-end rows said total told e = sym told ∙ ap (joined rows) e ∙ ap Ok (append-nil rows)
+body-end rows said total known e = sym known ∙ ap (joined rows) e ∙ ap Ok (append-nil rows)
 
 pub end-said : {A : Type 0} (r : Result A OmError) (old new : List ℕ) (rows : List BodyRow) (said total : Result (List BodyRow) ℕ) → new ≡ old ++ plain_text rows → joined rows said ≡ total →
     MatchResult r (λ _. said ≡ Ok []) (λ e. CauseIs e said) →
     MatchResult r (λ _. (rows : List BodyRow) × (total ≡ Ok rows) × (new ≡ old ++ plain_text rows)) (λ e. CauseIs e total)
-end-said (Ok x) old new rows said total items told h = (rows, body-end rows said total told h, items)
-end-said (Err e) old new rows said total items told h = cause-same e said total h (λ n s. sym told ∙ ap (joined rows) s)
+end-said (Ok x) old new rows said total items known h = (rows, body-end rows said total known h, items)
+end-said (Err e) old new rows said total items known h = cause-same e said total h (λ n s. sym known ∙ ap (joined rows) s)
 
 pub no-end : (rows : List BodyRow) (number place : ℕ) (bs : List ℕ) (total : Result (List BodyRow) ℕ) → joined rows (rows_from number (lines_of (drop place bs))) ≡ total → length bs ≤ place → total ≡ Err number
 unfolding lines_of rows_from
-no-end rows number place bs total told h = sym told ∙ ap (λ l. joined rows (rows_from number (lines_of l))) (drop_of_length-le bs h)
+no-end rows number place bs total known h = sym known ∙ ap (λ l. joined rows (rows_from number (lines_of l))) (drop_of_length-le bs h)
 
 -- the text that a body becomes
 pub text-converted : (bytes text : List ℕ) (rows : List BodyRow) → reading bytes ≡ Ok rows → text ≡ plain_text rows → converted bytes ≡ Ok text
@@ -129,7 +129,7 @@ cause-converted bytes NoMemory h = tt
 module _ (old new body rest : List ℕ) (number place end : ℕ) (total : Result (List BodyRow) ℕ) (rest_is : rest ≡ drop place body) (lt : place < length body) (end_is : end ≡ line_len rest)
     (h : HasConverted old new number (drop place body) total) where
   here : HasConverted old new number rest total
-  here = record { rows = h.rows; items = h.items; told = ap (λ b. joined h.rows (rows_from number (lines_of b))) rest_is ∙ h.told }
+  here = record { rows = h.rows; items = h.items; known = ap (λ b. joined h.rows (rows_from number (lines_of b))) rest_is ∙ h.known }
 
   long : 0 < length rest
   long = omega (arith, lt, ap length rest_is, length-drop place body)

@@ -3,8 +3,8 @@ use Rattle.std.proofs.Common.{◌≡◌, ℕ, ℤ, ◌-◌, true, false, List, l
 use Rattle.label_set.specs.Bytes.{is_metric_name}
 use Rattle.label_set.specs.declared.texts.Pair.{Pair}
 use Rattle.expo_reader.specs.Texts.{mark_at, word_at}
-use Rattle.om_reader.specs.declared.faults.Fault.{Fault}
-use Rattle.om_reader.specs.Faults.{FaultIs}
+use Rattle.expo_reader.specs.declared.faults.Fault.{Fault}
+use Rattle.expo_reader.specs.Faults.{FaultIs}
 use Rattle.om_reader.specs.Forms.{Sample, after_name, cut, is_end, made, measure_at, named, sample_at}
 
 module _ (line name rest : List ℕ) (word : word_at line ≡ Some (name, rest)) (good : is_metric_name name ≡ true) where

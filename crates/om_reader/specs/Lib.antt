@@ -1,5 +1,4 @@
 pub mod Bodies
-pub mod Faults
 pub mod Forms
 pub mod Grammar
 pub mod Laws

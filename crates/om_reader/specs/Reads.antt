@@ -4,9 +4,9 @@ use Rattle.label_set.specs.declared.texts.Pair.{Pair}
 use Rattle.expo_reader.specs.Bodies.{names_of, row_list}
 use Rattle.expo_reader.specs.Texts.{mark_at}
 use Rattle.expo_reader.specs.declared.rows.BodyRow.{BodyRow}
-use Rattle.om_reader.specs.declared.faults.Fault.{Fault}
+use Rattle.expo_reader.specs.declared.faults.Fault.{Fault}
 use Rattle.om_reader.specs.Bodies.{plain_text}
-use Rattle.om_reader.specs.Faults.{FaultIs}
+use Rattle.expo_reader.specs.Faults.{FaultIs}
 use Rattle.om_reader.specs.Forms.{Sample, after_name, cut}
 
 -- a label of that name was found, and this follows it

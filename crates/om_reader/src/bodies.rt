@@ -8,10 +8,10 @@ ghost use Rattle.om_reader.specs.Reads.{AddsRow, AddsRows};
 ghost use Rattle.om_reader.specs.Timestamps.{millis_of};
 ghost use Rattle.om_reader.specs.Laws.{CauseIs, HasOneReading, IsCauseOf, IsConverted, KeepsRows, ReadsTheFormat};
 
-use crate::faults::Fault;
 use crate::labels::Room;
 use crate::lines::{Line, sample_at};
 use crate::stamps::push_millis;
+use expo_reader::faults::Fault;
 use label_set::{Blob, NoMemory};
 use memchr::memchr;
 use std::alloc::{AllocError, Global};

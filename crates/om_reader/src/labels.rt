@@ -4,14 +4,14 @@ ghost use Rattle.label_set.specs.Bytes.{is_label_name};
 ghost use Rattle.label_set.specs.declared.texts.Pair.{Pair};
 ghost use Rattle.expo_reader.specs.Bodies.{has_metric_label, names_of};
 ghost use Rattle.expo_reader.specs.Texts as plain;
-ghost use Rattle.om_reader.specs.Faults.{FaultIs};
+ghost use Rattle.expo_reader.specs.Faults.{FaultIs};
 ghost use Rattle.om_reader.specs.Forms as spec;
 ghost use Rattle.om_reader.specs.Reads.{AddsLabel, AddsLabels, HasLabels, IsLabelOf};
 
-use crate::faults::Fault;
-use crate::parts::{Part, mark_at, text_at, word_at};
 use crate::repeats::{BorrowedName, has_metric_name, names_differ};
 use crate::texts::is_written;
+use expo_reader::faults::Fault;
+use expo_reader::parts::{Part, mark_at, text_at, word_at};
 use label_set::names::are_label_name;
 use std::alloc::Global;
 use std::marker::Model;

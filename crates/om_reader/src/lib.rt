@@ -6,10 +6,8 @@
 #![tactic(auto)]
 
 pub mod bodies;
-mod faults;
 mod labels;
 mod lines;
-mod numbers;
 mod parts;
 mod repeats;
 mod stamps;

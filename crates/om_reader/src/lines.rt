@@ -2,15 +2,16 @@
 ghost use Rattle.std.specs.Prelude.{◌≡◌, ◌≤◌, ◌<◌, ◌==◌, ◌&&◌, length, not, slice_index, IfNone, IfOk, IfSome, IsTrue, MatchOption, MatchResult, None, Some, option_map};
 ghost use Rattle.label_set.specs.Bytes.{is_metric_name};
 ghost use Rattle.expo_reader.specs.Texts as plain;
-ghost use Rattle.om_reader.specs.Faults.{FaultIs};
+ghost use Rattle.expo_reader.specs.Faults.{FaultIs};
 ghost use Rattle.om_reader.specs.Forms as spec;
 ghost use Rattle.om_reader.specs.Reads.{IsBehindLabels, IsFaultBehind, IsSampleOf};
 ghost use Rattle.om_reader.specs.Timestamps.{millis_of};
 
-use crate::faults::Fault;
 use crate::labels::{Room, braced};
-use crate::parts::{Part, field_at, mark_at, word_at};
+use crate::parts::field_at;
 use crate::stamps::{Millis, read_stamp};
+use expo_reader::faults::Fault;
+use expo_reader::parts::{Part, mark_at, word_at};
 use label_set::NoMemory;
 use label_set::names::are_metric_name;
 use std::alloc::Global;

@@ -9,11 +9,10 @@ ghost use Rattle.value_text.specs.Numbers.{is_in_range};
 ghost use Rattle.value_text.specs.Values.{is_exponent, is_number};
 ghost use Rattle.om_reader.specs.Timestamps as spec;
 
-use crate::numbers::{is_number, without_sign};
-use crate::parts::{Part, cut};
+use expo_reader::parts::{Part, cut};
 use itoa::Buffer;
 use label_set::NoMemory;
-use value_text::{digit_count, number_of};
+use value_text::{digit_count, is_number, number_of, without_sign};
 
 /// Milliseconds: their number, and whether they are below zero.
 #[derive(Clone, Copy)]

@@ -1,7 +1,7 @@
 -- What contracts see of clocks, and what their readings are.
 use Rattle.std.specs.Prelude.{◌≡◌, ◌<◌, ◌^◌, ℤ, pos, negsuc, List, [], ◌∷◌, Option, Some}
 
--- a clock: the readings that it gives from here on, where it tells them: those of a list, then the last of them again and again, and 0 where it has none
+-- a clock: the readings that it gives from here on, where they are known: those of a list, then the last of them again and again, and 0 where it has none
 pub record ClockSeen : Type 0 where
   pub readings : Option (List ℤ)
 

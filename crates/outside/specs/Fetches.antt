@@ -10,7 +10,7 @@ use Rattle.outside.specs.Clocks.{IsReading}
 use Rattle.outside.specs.Sizes.{most_body_bytes}
 use Rattle.outside.specs.Objects.{Use, Rose}
 
--- what fetches: its answered calls, where it tells them, and how often a reply was lost
+-- what fetches: its answered calls, where they are known, and how often a reply was lost
 pub record FetchSeen : Type 0 where
   pub calls : Option (List Call)
   pub faults : ℕ
@@ -35,9 +35,9 @@ pub record IsInLimits (f : Fetched) : Type 0 where
   pub took : IsReading f.took
   pub reply : IsReplyInLimits f.reply
 
--- where the answered calls were told, they are told now, with this one last
-abbrev pub Tells : Request → Fetched → Use FetchSeen → Type 0
-Tells request f u = IfSome u.before.calls (λ cs. u.after.calls ≡ Some (cs ++ call request f ∷ []))
+-- where the answered calls were known, they are known now, with this one last
+abbrev pub AddsCall : Request → Fetched → Use FetchSeen → Type 0
+AddsCall request f u = IfSome u.before.calls (λ cs. u.after.calls ≡ Some (cs ++ call request f ∷ []))
 
 -- the count rose where the reply was lost, and stayed at every other
 abbrev pub CountsReply : Reply → Use FetchSeen → Type 0

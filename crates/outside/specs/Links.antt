@@ -3,7 +3,7 @@ use Rattle.std.specs.Prelude.{◌≡◌, ◌<◌, ℕ, List, ◌++◌, length, B
 use Rattle.outside.specs.Objects.{Use, Rose}
 use Rattle.outside.specs.Sources.{Gives}
 
--- a link: whether it is dialled and not hung up since, what was sent on it and what its reads still give, where it tells them, and how often a call failed
+-- a link: whether it is dialled and not hung up since, what was sent on it and what its reads still give, where they are known, and how often a call failed
 pub record LinkSeen : Type 0 where
   pub dialled : Bool
   pub sent : Option (List ℕ)

@@ -5,14 +5,14 @@ use Rattle.outside.specs.declared.objects.StoredFile.{StoredFile}
 use Rattle.outside.specs.declared.objects.ShelfError.{ShelfError}
 use Rattle.outside.specs.declared.objects.ShelfError.TheVariants.{Absent, TooLong, Failed, NoMemory}
 
--- a shelf: its files, where it tells them, and how often it was asked for a file that isn't there, for one over the limit, and failed to read
+-- a shelf: its files, where they are known, and how often it was asked for a file that isn't there, for one over the limit, and failed to read
 pub record ShelfSeen : Type 0 where
   pub files : Option (List StoredFile)
   pub misses : ℕ
   pub overs : ℕ
   pub faults : ℕ
 
--- a sink: what it holds, where it tells that, and how often a put has failed
+-- a sink: what it holds, where that is known, and how often a put has failed
 pub record SinkSeen : Type 0 where
   pub bytes : Option (List ℕ)
   pub faults : ℕ
@@ -41,17 +41,28 @@ Rose before now = (before ≤ now) × (raised before ≤ now)
 abbrev pub file_of : List ℕ → List StoredFile → Option (List ℕ)
 file_of name files = option_map (λ (f : StoredFile). f.bytes) (find (λ (f : StoredFile). bytes_eq f.name name) files)
 
--- where the files are told, the file of this name has these bytes
+-- where the files are known, the file of this name has these bytes
 abbrev pub HasFile : ShelfSeen → List ℕ → List ℕ → Type 0
 HasFile shelf name bytes = IfSome shelf.files (λ files. file_of name files ≡ Some bytes)
 
--- where the files are told, none has this name
+-- where the files are known, none has this name
 abbrev pub LacksFile : ShelfSeen → List ℕ → Type 0
 LacksFile shelf name = IfSome shelf.files (λ files. file_of name files ≡ None)
 
--- where the files are told, the file of this name has more bytes than so many
+-- where the files are known, the file of this name has more bytes than so many
 abbrev pub HasLongerFile : ShelfSeen → List ℕ → ℕ → Type 0
 HasLongerFile shelf name limit = IfSome shelf.files (λ files. IsSomeAnd (file_of name files) (λ bytes. limit < length bytes))
+
+-- the files are known, and there is none of this name; or one of more bytes than so many; or this one, of no more
+abbrev pub KnownAbsent : ShelfSeen → List ℕ → Type 0
+KnownAbsent shelf name = IsSomeAnd shelf.files (λ files. file_of name files ≡ None)
+
+abbrev pub KnownLonger : ShelfSeen → List ℕ → ℕ → Type 0
+KnownLonger shelf name limit = IsSomeAnd shelf.files (λ files. IsSomeAnd (file_of name files) (λ bytes. limit < length bytes))
+
+pub record KnownFile (shelf : ShelfSeen) (name : List ℕ) (limit : ℕ) (bytes : List ℕ) : Type 0 where
+  pub file : IsSomeAnd shelf.files (λ files. file_of name files ≡ Some bytes)
+  pub short : length bytes ≤ limit
 
 -- the shelf missed a file: it counted that, and nothing else of it changed
 pub record Missed (u : Use ShelfSeen) : Type 0 where
@@ -76,7 +87,7 @@ ReadLeaves (Err TooLong) u = MetLonger u
 ReadLeaves (Err Failed) u = FailedToRead u
 ReadLeaves (Err NoMemory) u = IsUntouched u
 
--- where a sink tells what it holds, it tells that afterwards too, with these bytes at the end
+-- where it is known what a sink holds, it is known afterwards too, with these bytes at the end
 abbrev pub Adds : List ℕ → Use SinkSeen → Type 0
 Adds bytes u = IfSome u.before.bytes (λ had. u.after.bytes ≡ Some (had ++ bytes))
 

@@ -14,12 +14,12 @@ pub use Rattle.outside.specs.Objects.{raised}
 -- replies in order, and the calls that were answered
 pub record RepliesView : Type 0 where
   pub replies : List Fetched
-  pub told : List Call
+  pub answered : List Call
 
 -- the same of what is to fail at some of its calls, which are numbered from 0
 pub record FailingRepliesView : Type 0 where
   pub replies : List Fetched
-  pub told : List Call
+  pub answered : List Call
   pub fails : List ℕ
   pub calls : ℕ
   pub faults : ℕ
@@ -78,7 +78,7 @@ is_to_fail f = fails_now f.fails f.calls
 
 -- what contracts see of each
 abbrev pub sure_seen : RepliesView → FetchSeen
-sure_seen f = record { calls = Some f.told; faults = 0 }
+sure_seen f = record { calls = Some f.answered; faults = 0 }
 
 abbrev pub failing_seen : FailingRepliesView → FetchSeen
-failing_seen f = record { calls = Some f.told; faults = f.faults }
+failing_seen f = record { calls = Some f.answered; faults = f.faults }

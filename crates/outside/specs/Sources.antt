@@ -2,17 +2,17 @@
 use Rattle.std.specs.Prelude.{◌≡◌, ℕ, ◌+◌, List, [], ◌++◌, length, Option, Some, IfSome}
 use Rattle.outside.specs.Objects.{Use, Rose}
 
--- an input: what its reads still give, where it tells that, how many bytes they gave, and how often a read has failed
+-- an input: what its reads still give, where that is known, how many bytes they gave, and how often a read has failed
 pub record SourceSeen : Type 0 where
   pub left : Option (List ℕ)
   pub given : ℕ
   pub faults : ℕ
 
--- where it was told what is left, that was these bytes and what is told now
+-- where it was known what is left, that was these bytes and what is known now
 abbrev pub Gives : List ℕ → Option (List ℕ) → Option (List ℕ) → Type 0
 Gives bytes before after = IfSome before (λ had. (rest : List ℕ) × (after ≡ Some rest) × (had ≡ bytes ++ rest))
 
--- where it is told what is left, that is nothing
+-- where it is known what is left, that is nothing
 abbrev pub IsAtEnd : Option (List ℕ) → Type 0
 IsAtEnd left = IfSome left (λ had. had ≡ [])
 

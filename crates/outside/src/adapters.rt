@@ -1,4 +1,4 @@
-//! Adapters over the real things. They tell nothing of content, and count what they refuse.
+//! Adapters over the real things. Nothing is known of their content, and count what they refuse.
 ghost use Rattle.std.specs.Prelude.{◌≡◌, ◌≤◌, None, length, IfOk};
 ghost use Rattle.std.specs.IoError.{error_kind};
 ghost use Rattle.outside.specs.Adapters as spec;

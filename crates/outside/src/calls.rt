@@ -1,6 +1,6 @@
-//! The answered calls of what fetches, as contracts are told of them.
+//! The answered calls of what fetches, as contracts see them.
 ghost use Rattle.std.specs.Prelude.{◌≡◌, ◌<◌, ◌++◌, ◌∷◌, [], vec_len, vec_capacity};
-ghost use Rattle.outside.specs.Calls.{told_calls};
+ghost use Rattle.outside.specs.Calls.{answered_calls};
 
 use crate::requests::{Fetched, Request};
 use std::snapshot::Snapshot;
@@ -12,21 +12,21 @@ pub struct Call {
     pub fetched: Fetched,
 }
 
-/// An answered call that is told to contracts alone. It has no bytes.
+/// An answered call, for contracts alone. It has no bytes.
 #[derive(Drop)]
-pub struct ToldCall {
+pub struct AnsweredCall {
     pub request: Snapshot<Request>,
     pub fetched: Snapshot<Fetched>,
 }
 
-/// Tells an answered call. There has to be room for it, which takes no bytes.
-pub fn tell_call(told: &mut Vec<ToldCall>, request: &Request, fetched: &Fetched)
-    requires { vec_len told.old < vec_capacity told.old }
-    ensures { told_calls told.new.items ≡ told_calls told.old.items ++ record { request = request.now; fetched = fetched.now } ∷ [] }
+/// Notes an answered call. There has to be room for it, which takes no bytes.
+pub fn note_call(answered: &mut Vec<AnsweredCall>, request: &Request, fetched: &Fetched)
+    requires { vec_len answered.old < vec_capacity answered.old }
+    ensures { answered_calls answered.new.items ≡ answered_calls answered.old.items ++ record { request = request.now; fetched = fetched.now } ∷ [] }
 {
-    let call = ToldCall {
+    let call = AnsweredCall {
         request: Snapshot::of(request),
         fetched: Snapshot::of(fetched),
     };
-    told.push_reserved(call);
+    answered.push_reserved(call);
 }

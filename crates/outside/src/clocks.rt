@@ -25,13 +25,13 @@ pub trait Clock: Drop {
     ghost use Rattle.outside.specs.Objects.{used, IsUntouched};
     ghost use Rattle.outside.specs.Clocks.{ClockSeen, IsReading, Reads};
 
-    /// What contracts see of it: its readings from here on, where it tells them.
+    /// What contracts see of it: its readings from here on, where they are known.
     ghost seen: { Self → ClockSeen };
 
     /// The moment, in milliseconds since 1970: from 0 to 2^52 - 1.
     fn now(&mut self) -> i64
         ensures limits { IsReading result }
-        ensures told { IfSome (seen self.old).readings (λ readings. Reads result readings (seen self.new).readings) };
+        ensures read { IfSome (seen self.old).readings (λ readings. Reads result readings (seen self.new).readings) };
 
     /// Waits until a moment has come, and may return early. It uses up no reading.
     fn wait_until(&mut self, moment: i64)

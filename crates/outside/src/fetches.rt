@@ -1,12 +1,12 @@
 //! What fetches: what its calls say, whatever stands behind it, and replies in memory.
 ghost use Rattle.std.specs.Prelude.{◌≡◌, ◌≤◌, ◌<◌, ◌∷◌, [], ◌++◌, ℕ, List, Option, Some, None, IfOk, OnErr, OnOk, Ok, All, false, Bool};
 ghost use Rattle.outside.specs.Objects.{used, IsUntouched};
-ghost use Rattle.outside.specs.Fetches.{IsTimeout, IsInLimits, IsUnsentRightly, Tells, CountsReply};
+ghost use Rattle.outside.specs.Fetches.{IsTimeout, IsInLimits, IsUnsentRightly, AddsCall, CountsReply};
 ghost use Rattle.outside.specs.Memory.{fails_now};
 ghost use Rattle.outside.specs.Replies as spec;
 ghost use Rattle.outside.specs.declared.replies.Reply.TheVariants as replies;
 
-use crate::calls::{ToldCall, tell_call};
+use crate::calls::{AnsweredCall, note_call};
 use crate::memory::next_call;
 use crate::objects::CallList;
 use crate::replies::Reply;
@@ -35,9 +35,9 @@ impl Model for FetchedList {
 pub trait Fetch: Drop {
     ghost use Rattle.outside.specs.Objects.{used, IsUntouched};
     ghost use Rattle.outside.specs.Sizes.{most_body_bytes};
-    ghost use Rattle.outside.specs.Fetches.{FetchSeen, IsTimeout, IsInLimits, IsUnsentRightly, Tells, CountsReply};
+    ghost use Rattle.outside.specs.Fetches.{FetchSeen, IsTimeout, IsInLimits, IsUnsentRightly, AddsCall, CountsReply};
 
-    /// What contracts see of it: its answered calls, where it tells them, and its count.
+    /// What contracts see of it: its answered calls, where they are known, and its count.
     ghost seen: { Self → FetchSeen };
 
     /// What came back for a request, and how long it took.
@@ -47,7 +47,7 @@ pub trait Fetch: Drop {
         ensures limits { IfOk result (λ f. IsInLimits f) }
         ensures unsent { IfOk result (λ f. IsUnsentRightly request.now f) }
         ensures counts { IfOk result (λ f. CountsReply f.reply (used (seen self.old) (seen self.new))) }
-        ensures told { IfOk result (λ f. Tells request.now f (used (seen self.old) (seen self.new))) }
+        ensures added { IfOk result (λ f. AddsCall request.now f (used (seen self.old) (seen self.new))) }
         ensures none { OnErr result (IsUntouched (used (seen self.old) (seen self.new))) };
 }
 
@@ -96,17 +96,17 @@ fn count_after(faults: u64, reply: &Reply) -> u64
 #[derive(Drop)]
 pub struct SureFetch {
     replies: VecDeque<Fetched>,
-    told: Vec<ToldCall>,
+    answered: Vec<AnsweredCall>,
 }
 
 impl Model for SureFetch {
     ghost use Rattle.std.specs.Prelude.{All};
-    ghost use Rattle.outside.specs.Calls.{told_calls};
+    ghost use Rattle.outside.specs.Calls.{answered_calls};
     ghost use Rattle.outside.specs.Replies.{RepliesView, IsReplyToGive};
 
     ghost Value = { RepliesView };
 
-    ghost view = { λ f. record { replies = f.replies.items; told = told_calls f.told.items } };
+    ghost view = { λ f. record { replies = f.replies.items; answered = answered_calls f.answered.items } };
 
     ghost invariant = { λ f. All IsReplyToGive f.replies.items };
 }
@@ -115,11 +115,11 @@ impl SureFetch {
     /// What gives these replies in order.
     pub fn new(alloc: Global, replies: FetchedList) -> Result<SureFetch, NoMemory>
         requires { All spec.IsReplyToGive replies }
-        ensures { result ≡ Ok (record { replies = replies; told = [] }) }
+        ensures { result ≡ Ok (record { replies = replies; answered = [] }) }
     {
         Ok(SureFetch {
             replies: VecDeque::from(replies.items),
-            told: Vec::new(alloc),
+            answered: Vec::new(alloc),
         })
     }
 }
@@ -131,14 +131,14 @@ impl Fetch for SureFetch {
         ensures limits { IfOk result (λ f. IsInLimits f) }
         ensures unsent { IfOk result (λ f. IsUnsentRightly request.now f) }
         ensures counts { IfOk result (λ f. CountsReply f.reply (used (spec.sure_seen self.old) (spec.sure_seen self.new))) }
-        ensures told { IfOk result (λ f. Tells request.now f (used (spec.sure_seen self.old) (spec.sure_seen self.new))) }
+        ensures added { IfOk result (λ f. AddsCall request.now f (used (spec.sure_seen self.old) (spec.sure_seen self.new))) }
         ensures none { OnErr result (IsUntouched (used (spec.sure_seen self.old) (spec.sure_seen self.new))) }
         ensures answer { IfOk result (λ f. f ≡ spec.answer self.old.replies request.now false replies.Garbled) }
         ensures rest { OnOk result (self.new.replies ≡ spec.replies_left self.old.replies request.now false) }
     {
-        self.told.reserve(1)?;
+        self.answered.reserve(1)?;
         let fetched = take_reply(&mut self.replies, request, false, Reply::Garbled);
-        tell_call(&mut self.told, request, &fetched);
+        note_call(&mut self.answered, request, &fetched);
         Ok(fetched)
     }
 }
@@ -147,7 +147,7 @@ impl Fetch for SureFetch {
 #[derive(Drop)]
 pub struct MemFetch {
     replies: VecDeque<Fetched>,
-    told: Vec<ToldCall>,
+    answered: Vec<AnsweredCall>,
     fails: CallList,
     calls: u64,
     faults: u64,
@@ -155,12 +155,18 @@ pub struct MemFetch {
 
 impl Model for MemFetch {
     ghost use Rattle.std.specs.Prelude.{All};
-    ghost use Rattle.outside.specs.Calls.{told_calls};
+    ghost use Rattle.outside.specs.Calls.{answered_calls};
     ghost use Rattle.outside.specs.Replies.{FailingRepliesView, IsReplyToGive};
 
     ghost Value = { FailingRepliesView };
 
-    ghost view = { λ f. record { replies = f.replies.items; told = told_calls f.told.items; fails = f.fails; calls = f.calls; faults = f.faults } };
+    ghost view = { λ f. record {
+      replies = f.replies.items;
+      answered = answered_calls f.answered.items;
+      fails = f.fails;
+      calls = f.calls;
+      faults = f.faults;
+    } };
 
     ghost invariant = { λ f. All IsReplyToGive f.replies.items };
 }
@@ -169,11 +175,11 @@ impl MemFetch {
     /// What gives these replies in order, and fails at the calls of these numbers.
     pub fn new(alloc: Global, replies: FetchedList, fails: CallList) -> Result<MemFetch, NoMemory>
         requires { All spec.IsReplyToGive replies }
-        ensures { result ≡ Ok (record { replies = replies; told = []; fails = fails; calls = 0; faults = 0 }) }
+        ensures { result ≡ Ok (record { replies = replies; answered = []; fails = fails; calls = 0; faults = 0 }) }
     {
         Ok(MemFetch {
             replies: VecDeque::from(replies.items),
-            told: Vec::new(alloc),
+            answered: Vec::new(alloc),
             fails,
             calls: 0,
             faults: 0,
@@ -188,18 +194,18 @@ impl Fetch for MemFetch {
         ensures limits { IfOk result (λ f. IsInLimits f) }
         ensures unsent { IfOk result (λ f. IsUnsentRightly request.now f) }
         ensures counts { IfOk result (λ f. CountsReply f.reply (used (spec.failing_seen self.old) (spec.failing_seen self.new))) }
-        ensures told { IfOk result (λ f. Tells request.now f (used (spec.failing_seen self.old) (spec.failing_seen self.new))) }
+        ensures added { IfOk result (λ f. AddsCall request.now f (used (spec.failing_seen self.old) (spec.failing_seen self.new))) }
         ensures none { OnErr result (IsUntouched (used (spec.failing_seen self.old) (spec.failing_seen self.new))) }
         ensures answer { IfOk result (λ f. f ≡ spec.answer self.old.replies request.now (spec.is_to_fail self.old) replies.Lost) }
         ensures rest { OnOk result (self.new.replies ≡ spec.replies_left self.old.replies request.now (spec.is_to_fail self.old)) }
         ensures next { OnOk result (self.new.calls ≡ spec.raised self.old.calls) }
         ensures fails { self.new.fails ≡ self.old.fails }
     {
-        self.told.reserve(1)?;
+        self.answered.reserve(1)?;
         let fails = next_call(&self.fails, &mut self.calls);
         let fetched = take_reply(&mut self.replies, request, fails, Reply::Lost);
         self.faults = count_after(self.faults, &fetched.reply);
-        tell_call(&mut self.told, request, &fetched);
+        note_call(&mut self.answered, request, &fetched);
         Ok(fetched)
     }
 }

@@ -2,8 +2,8 @@
 //! inputs, clocks and links that it is handed.
 //! It also says how a scheme is written, and how long what is handed in may be.
 //! The crates that decide know these types alone, so they reach no file, socket or clock: each object is a trait, with objects in memory
-//! that tell all that they hold, and thin adapters over the real things, which tell nothing.
-//! Contracts see a reply as its variant, with the body as the list of its bytes; of an object they see what it holds, where it tells that,
+//! of which all is known, and thin adapters over the real things, of which nothing is known.
+//! Contracts see a reply as its variant, with the body as the list of its bytes; of an object they see what it holds, where that is known,
 //! and its counts of faults, which never fall.
 //! Tests: `tests_ground::{inputs, links, fetches}`, those of `scrape_cli`, and `checks/ends` on the built program.
 #![tactic(auto)]
@@ -23,7 +23,7 @@ pub mod sources;
 pub mod streams;
 
 pub use adapters::{FileShelf, StdSink};
-pub use calls::{Call, ToldCall, tell_call};
+pub use calls::{AnsweredCall, Call, note_call};
 pub use clocks::{Clock, MemClock, MomentList};
 pub use fetches::{Fetch, FetchedList, MemFetch, SureFetch};
 pub use lines::{MemLink, SureLink};

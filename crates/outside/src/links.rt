@@ -13,7 +13,7 @@ pub trait Link: Drop {
     ghost use Rattle.outside.specs.Sources.{IsAtEnd};
     ghost use Rattle.outside.specs.Links.{LinkSeen, WasDialled, TookToSend, TakesSome, GaveOfLink, Broke, WasHungUp};
 
-    /// What contracts see of it: whether it is dialled, what was sent and what is left, where it tells that, and its count.
+    /// What contracts see of it: whether it is dialled, what was sent and what is left, where that is known, and its count.
     ghost seen: { Self → LinkSeen };
 
     /// Connects to a port of a host. The dial and all calls after it are to be over so many milliseconds from now.

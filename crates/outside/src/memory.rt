@@ -1,4 +1,4 @@
-//! Shelves and sinks in memory, which tell what they hold.
+//! Shelves and sinks in memory, of which it is known what they hold.
 ghost use Rattle.std.specs.Prelude.{◌≡◌, ◌≤◌, ◌∷◌, [], ◌++◌, ℕ, List, Option, Some, None, length, option_map, OnOk, OnErr, IfOk, IsErrOf, Ok, Err, IsOk, IsErr, ◌↔◌, IsTrue, ◌+◌, false};
 ghost use Rattle.outside.specs.Objects.{raised, file_of, used, HasFile, LacksFile, HasLongerFile, ReadLeaves, Took, Cut};
 ghost use Rattle.outside.specs.Memory.{fails_now, put_fails, after_put, failing_seen, sink_seen};
@@ -141,7 +141,7 @@ impl Shelf for MemShelf {
     }
 }
 
-/// A sink that takes all bytes, keeps none and tells nothing.
+/// A sink that takes all bytes, keeps none, and of which nothing is known.
 #[derive(Debug, Drop)]
 pub struct SureSink;
 

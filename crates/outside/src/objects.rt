@@ -73,7 +73,7 @@ pub struct SinkFault;
 pub trait Shelf {
     ghost use Rattle.outside.specs.Objects.{ShelfSeen, HasFile, LacksFile, HasLongerFile, ReadLeaves, used};
 
-    /// What contracts see of it: its files, where it tells them, and its counts.
+    /// What contracts see of it: its files, where they are known, and its counts.
     ghost seen: { Self → ShelfSeen };
 
     /// The bytes of the file of a name, which are to be at most `limit`.
@@ -89,7 +89,7 @@ pub trait Shelf {
 pub trait Sink {
     ghost use Rattle.outside.specs.Objects.{SinkSeen, Took, Cut, used};
 
-    /// What contracts see of it: what it holds, where it tells that, and its count.
+    /// What contracts see of it: what it holds, where that is known, and its count.
     ghost seen: { Self → SinkSeen };
 
     /// Adds the bytes at the end, or where it fails a front of them.

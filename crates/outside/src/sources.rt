@@ -19,7 +19,7 @@ pub trait Source: Drop {
     ghost use Rattle.outside.specs.Objects.{used};
     ghost use Rattle.outside.specs.Sources.{SourceSeen, Gave, FailedToGive, IsAtEnd};
 
-    /// What contracts see of it: what is left, where it tells that, how many bytes it gave, and its count.
+    /// What contracts see of it: what is left, where that is known, how many bytes it gave, and its count.
     ghost seen: { Self → SourceSeen };
 
     /// Reads some bytes into the front of the room, and answers how many; 0 is the end.

@@ -31,7 +31,7 @@ abbrev pub rules_fault : List RuleConf → Option RuleFault
 rules_fault rules =
     option_or (option_map (λ bad. BadRule bad.0 bad.1) (first_bad_rule 0 rules)) (option_map (λ n. BadPattern n) (first_bad_pattern 0 rules))
 
--- what is told is the first fault, unless memory runs out
+-- what is reported is the first fault, unless memory runs out
 abbrev pub IsFirstFault : List RuleConf → RuleFault → Type 0
 IsFirstFault rules (BadRule n field) = rules_fault rules ≡ Some (BadRule n field)
 IsFirstFault rules (BadPattern n) = rules_fault rules ≡ Some (BadPattern n)

@@ -89,28 +89,28 @@ entries_events now (mark.Ended t ∷ ms) es h = entries_events now ms es h
 entries_events now (mark.Failed t ∷ ms) es h = entries_events now ms es h
 
 -- the events of a seat are those of its entries
-told_more : (q s : ℕ) (x : Note) (d : Event) (us xs : List Event) (es : List Entry) → event_in x ≡ d ∷ [] → us ≡ events_in (own_by q es) → cond (s == q) (d ∷ us) us ≡ events_in (own_by q (entry s x ∷ es))
-told_more q s x d us xs es one h = of (s == q) where
+seat_events_more : (q s : ℕ) (x : Note) (d : Event) (us xs : List Event) (es : List Entry) → event_in x ≡ d ∷ [] → us ≡ events_in (own_by q es) → cond (s == q) (d ∷ us) us ≡ events_in (own_by q (entry s x ∷ es))
+seat_events_more q s x d us xs es one h = of (s == q) where
   of : (b : Bool) → cond b (d ∷ us) us ≡ events_in (cond b (entry s x ∷ own_by q es) (own_by q es))
   of true = ap (λ (ys : List Event). d ∷ ys) h ∙ ap (λ (ys : List Event). ys ++ events_in (own_by q es)) (sym one)
   of false = h
 
-told_less : (q s : ℕ) (x : Note) (us : List Event) (es : List Entry) → event_in x ≡ [] → us ≡ events_in (own_by q es) → us ≡ events_in (own_by q (entry s x ∷ es))
-told_less q s x us es none h = of (s == q) where
+seat_events_less : (q s : ℕ) (x : Note) (us : List Event) (es : List Entry) → event_in x ≡ [] → us ≡ events_in (own_by q es) → us ≡ events_in (own_by q (entry s x ∷ es))
+seat_events_less q s x us es none h = of (s == q) where
   of : (b : Bool) → us ≡ events_in (cond b (entry s x ∷ own_by q es) (own_by q es))
   of true = h ∙ ap (λ (ys : List Event). ys ++ events_in (own_by q es)) (sym none)
   of false = h
 
-pub told : (q now : ℕ) (ms : List Mark) (es : List Event) → length es ≡ length (seats_in ms) → events_of q es (seats_in ms) ≡ events_in (own_by q (entries_from now ms es))
-told q now [] [] h = refl
-told q now [] (d ∷ es) h = absurd (omega (arith, h))
-told q now (mark.Before ∷ ms) [] h = absurd (omega (arith, h))
-told q now (mark.Before ∷ ms) (d ∷ es) h = told_more q 0 (Before d) d (events_of q es (seats_in ms)) [] (entries_from (now_after now d) ms es) refl (told q (now_after now d) ms es (omega (arith, h)))
-told q now (mark.Took t k ∷ ms) es h = told_less q t (Took k) (events_of q es (seats_in ms)) (entries_from now ms es) refl (told q now ms es h)
-told q now (mark.Brought t ∷ ms) [] h = absurd (omega (arith, h))
-told q now (mark.Brought t ∷ ms) (d ∷ es) h = told_more q t (Brought now d) d (events_of q es (seats_in ms)) [] (entries_from (now_after now d) ms es) refl (told q (now_after now d) ms es (omega (arith, h)))
-told q now (mark.Ended t ∷ ms) es h = told_less q t Ended (events_of q es (seats_in ms)) (entries_from now ms es) refl (told q now ms es h)
-told q now (mark.Failed t ∷ ms) es h = told_less q t Failed (events_of q es (seats_in ms)) (entries_from now ms es) refl (told q now ms es h)
+pub seat_events : (q now : ℕ) (ms : List Mark) (es : List Event) → length es ≡ length (seats_in ms) → events_of q es (seats_in ms) ≡ events_in (own_by q (entries_from now ms es))
+seat_events q now [] [] h = refl
+seat_events q now [] (d ∷ es) h = absurd (omega (arith, h))
+seat_events q now (mark.Before ∷ ms) [] h = absurd (omega (arith, h))
+seat_events q now (mark.Before ∷ ms) (d ∷ es) h = seat_events_more q 0 (Before d) d (events_of q es (seats_in ms)) [] (entries_from (now_after now d) ms es) refl (seat_events q (now_after now d) ms es (omega (arith, h)))
+seat_events q now (mark.Took t k ∷ ms) es h = seat_events_less q t (Took k) (events_of q es (seats_in ms)) (entries_from now ms es) refl (seat_events q now ms es h)
+seat_events q now (mark.Brought t ∷ ms) [] h = absurd (omega (arith, h))
+seat_events q now (mark.Brought t ∷ ms) (d ∷ es) h = seat_events_more q t (Brought now d) d (events_of q es (seats_in ms)) [] (entries_from (now_after now d) ms es) refl (seat_events q (now_after now d) ms es (omega (arith, h)))
+seat_events q now (mark.Ended t ∷ ms) es h = seat_events_less q t Ended (events_of q es (seats_in ms)) (entries_from now ms es) refl (seat_events q now ms es h)
+seat_events q now (mark.Failed t ∷ ms) es h = seat_events_less q t Failed (events_of q es (seats_in ms)) (entries_from now ms es) refl (seat_events q now ms es h)
 
 -- one more entry of a seat
 pub pending_push : (o : Option ℕ) (xs : List Entry) (x : Entry) → pending_from o (xs ++ x ∷ []) ≡ after_note (pending_from o xs) x.note

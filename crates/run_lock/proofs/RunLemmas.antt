@@ -18,7 +18,7 @@ use Rattle.run_lock.specs.Held.{IsHeld, any_end, events_of, is_end, held, pendin
 use Rattle.run_lock.specs.Running.{Known, IsCallers, IsFront, IsRun, log_of}
 use Rattle.run_lock.specs.Tasks.{event_at}
 use Rattle.run_lock.proofs.CallerLemmas.{same_jobs, more_jobs, order_jobs, known_push, command_at}
-use Rattle.run_lock.proofs.EntryLemmas.{own_here, own_else, seats_brought, seats_silent, entries_brought, entries_silent, any_push, brought_push, events_push, told, entries_begun, seats_begun, begun_own, begun_else, begun_brought, begun_events, begun_unended}
+use Rattle.run_lock.proofs.EntryLemmas.{own_here, own_else, seats_brought, seats_silent, entries_brought, entries_silent, any_push, brought_push, events_push, seat_events, entries_begun, seats_begun, begun_own, begun_else, begun_brought, begun_events, begun_unended}
 use Rattle.run_lock.proofs.HeldLemmas.{running_take, running_finish, running_sweep, running_command, fresh_runs, run_is_whole}
 use Rattle.run_lock.proofs.SlotLemmas.{held_put, held_left, held_none, tickets_note, tickets_silent, tickets_other, tickets_first, split}
 
@@ -274,13 +274,13 @@ module _ (workers turns : ℕ) (start : List Event) where
 
   pub halted_other : (k : Known) (m : ℤ) (q : ℕ) → IsRun workers turns start k → 0 < q → events_of q (k.events ++ Halt m ∷ []) (seats_in (k.marks ++ mark.Brought 0 ∷ [])) ≡ events_in (own_by q (log_of k))
   halted_other k m q run some =
-      told q 0 (k.marks ++ mark.Brought 0 ∷ []) (k.events ++ Halt m ∷ []) (brought_marked k 0 (Halt m) run)
+      seat_events q 0 (k.marks ++ mark.Brought 0 ∷ []) (k.events ++ Halt m ∷ []) (brought_marked k 0 (Halt m) run)
       ∙ ap events_in (ap (own_by q) (brought_log k 0 (Halt m) run) ∙ own_else (log_of k) 0 q (Brought (now_of k.events) (Halt m)) (λ e. absurd (omega (arith, e, some))))
 
   pub halted_own : (k : Known) (m : ℤ) → IsRun workers turns start k → events_of 0 (k.events ++ Halt m ∷ []) (seats_in (k.marks ++ mark.Brought 0 ∷ [])) ≡ events_in (own_by 0 (log_of k)) ++ Halt m ∷ []
   halted_own k m run =
       let x = Brought (now_of k.events) (Halt m) in
-      told 0 0 (k.marks ++ mark.Brought 0 ∷ []) (k.events ++ Halt m ∷ []) (brought_marked k 0 (Halt m) run)
+      seat_events 0 0 (k.marks ++ mark.Brought 0 ∷ []) (k.events ++ Halt m ∷ []) (brought_marked k 0 (Halt m) run)
       ∙ (ap (λ (l : List Entry). events_in (own_by 0 l)) (brought_log k 0 (Halt m) run) ∙ (ap events_in (own_here (log_of k) 0 0 x refl) ∙ events_push (own_by 0 (log_of k)) (entry 0 x)))
 
   pub halted_caller : (k : Known) (m : ℤ) → IsRun workers turns start k → IsOfCaller start (k.events ++ Halt m ∷ []) (seats_in (k.marks ++ mark.Brought 0 ∷ [])) (own_by 0 (log_of k))

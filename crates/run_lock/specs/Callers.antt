@@ -38,7 +38,7 @@ abbrev pub jobs_after : List InForce → List ControlOrder → List InForce
 jobs_after jobs [] = jobs
 jobs_after jobs (o ∷ os) = jobs_after (jobs_by jobs o) os
 
--- what the caller's entries tell: its orders, and the configuration in force by them
+-- what the caller's entries say: its orders, and the configuration in force by them
 abbrev pub ordered : List Entry → List ControlOrder
 ordered xs = orders_in (brought_in xs)
 
@@ -69,7 +69,7 @@ IsAnswered jobs (order.Update job file text) a = UpdateAnswered (updated jobs jo
 abbrev pub BeginsWith : List Event → List Event → Type 0
 BeginsWith start es = (rest : List Event) × (es ≡ start ++ rest)
 
--- the events of the caller's seat at the end: those that came before the run, those that its entries tell, and the halt
+-- the events of the caller's seat at the end: those that came before the run, those of its entries, and the halt
 pub record IsOfCaller (start es : List Event) (seats : List ℕ) (mine : List Entry) : Type 0 where
   pub begins : BeginsWith start es
   pub halted : ℤ

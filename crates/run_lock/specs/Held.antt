@@ -1,4 +1,4 @@
--- Which tickets are out, and what the entries of a run tell of that.
+-- Which tickets are out, and what the entries of a run say of that.
 use Rattle.std.specs.Prelude.{◌≡◌, ℕ, ◌+◌, ◌<◌, ◌≤◌, ◌==◌, Bool, true, false, if◌then◌else◌, List, [], ◌∷◌, length, slice_get, count_by, Option, Some, None, nat_lt}
 use Rattle.journal_text.specs.declared.events.Event.{Event}
 use Rattle.scrape_core.specs.Records.{is_live, started_of, landed_in, finishes, has_lost}

@@ -1,4 +1,4 @@
--- What a seat is told and brings, and what its entries say then.
+-- What a seat is to do and brings, and what its entries say then.
 use Rattle.std.specs.Prelude.{◌≡◌, ℕ, ◌+◌, ℤ, pos, List, length, Some, max}
 use Rattle.journal_text.specs.declared.events.Event.{Event}
 use Rattle.journal_text.specs.declared.events.Event.TheVariants.{Load, Targets, Tick, Sweep, Finish, Halt}
@@ -15,7 +15,7 @@ use Rattle.run_lock.specs.declared.tasks.WorkerTask.{WorkerTask}
 use Rattle.run_lock.specs.declared.tasks.WorkerTask.TheVariants.{Fetch, Wait, End, Fail}
 use Rattle.run_lock.specs.Entries.{Adds}
 
--- the entries after a worker was told what to do
+-- the entries after a worker was given what to do
 abbrev pub AfterTask : ℕ → WorkerTask → List Entry → List Entry → Type 0
 AfterTask place (Fetch k r) log later = Adds log (2 + place) (Took k) later
 AfterTask place Wait log later = later ≡ log

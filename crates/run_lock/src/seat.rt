@@ -154,7 +154,7 @@ impl<'r, L: Ledger, B: Asked, R: Wait> Seat<'r, L, B, R> {
         requires seat { IsOwn self.old.lock.now 0 self.old.pass }
         ensures lock { self.new.lock ≡ self.old.lock }
         ensures seat { IsOwn self.new.lock.now 0 self.new.pass }
-        ensures told { OnSome result (IsOrdered order (own_of self.old.pass) (own_of self.new.pass)) }
+        ensures ordered { OnSome result (IsOrdered order (own_of self.old.pass) (own_of self.new.pass)) }
         ensures answer { IfSome result (IsAnswered (jobs_known B.start (own_of self.old.pass)) order) }
     {
         let mut state = self.lock.take(self.rt, &mut self.pass);

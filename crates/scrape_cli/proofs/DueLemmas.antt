@@ -1,55 +1,21 @@
 -- Which status of a live run is due, and what each says of the counts.
-use Rattle.std.proofs.Common.{◌≡◌, ◌⊎◌, ◌<◌, ◌≤◌, inl, inr, ⊎_elim, ℕ, List, [], length, refl, sym, ap, ◌∙◌, subst, arith}
-use Rattle.std.specs.Prelude.{Option, Some, None, Err, IfSome, IsSomeAnd}
+use Rattle.std.proofs.Common.{◌≡◌, ◌⊎◌, ◌≤◌, inl, inr, ⊎_elim, ℕ, List, [], length, refl, sym, ap, subst, arith}
+use Rattle.std.specs.Prelude.{Err}
 use Rattle.config_fields.specs.declared.fault.ConfFault.{ConfFault}
 use Rattle.jobs_in_force.specs.Jobs.{loaded}
-use Rattle.outside.specs.Objects.{SinkSeen, used, IsUntouched, Rose, file_of, HasFile}
+use Rattle.outside.specs.Objects.{SinkSeen, used, IsUntouched, KnownAbsent, KnownLonger, Rose, HasFile}
 use Rattle.outside.specs.Sources.{SourceSeen}
 use Rattle.outside.specs.Sizes.{most_text_bytes}
-use Rattle.outside.specs.declared.objects.StoredFile.{StoredFile}
 use Rattle.command_words.specs.Askings.{Running}
 use Rattle.live_run.specs.Runs.{Ended, IsTaken, IsUnbegun, Touched, Writes, wanted}
 use Rattle.live_run.specs.declared.asked.LiveEnd.{LiveEnd}
 use Rattle.live_run.specs.declared.asked.LiveEnd.TheVariants.{Done, ControlFault, ControlLong, Absent, TooLong, Config, ReadFault, WriteFault, NoMemory}
 use Rattle.scrape_commands.specs.Ends.{status_at}
 use Rattle.scrape_commands.specs.Laws.{IsFreely}
-use Rattle.scrape_cli.specs.Lives.{CausesLive, CompleteLive, GaveMore, IsGiven, IsRead, IsWritten, TellsLonger, TellsNone, TellsText, refusal_of}
+use Rattle.scrape_commands.proofs.FileLemmas.{longer_has, longer_lacks, none_has, none_longer, not_lacking, not_longer, same_file}
+use Rattle.scrape_cli.specs.Lives.{CausesLive, CompleteLive, GaveMore, IsGiven, IsRead, IsWritten, KnownText, refusal_of}
 use Rattle.station.specs.Ends.{IsShort}
 use Rattle.station.proofs.EndLemmas.{rose_first}
-
-abbrev File : Type 0
-File = Option (List StoredFile)
-
--- what a shelf tells of a file, once of two ways
-none_has : (o : File) (name text : List ℕ) → IsSomeAnd o (λ files. file_of name files ≡ None) → IfSome o (λ files. file_of name files ≡ Some text) → ⊥
-none_has None name text h k = h
-none_has (Some files) name text h k = absurd (cc)
-
-none_longer : (o : File) (name : List ℕ) (limit : ℕ) → IsSomeAnd o (λ files. file_of name files ≡ None) → IfSome o (λ files. IsSomeAnd (file_of name files) (λ bytes. limit < length bytes)) → ⊥
-none_longer None name limit h k = h
-none_longer (Some files) name limit h k = subst (λ (p : Option (List ℕ)). IsSomeAnd p (λ bytes. limit < length bytes)) h k
-
-longer_has : (o : File) (name text : List ℕ) (limit : ℕ) → IsSomeAnd o (λ files. IsSomeAnd (file_of name files) (λ bytes. limit < length bytes)) → IfSome o (λ files. file_of name files ≡ Some text) → limit < length text
-longer_has None name text limit h k = absurd h
-longer_has (Some files) name text limit h k = subst (λ (p : Option (List ℕ)). IsSomeAnd p (λ bytes. limit < length bytes)) k h
-
-longer_none : (o : File) (name : List ℕ) (limit : ℕ) → IsSomeAnd o (λ files. IsSomeAnd (file_of name files) (λ bytes. limit < length bytes)) → IfSome o (λ files. file_of name files ≡ None) → ⊥
-longer_none None name limit h k = h
-longer_none (Some files) name limit h k = subst (λ (p : Option (List ℕ)). IsSomeAnd p (λ bytes. limit < length bytes)) k h
-
-text_none : (o : File) (name text : List ℕ) → IsSomeAnd o (λ files. file_of name files ≡ Some text) → IfSome o (λ files. file_of name files ≡ None) → ⊥
-text_none None name text h k = h
-text_none (Some files) name text h k = absurd (cc)
-
-text_longer : (o : File) (name text : List ℕ) (limit : ℕ) → IsSomeAnd o (λ files. file_of name files ≡ Some text) → length text ≤ limit → IfSome o (λ files. IsSomeAnd (file_of name files) (λ bytes. limit < length bytes)) → ⊥
-text_longer None name text limit h short k = h
-text_longer (Some files) name text limit h short k =
-    let long : limit < length text = subst (λ (p : Option (List ℕ)). IsSomeAnd p (λ bytes. limit < length bytes)) h k in
-    absurd (omega (arith, short, long))
-
-text_same : (o : File) (name text other : List ℕ) → IsSomeAnd o (λ files. file_of name files ≡ Some text) → IfSome o (λ files. file_of name files ≡ Some other) → other ≡ text
-text_same None name text other h k = absurd h
-text_same (Some files) name text other h k = let same : Some other ≡ Some text = sym k ∙ h in cc
 
 taken_not : (text : List ℕ) (fault : ConfFault) → IsTaken text → loaded [] text ≡ Err fault → ⊥
 taken_not text fault h is = absurd (cc)
@@ -68,7 +34,7 @@ module _ (r : Running) (t : Touched) (between : SinkSeen) where
       ⊎_elim (λ some. ⊎_elim (λ cut. written.trail cut.0.counted) (λ cut. written.out cut.1.counted) some.front)
       (λ none. written.err (rose_first t.err.before.faults between.faults t.err.after.faults none.1 said)) h
 
-  missing : (end : LiveEnd) → Ran end → between.faults ≤ t.err.after.faults → TellsNone r t → IsRead t → IsWritten t → IsFreely 3 (status_at (refusal_of end))
+  missing : (end : LiveEnd) → Ran end → between.faults ≤ t.err.after.faults → KnownAbsent t.shelf.before r.file → IsRead t → IsWritten t → IsFreely 3 (status_at (refusal_of end))
   missing Done e said none read written = absurd (none_has t.shelf.before.files r.file e.writes.run.text none e.writes.run.has)
   missing ControlFault e said none read written = absurd (none_has t.shelf.before.files r.file e.writes.run.text none e.writes.run.has)
   missing ControlLong e said none read written = absurd (none_has t.shelf.before.files r.file e.writes.run.text none e.writes.run.has)
@@ -79,45 +45,45 @@ module _ (r : Running) (t : Touched) (between : SinkSeen) where
   missing WriteFault e said none read written = absurd (wrote_not said written e.writes)
   missing NoMemory e said none read written = inr refl
 
-  not_longer : (text : List ℕ) → HasFile t.shelf.before r.file text → length text ≤ most_text_bytes → TellsLonger r t → ⊥
-  not_longer text has short long = let more = longer_has t.shelf.before.files r.file text most_text_bytes long has in omega (arith, more, short)
+  not_so_long : (text : List ℕ) → HasFile t.shelf.before r.file text → length text ≤ most_text_bytes → KnownLonger t.shelf.before r.file most_text_bytes → ⊥
+  not_so_long text has short long = longer_has t.shelf.before.files r.file text most_text_bytes long has short
 
-  longer : (end : LiveEnd) → Ran end → between.faults ≤ t.err.after.faults → TellsLonger r t → IsRead t → IsWritten t → IsFreely 9 (status_at (refusal_of end))
-  longer Done e said long read written = absurd (not_longer e.writes.run.text e.writes.run.has e.writes.run.short long)
-  longer ControlFault e said long read written = absurd (not_longer e.writes.run.text e.writes.run.has e.writes.run.short long)
+  longer : (end : LiveEnd) → Ran end → between.faults ≤ t.err.after.faults → KnownLonger t.shelf.before r.file most_text_bytes → IsRead t → IsWritten t → IsFreely 9 (status_at (refusal_of end))
+  longer Done e said long read written = absurd (not_so_long e.writes.run.text e.writes.run.has e.writes.run.short long)
+  longer ControlFault e said long read written = absurd (not_so_long e.writes.run.text e.writes.run.has e.writes.run.short long)
   longer ControlLong e said long read written = inl refl
-  longer Absent e said long read written = absurd (longer_none t.shelf.before.files r.file most_text_bytes long e.began.0.0)
+  longer Absent e said long read written = absurd (longer_lacks t.shelf.before.files r.file most_text_bytes long e.began.0.0)
   longer TooLong e said long read written = inl refl
-  longer (Config fault) e said long read written = absurd (not_longer e.began.0.0 e.began.0.1 e.began.0.2 long)
+  longer (Config fault) e said long read written = absurd (not_so_long e.began.0.0 e.began.0.1 e.began.0.2 long)
   longer ReadFault e said long read written = absurd (read e.began.0.counted)
   longer WriteFault e said long read written = absurd (wrote_not said written e.writes)
   longer NoMemory e said long read written = inr refl
 
-  not_taken : (other : List ℕ) → HasFile t.shelf.before r.file other → IsTaken other → (text : List ℕ) (fault : ConfFault) → TellsText text r t → loaded [] text ≡ Err fault → ⊥
-  not_taken other has taken text fault told is = taken_not text fault (subst IsTaken (text_same t.shelf.before.files r.file text other told.file has) taken) is
+  not_taken : (other : List ℕ) → HasFile t.shelf.before r.file other → IsTaken other → (text : List ℕ) (fault : ConfFault) → KnownText r t text → loaded [] text ≡ Err fault → ⊥
+  not_taken other has taken text fault known is = taken_not text fault (subst IsTaken (same_file t.shelf.before.files r.file text other known.file has) taken) is
 
-  refused : (end : LiveEnd) → Ran end → between.faults ≤ t.err.after.faults → (text : List ℕ) (fault : ConfFault) → TellsText text r t → loaded [] text ≡ Err fault → IsRead t → IsWritten t → IsFreely 4 (status_at (refusal_of end))
-  refused Done e said text fault told is read written = absurd (not_taken e.writes.run.text e.writes.run.has e.writes.run.taken text fault told is)
-  refused ControlFault e said text fault told is read written = absurd (not_taken e.writes.run.text e.writes.run.has e.writes.run.taken text fault told is)
-  refused ControlLong e said text fault told is read written = absurd (not_taken e.writes.run.text e.writes.run.has e.writes.run.taken text fault told is)
-  refused Absent e said text fault told is read written = absurd (text_none t.shelf.before.files r.file text told.file e.began.0.0)
-  refused TooLong e said text fault told is read written = absurd (text_longer t.shelf.before.files r.file text most_text_bytes told.file told.short e.began.0.0)
-  refused (Config f) e said text fault told is read written = inl refl
-  refused ReadFault e said text fault told is read written = absurd (read e.began.0.counted)
-  refused WriteFault e said text fault told is read written = absurd (wrote_not said written e.writes)
-  refused NoMemory e said text fault told is read written = inr refl
+  refused : (end : LiveEnd) → Ran end → between.faults ≤ t.err.after.faults → (text : List ℕ) (fault : ConfFault) → KnownText r t text → loaded [] text ≡ Err fault → IsRead t → IsWritten t → IsFreely 4 (status_at (refusal_of end))
+  refused Done e said text fault known is read written = absurd (not_taken e.writes.run.text e.writes.run.has e.writes.run.taken text fault known is)
+  refused ControlFault e said text fault known is read written = absurd (not_taken e.writes.run.text e.writes.run.has e.writes.run.taken text fault known is)
+  refused ControlLong e said text fault known is read written = absurd (not_taken e.writes.run.text e.writes.run.has e.writes.run.taken text fault known is)
+  refused Absent e said text fault known is read written = absurd (not_lacking t.shelf.before.files r.file text known.file e.began.0.0)
+  refused TooLong e said text fault known is read written = absurd (not_longer t.shelf.before.files r.file text most_text_bytes known.file e.began.0.0 known.short)
+  refused (Config f) e said text fault known is read written = inl refl
+  refused ReadFault e said text fault known is read written = absurd (read e.began.0.counted)
+  refused WriteFault e said text fault known is read written = absurd (wrote_not said written e.writes)
+  refused NoMemory e said text fault known is read written = inr refl
 
-  done : (end : LiveEnd) → Ran end → between.faults ≤ t.err.after.faults → (text : List ℕ) → TellsText text r t → IsTaken text → IsRead t → IsGiven t → IsWritten t → IsShort t.control → IsFreely 0 (status_at (refusal_of end))
-  done Done e said text told taken read given written short = inl refl
-  done ControlFault e said text told taken read given written short = absurd (⊎_elim (λ f. read f.0) (λ f. given f.1) e.stopped.2)
-  done ControlLong e said text told taken read given written short = let more = e.stopped.0 in absurd (omega (arith, more, short))
-  done Absent e said text told taken read given written short = absurd (text_none t.shelf.before.files r.file text told.file e.began.0.0)
-  done TooLong e said text told taken read given written short = absurd (text_longer t.shelf.before.files r.file text most_text_bytes told.file told.short e.began.0.0)
-  done (Config fault) e said text told taken read given written short =
-      absurd (taken_not text fault taken (subst (λ (x : List ℕ). loaded [] x ≡ Err fault) (text_same t.shelf.before.files r.file text e.began.0.0 told.file e.began.0.1) e.began.0.3))
-  done ReadFault e said text told taken read given written short = absurd (read e.began.0.counted)
-  done WriteFault e said text told taken read given written short = absurd (wrote_not said written e.writes)
-  done NoMemory e said text told taken read given written short = inr refl
+  done : (end : LiveEnd) → Ran end → between.faults ≤ t.err.after.faults → (text : List ℕ) → KnownText r t text → IsTaken text → IsRead t → IsGiven t → IsWritten t → IsShort t.control → IsFreely 0 (status_at (refusal_of end))
+  done Done e said text known taken read given written short = inl refl
+  done ControlFault e said text known taken read given written short = absurd (⊎_elim (λ f. read f.0) (λ f. given f.1) e.stopped.2)
+  done ControlLong e said text known taken read given written short = let more = e.stopped.0 in absurd (omega (arith, more, short))
+  done Absent e said text known taken read given written short = absurd (not_lacking t.shelf.before.files r.file text known.file e.began.0.0)
+  done TooLong e said text known taken read given written short = absurd (not_longer t.shelf.before.files r.file text most_text_bytes known.file e.began.0.0 known.short)
+  done (Config fault) e said text known taken read given written short =
+      absurd (taken_not text fault taken (subst (λ (x : List ℕ). loaded [] x ≡ Err fault) (same_file t.shelf.before.files r.file text e.began.0.0 known.file e.began.0.1) e.began.0.3))
+  done ReadFault e said text known taken read given written short = absurd (read e.began.0.counted)
+  done WriteFault e said text known taken read given written short = absurd (wrote_not said written e.writes)
+  done NoMemory e said text known taken read given written short = inr refl
 
   not_more : IsUntouched t.control → GaveMore t → ⊥
   not_more same more = let given = ap (λ (x : SourceSeen). x.given) same in omega (arith, more, given)

@@ -1,9 +1,9 @@
 -- How a call of the program ends that makes a live run.
-use Rattle.std.specs.Prelude.{◌≡◌, ◌⊎◌, ◌<◌, ◌≤◌, ⊤, ℕ, ◌+◌, List, [], length, codes, Option, Some, None, IsSomeAnd, Result, Ok, Err}
+use Rattle.std.specs.Prelude.{◌≡◌, ◌⊎◌, ◌<◌, ⊤, ℕ, ◌+◌, List, [], codes, Option, Some, None, Result, Ok, Err}
 use Rattle.config_fields.specs.declared.fault.ConfFault.{ConfFault}
 use Rattle.jobs_in_force.specs.Jobs.{loaded}
 use Rattle.outside.specs.Fetches.{FetchSeen}
-use Rattle.outside.specs.Objects.{SinkSeen, Use, used, IsUntouched, Rose, file_of}
+use Rattle.outside.specs.Objects.{SinkSeen, Use, used, IsUntouched, KnownAbsent, KnownFile, KnownLonger, Rose}
 use Rattle.outside.specs.Sizes.{most_text_bytes}
 use Rattle.station.specs.Control.{most_control_bytes}
 use Rattle.station.specs.Ends.{IsShort}
@@ -48,16 +48,9 @@ pub record IsAlone (trail : Use SinkSeen) (fetchers : Use (List FetchSeen)) : Ty
   pub trail_same : IsUntouched trail
   pub fetchers_same : IsUntouched fetchers
 
--- the shelf tells the file of the words: that there is none, that it is longer than a configuration may be, and its text within that limit
-abbrev pub TellsNone : Running → Touched → Type 0
-TellsNone r t = IsSomeAnd t.shelf.before.files (λ files. file_of r.file files ≡ None)
-
-abbrev pub TellsLonger : Running → Touched → Type 0
-TellsLonger r t = IsSomeAnd t.shelf.before.files (λ files. IsSomeAnd (file_of r.file files) (λ bytes. most_text_bytes < length bytes))
-
-pub record TellsText (text : List ℕ) (r : Running) (t : Touched) : Type 0 where
-  pub file : IsSomeAnd t.shelf.before.files (λ files. file_of r.file files ≡ Some text)
-  pub short : length text ≤ most_text_bytes
+-- the file of the words is known, and has this text, which a configuration may have
+abbrev pub KnownText : Running → Touched → List ℕ → Type 0
+KnownText r t = KnownFile t.shelf.before r.file most_text_bytes
 
 -- the shelf didn't fail to read, and control didn't; no writing failed
 abbrev pub IsRead : Touched → Type 0
@@ -78,10 +71,10 @@ GaveMore t = t.control.before.given + most_control_bytes < t.control.after.given
 -- which status is due, where nothing fails: for a file that isn't there or is too long; for a configuration that is refused; for one that is taken,
 -- where control gives at most 1 MiB; and where it gave more. Out of memory alone may stand in its place
 pub record CompleteLive (status : ℕ) (r : Running) (t : Touched) : Type 0 where
-  pub missing : TellsNone r t → IsRead t → IsWritten t → IsFreely 3 status
-  pub longer : TellsLonger r t → IsRead t → IsWritten t → IsFreely 9 status
-  pub refused : (text : List ℕ) (fault : ConfFault) → TellsText text r t → loaded [] text ≡ Err fault → IsRead t → IsWritten t → IsFreely 4 status
-  pub done : (text : List ℕ) → TellsText text r t → IsTaken text → IsRead t → IsGiven t → IsWritten t → IsShort t.control → IsFreely 0 status
+  pub missing : KnownAbsent t.shelf.before r.file → IsRead t → IsWritten t → IsFreely 3 status
+  pub longer : KnownLonger t.shelf.before r.file most_text_bytes → IsRead t → IsWritten t → IsFreely 9 status
+  pub refused : (text : List ℕ) (fault : ConfFault) → KnownText r t text → loaded [] text ≡ Err fault → IsRead t → IsWritten t → IsFreely 4 status
+  pub done : (text : List ℕ) → KnownText r t text → IsTaken text → IsRead t → IsGiven t → IsWritten t → IsShort t.control → IsFreely 0 status
   pub more : GaveMore t → IsWritten t → IsFreely 9 status
 
 -- what a status says of the counts

@@ -2,7 +2,7 @@
 use Rattle.std.proofs.Common.{◌≡◌, ◌⊎◌, ℕ, ◌≤◌, List, [], length, sym, refl, ap, ◌∙◌, inl, inr, subst, Option, None, Some}
 use Rattle.std.specs.Prelude.{Result, Ok, Err, IsSomeAnd}
 use Rattle.std.specs.Option.{option_map_or}
-use Rattle.outside.specs.Objects.{HasFile, LacksFile, HasLongerFile}
+use Rattle.outside.specs.Objects.{HasFile, KnownAbsent, KnownLonger, LacksFile, HasLongerFile}
 use Rattle.journal_text.specs.declared.faults.ScriptFault.{ScriptFault}
 use Rattle.synth.specs.declared.scripts.Plan.{Plan}
 use Rattle.command_words.specs.Askings.{Asking, asking}
@@ -14,7 +14,7 @@ use Rattle.command_words.specs.declared.words.Command.TheVariants.{Replay, Check
 use Rattle.scrape_commands.specs.Scripts.{HasScriptFault}
 use Rattle.scrape_commands.specs.Instants.{IsReady, IsSureOf, RefusesSelector}
 use Rattle.scrape_commands.specs.Ends.{Call, work_of, Reads, IsOfFile, IsAskedFor, IsCause, WorkEnds, status_at}
-use Rattle.scrape_commands.specs.Laws.{TellsNone, TellsLonger, IsRead, IsWritten, IsUncounted, IsFreely, refused_at}
+use Rattle.scrape_commands.specs.Laws.{IsRead, IsWritten, IsUncounted, IsFreely, refused_at}
 use Rattle.scrape_commands.specs.declared.refusals.Refusal.{Refusal}
 use Rattle.scrape_commands.specs.declared.refusals.Refusal.TheVariants.{BadWords, Selector, Absent, Config, Script, OpenMetrics, ReadFault, WriteFault, NoMemory, TooLong}
 use Rattle.scrape_commands.specs.declared.refusals.SelectorFault.{SelectorFault}
@@ -132,7 +132,7 @@ module _ (c : Call) where
     read_short : (m : Command) (b : List ℕ) → Reads m b (work_of c) → length b ≤ limit_of a.command
     read_short m b r = subst (λ (z : Command). length b ≤ limit_of z) (sym (asked_command m b r)) r.short
 
-    not_long : (m : Command) (b : List ℕ) → TellsLonger a.command c → Reads m b (work_of c) → ⊥
+    not_long : (m : Command) (b : List ℕ) → KnownLonger c.shelf.before (file_in c.words) (limit_of a.command) → Reads m b (work_of c) → ⊥
     not_long m b t r = longer_has c.shelf.before.files (file_in c.words) b (limit_of a.command) t (read_file m b r) (read_short m b r)
 
     refused_of : (m : Command) (b : List ℕ) (status : ℕ) → Reads m b (work_of c) → status ≡ refused_at m → status ≡ refused_at a.command
@@ -148,7 +148,7 @@ module _ (c : Call) where
       no_selector : (f : SelectorFault) → IsCause (Selector f) (work_of c) → ⊥
       no_selector f h = sure_fault a.command sure f (selector_cause f h)
 
-      pub missing_due : TellsNone c → IsRead c → (end : Result (Unit {0}) Refusal) → WorkEnds end (work_of c) → IsFreely 3 (status_at end)
+      pub missing_due : KnownAbsent c.shelf.before (file_in c.words) → IsRead c → (end : Result (Unit {0}) Refusal) → WorkEnds end (work_of c) → IsFreely 3 (status_at end)
       missing_due t n (Ok u) w = absurd (none_has c.shelf.before.files (file_in c.words) _ t (read_file _ _ (of_file _ w.prints.asked_for).reads))
       missing_due t n (Err BadWords) w = absurd (not_none w.cause)
       missing_due t n (Err (Selector f)) w = absurd (no_selector f w.cause)
@@ -161,7 +161,7 @@ module _ (c : Call) where
       missing_due t n (Err NoMemory) w = inr refl
       missing_due t n (Err TooLong) w = absurd (none_longer c.shelf.before.files (file_in c.words) _ t (longer w.cause))
 
-      pub longer_due : TellsLonger a.command c → IsRead c → (end : Result (Unit {0}) Refusal) → WorkEnds end (work_of c) → IsFreely 9 (status_at end)
+      pub longer_due : KnownLonger c.shelf.before (file_in c.words) (limit_of a.command) → IsRead c → (end : Result (Unit {0}) Refusal) → WorkEnds end (work_of c) → IsFreely 9 (status_at end)
       longer_due t n (Ok u) w = absurd (not_long _ _ t (of_file _ w.prints.asked_for).reads)
       longer_due t n (Err BadWords) w = absurd (not_none w.cause)
       longer_due t n (Err (Selector f)) w = absurd (no_selector f w.cause)
@@ -174,15 +174,15 @@ module _ (c : Call) where
       longer_due t n (Err NoMemory) w = inr refl
       longer_due t n (Err TooLong) w = inl refl
 
-      pub untold_due : IsUncounted c → (end : Result (Unit {0}) Refusal) → WorkEnds end (work_of c) → IsFreely 0 (status_at end) ⊎ (status_at end ≡ refused_at a.command)
-      untold_due n (Ok u) w = inl (inl refl)
-      untold_due n (Err BadWords) w = absurd (not_none w.cause)
-      untold_due n (Err (Selector f)) w = absurd (no_selector f w.cause)
-      untold_due n (Err Absent) w = absurd (n.found w.shelf.counted)
-      untold_due n (Err (Config f)) w = inr (refused_of Check _ 4 w.cause.1 refl)
-      untold_due n (Err (Script f)) w = inr (refused_of w.cause.0 _ 5 w.cause.2 (script_refused_at w.cause.0 _ f w.cause.3))
-      untold_due n (Err (OpenMetrics l)) w = inr (refused_of Convert _ 13 w.cause.1 refl)
-      untold_due n (Err ReadFault) w = absurd (n.sound.read w.shelf.counted)
-      untold_due n (Err WriteFault) w = absurd (n.sound.written w.cause.put.counted)
-      untold_due n (Err NoMemory) w = inl (inr refl)
-      untold_due n (Err TooLong) w = absurd (n.short w.shelf.counted)
+      pub otherwise_due : IsUncounted c → (end : Result (Unit {0}) Refusal) → WorkEnds end (work_of c) → IsFreely 0 (status_at end) ⊎ (status_at end ≡ refused_at a.command)
+      otherwise_due n (Ok u) w = inl (inl refl)
+      otherwise_due n (Err BadWords) w = absurd (not_none w.cause)
+      otherwise_due n (Err (Selector f)) w = absurd (no_selector f w.cause)
+      otherwise_due n (Err Absent) w = absurd (n.found w.shelf.counted)
+      otherwise_due n (Err (Config f)) w = inr (refused_of Check _ 4 w.cause.1 refl)
+      otherwise_due n (Err (Script f)) w = inr (refused_of w.cause.0 _ 5 w.cause.2 (script_refused_at w.cause.0 _ f w.cause.3))
+      otherwise_due n (Err (OpenMetrics l)) w = inr (refused_of Convert _ 13 w.cause.1 refl)
+      otherwise_due n (Err ReadFault) w = absurd (n.sound.read w.shelf.counted)
+      otherwise_due n (Err WriteFault) w = absurd (n.sound.written w.cause.put.counted)
+      otherwise_due n (Err NoMemory) w = inl (inr refl)
+      otherwise_due n (Err TooLong) w = absurd (n.short w.shelf.counted)

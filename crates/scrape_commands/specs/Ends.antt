@@ -44,7 +44,7 @@ work asked shelf out = record { asked = asked; shelf = shelf; out = out }
 abbrev pub work_of : Call → Work
 work_of c = work (asked_in c.words) c.shelf c.out
 
--- this command was asked for, with its selector, and its file has these bytes (where the shelf tells its files), within the limit
+-- this command was asked for, with its selector, and its file has these bytes (where its files are known), within the limit
 pub record Reads (command : Command) (bytes : List ℕ) (w : Work) : Type 0 where
   pub file : List ℕ
   pub kept : Bool

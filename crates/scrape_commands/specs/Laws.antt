@@ -1,6 +1,6 @@
 -- What follows of a call that ended.
-use Rattle.std.specs.Prelude.{◌≡◌, ◌≢◌, ◌⊎◌, ℕ, ◌<◌, ◌≤◌, Bool, ⊤, List, length, Some, None, IsSomeAnd, Ok, Err}
-use Rattle.outside.specs.Objects.{IsUntouched, Rose, file_of, LacksFile, HasLongerFile, Missed, MetLonger, FailedToRead}
+use Rattle.std.specs.Prelude.{◌≡◌, ◌≢◌, ◌⊎◌, ℕ, ◌≤◌, Bool, ⊤, List, Some, None, IsSomeAnd, Ok, Err}
+use Rattle.outside.specs.Objects.{IsUntouched, KnownAbsent, KnownFile, KnownLonger, Rose, LacksFile, HasLongerFile, Missed, MetLonger, FailedToRead}
 use Rattle.journal_text.specs.declared.faults.ScriptFault.{ScriptFault}
 use Rattle.jobs_in_force.specs.declared.jobs.Filed.{Filed}
 use Rattle.config_fields.specs.declared.fault.ConfFault.{ConfFault}
@@ -19,7 +19,7 @@ use Rattle.scrape_commands.specs.declared.refusals.Refusal.{Refusal}
 use Rattle.scrape_commands.specs.declared.refusals.Refusal.TheVariants.{BadWords, Selector, Absent, Config, Script, OpenMetrics, ReadFault, WriteFault, NoMemory, TooLong}
 use Rattle.scrape_commands.specs.declared.refusals.SelectorFault.{SelectorFault}
 
--- a refusal names no fault of the selector or of the file: its status tells all of it
+-- a refusal names no fault of the selector or of the file: its status says all of it
 abbrev pub NamesNoFault : Refusal → Type 0
 NamesNoFault BadWords = ⊤
 NamesNoFault (Selector fault) = ⊥
@@ -56,28 +56,20 @@ pub record Causes (c : Call) : Type 0 where
 abbrev pub IsStatus : ℕ → Type 0
 IsStatus status = (status ≡ 0) ⊎ ((r : Refusal) × (status ≡ status_of r))
 
--- what the words ask for is this, of a file that the shelf tells, within the limit
-pub record IsTold (command : Command) (bytes : List ℕ) (c : Call) : Type 0 where
+-- what the words ask for is this, of a file that is known, within the limit
+pub record AsksFile (command : Command) (bytes : List ℕ) (c : Call) : Type 0 where
   pub kept : Bool
   pub asked : asked_in c.words ≡ Some (File (asking kept (file_in c.words) command))
-  pub file : IsSomeAnd c.shelf.before.files (λ files. file_of (file_in c.words) files ≡ Some bytes)
-  pub short : length bytes ≤ limit_of command
+  pub known : KnownFile c.shelf.before (file_in c.words) (limit_of command) bytes
 
 -- this is so of a command that reads a script, whether that may have been cut, and of the selector, which can't be refused
-pub record ToldScript (c : Call) : Type 0 where
+pub record AskedScript (c : Call) : Type 0 where
   pub command : Command
   pub cut : Bool
   pub bytes : List ℕ
   pub script : cut_of command ≡ Some cut
-  pub told : IsTold command bytes c
+  pub asks : AsksFile command bytes c
   pub sure : IsSureOf command
-
--- the shelf tells its files, and has none of the name; or a longer one
-abbrev pub TellsNone : Call → Type 0
-TellsNone c = IsSomeAnd c.shelf.before.files (λ files. file_of (file_in c.words) files ≡ None)
-
-abbrev pub TellsLonger : Command → Call → Type 0
-TellsLonger command c = IsSomeAnd c.shelf.before.files (λ files. IsSomeAnd (file_of (file_in c.words) files) (λ bytes. limit_of command < length bytes))
 
 -- reading didn't fail; writing didn't; neither did; nothing was counted at all
 abbrev pub IsRead : Call → Type 0
@@ -106,24 +98,29 @@ refused_at Check = 4
 refused_at Convert = 13
 refused_at (At i) = 5
 
--- which status is due: where the words are others; where the selector is none; where the file is told and reading and writing don't fail; where nothing
--- is counted. Out of memory alone may stand in its place
+-- which status is due: where the words are others; where the selector is none; where the file is known and reading and writing don't fail; where
+-- nothing is counted. Out of memory alone may stand in its place
 pub record Complete (status : ℕ) (c : Call) : Type 0 where
   pub words : asked_in c.words ≡ None → IsFreely 2 status
   pub selector : (a : Asking) → asked_in c.words ≡ Some (File a) → ¬ IsReady a.command → IsFreely 12 status
-  pub missing : (a : Asking) → asked_in c.words ≡ Some (File a) → IsSureOf a.command → TellsNone c → IsRead c → IsFreely 3 status
-  pub longer : (a : Asking) → asked_in c.words ≡ Some (File a) → IsSureOf a.command → TellsLonger a.command c → IsRead c → IsFreely 9 status
-  pub replayed : (s : ToldScript c) → StandsFor s.cut s.bytes → IsSound c → IsFreely 0 status
-  pub unspelled : (s : ToldScript c) → StandsForNone s.cut s.bytes → IsRead c → IsFreely 5 status
-  pub misspelled : (s : ToldScript c) (fault : ScriptFault) → HasFault s.cut s.bytes fault → status ≡ 5 → IsSaid (script_message fault) c.err
-  pub checked : (bytes : List ℕ) (jobs : List Filed) → IsTold Check bytes c → IsConf bytes jobs → IsSound c → IsFreely 0 status
-  pub refused : (bytes : List ℕ) (fault : ConfFault) → IsTold Check bytes c → IsFault bytes fault → IsRead c → IsFreely 4 status
-  pub told : (bytes : List ℕ) (fault : ConfFault) → IsTold Check bytes c → IsFault bytes fault → status ≡ 4 → IsSaid (fault_message fault) c.err
-  pub plain : (bytes text : List ℕ) → IsTold Convert bytes c → converted bytes ≡ Ok text → IsSound c → IsFreely 0 status
-  pub faulty : (bytes : List ℕ) (line : ℕ) → IsTold Convert bytes c → converted bytes ≡ Err line → IsRead c → IsFreely 13 status
-  pub line : (bytes : List ℕ) (line : ℕ) → IsTold Convert bytes c → converted bytes ≡ Err line → status ≡ 13 → IsSaid (line_message line) c.err
+  pub missing : (a : Asking) → asked_in c.words ≡ Some (File a) → IsSureOf a.command →
+      KnownAbsent c.shelf.before (file_in c.words) → IsRead c → IsFreely 3 status
+  pub longer : (a : Asking) → asked_in c.words ≡ Some (File a) → IsSureOf a.command →
+      KnownLonger c.shelf.before (file_in c.words) (limit_of a.command) → IsRead c → IsFreely 9 status
+  pub replayed : (s : AskedScript c) → StandsFor s.cut s.bytes → IsSound c → IsFreely 0 status
+  pub unspelled : (s : AskedScript c) → StandsForNone s.cut s.bytes → IsRead c → IsFreely 5 status
+  pub misspelled : (s : AskedScript c) (fault : ScriptFault) → HasFault s.cut s.bytes fault → status ≡ 5 →
+      IsSaid (script_message fault) c.err
+  pub checked : (bytes : List ℕ) (jobs : List Filed) → AsksFile Check bytes c → IsConf bytes jobs → IsSound c → IsFreely 0 status
+  pub refused : (bytes : List ℕ) (fault : ConfFault) → AsksFile Check bytes c → IsFault bytes fault → IsRead c → IsFreely 4 status
+  pub said : (bytes : List ℕ) (fault : ConfFault) → AsksFile Check bytes c → IsFault bytes fault → status ≡ 4 →
+      IsSaid (fault_message fault) c.err
+  pub plain : (bytes text : List ℕ) → AsksFile Convert bytes c → converted bytes ≡ Ok text → IsSound c → IsFreely 0 status
+  pub faulty : (bytes : List ℕ) (line : ℕ) → AsksFile Convert bytes c → converted bytes ≡ Err line → IsRead c → IsFreely 13 status
+  pub line : (bytes : List ℕ) (line : ℕ) → AsksFile Convert bytes c → converted bytes ≡ Err line → status ≡ 13 →
+      IsSaid (line_message line) c.err
   pub made : (p : Plan) → asked_in c.words ≡ Some (Synth p) → IsWritten c → IsFreely 0 status
-  pub untold : (a : Asking) → asked_in c.words ≡ Some (File a) → IsSureOf a.command → IsUncounted c →
+  pub otherwise : (a : Asking) → asked_in c.words ≡ Some (File a) → IsSureOf a.command → IsUncounted c →
       IsFreely 0 status ⊎ (status ≡ refused_at a.command)
 
 -- no count of any object fell

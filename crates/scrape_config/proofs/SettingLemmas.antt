@@ -27,7 +27,7 @@ schemes scheme.Http scheme.Https = (λ e. absurd cc, λ e. absurd cc)
 schemes scheme.Https scheme.Http = (λ e. absurd cc, λ e. absurd cc)
 schemes scheme.Https scheme.Https = (λ e. refl, λ e. refl)
 
--- an action is told by its name
+-- an action is reported by its name
 named : (a : Action) → action_of (action_name a) ≡ Some a
 unfolding action_of
 named action.Replace = refl

@@ -7,7 +7,7 @@ use Rattle.serde_json.specs.Read.{read}
 use Rattle.relabel.specs.Refusals.{first_bad_pattern}
 use Rattle.rule_conf.specs.declared.conf.RuleConf.{RuleConf}
 use Rattle.config_fields.specs.Places.{field_place, item_place}
-use Rattle.config_fields.specs.Faults.{told}
+use Rattle.config_fields.specs.Faults.{reported}
 use Rattle.scrape_config.specs.Lists.{conf_faults, groups_faults}
 use Rattle.scrape_config.specs.Values.{conf_of, file_groups_of}
 use Rattle.config_fields.specs.declared.fault.ConfFault.{ConfFault}
@@ -30,7 +30,7 @@ unless_fault None value = Ok value
 -- what JSON says, or none
 abbrev pub conf_in : Option Data → Result Conf ConfFault
 conf_in None = Err NotJson
-conf_in (Some d) = unless_fault (told (conf_faults d)) (conf_of d)
+conf_in (Some d) = unless_fault (reported (conf_faults d)) (conf_of d)
 
 -- the reading of a configuration, whatever its patterns
 unfoldable pub reading : List ℕ → Result Conf ConfFault
@@ -38,7 +38,7 @@ reading bytes = conf_in (json_of bytes)
 
 abbrev pub groups_in : List ℕ → Option Data → Result (List Group) ConfFault
 groups_in file None = Err NotJson
-groups_in file (Some d) = unless_fault (told (groups_faults d)) (file_groups_of file d)
+groups_in file (Some d) = unless_fault (reported (groups_faults d)) (file_groups_of file d)
 
 -- the reading of the list of a file
 unfoldable pub groups_reading : List ℕ → List ℕ → Result (List Group) ConfFault

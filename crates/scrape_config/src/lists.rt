@@ -1,7 +1,7 @@
 //! The walk through lists of objects, jobs and a whole text.
 ghost use Rattle.std.specs.Prelude.{◌≡◌, OnOk, IfOk, []};
 ghost use Rattle.serde_json.specs.View.{view, members_view, items_view};
-ghost use Rattle.config_fields.specs.Faults.{best, told};
+ghost use Rattle.config_fields.specs.Faults.{best, reported};
 ghost use Rattle.config_fields.specs.Tables.{top_field};
 ghost use Rattle.config_fields.specs.Places.{field_place};
 ghost use Rattle.config_fields.specs.Walks.{flaws};
@@ -11,7 +11,7 @@ use crate::counts::{MOST_FILES, MOST_JOBS, MOST_TARGETS};
 use crate::defaults::{
     Base, action_in, base_of, files_in, has_too_many_targets, interval_in, text_under,
 };
-use config_fields::fault::{ConfFault, Flaw, is_told_over, note, note_field};
+use config_fields::fault::{ConfFault, Flaw, is_reported_over, note, note_field};
 use config_fields::place::{at_field, at_item};
 use config_fields::tables::{
     JobField, Key, ListKind, ObjectKind, Owed, TopField, job_field, top_field,
@@ -199,7 +199,7 @@ fn twice_named(alloc: Global, jobs: &[Value], found: &mut Option<ConfFault>) -> 
     ensures { OnOk result (found.new ≡ best found.old (spec.twice_named (spec.name_again [] (spec.names_of (items_view jobs.now))))) }
 {
     if let Some(job) = name_again(alloc, jobs)? {
-        if is_told_over(6, found) {
+        if is_reported_over(6, found) {
             *found = Some(ConfFault::TwiceNamed { job });
         }
     }
@@ -291,7 +291,7 @@ fn members_of_text(
 /// The fault of a configuration, the first of the least number.
 #[tactic(auto, unfolding(crate::specs::Lists::conf_faults))]
 pub fn conf_fault(alloc: Global, value: &Value) -> Result<Option<ConfFault>, NoMemory>
-    ensures { IfOk result (λ f. f ≡ told (spec.conf_faults (view value.now))) }
+    ensures { IfOk result (λ f. f ≡ reported (spec.conf_faults (view value.now))) }
 {
     let mut found = None;
     match value.as_object() {
@@ -304,7 +304,7 @@ pub fn conf_fault(alloc: Global, value: &Value) -> Result<Option<ConfFault>, NoM
 /// The fault of the list of a file, the first of the least number.
 #[tactic(auto, unfolding(crate::specs::Lists::groups_faults))]
 pub fn groups_fault(alloc: Global, value: &Value) -> Result<Option<ConfFault>, NoMemory>
-    ensures { IfOk result (λ f. f ≡ told (spec.groups_faults (view value.now))) }
+    ensures { IfOk result (λ f. f ≡ reported (spec.groups_faults (view value.now))) }
 {
     let mut found = None;
     list(alloc, ListKind::FileGroups, "", value, &mut found)?;

@@ -1,4 +1,4 @@
--- The targets that are scraped, as who asks is told of them ("HTTP API" of the Prometheus documentation, targets: active targets, their labels and
+-- The targets that are scraped, as they are shown to who asks ("HTTP API" of the Prometheus documentation, targets: active targets, their labels and
 -- their health).
 use Rattle.std.specs.Prelude.{ℕ, List, filter, length, slice_get, Option, option_map}
 use Rattle.label_set.specs.declared.texts.Pair.{Pair}
@@ -10,7 +10,7 @@ use Rattle.scrape_machine.specs.Lives.{is_open}
 use Rattle.scrape_machine.specs.Machine.{world_of}
 use Rattle.scrape_core.specs.declared.open_lives.OpenLife.{OpenLife}
 
--- what is told of an open life: its number, the labels of its target, and how the target is
+-- what is shown of an open life: its number, the labels of its target, and how the target is
 pub record Shown : Type 0 where
   pub life : ℕ
   pub labels : List Pair

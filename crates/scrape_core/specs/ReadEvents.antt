@@ -5,16 +5,16 @@ use Rattle.journal_text.specs.declared.events.Event.TheVariants as event
 use Rattle.label_set.specs.declared.forms.Form.{Form}
 use Rattle.scrape_loop.specs.Replies.{page_in}
 use Rattle.scrape_core.specs.Records.{is_finish}
-use Rattle.scrape_core.specs.declared.read_events.Told.{Told}
-use Rattle.scrape_core.specs.declared.read_events.Told.TheVariants.{Finish, Other}
+use Rattle.scrape_core.specs.declared.read_events.EventParts.{EventParts}
+use Rattle.scrape_core.specs.declared.read_events.EventParts.TheVariants.{Finish, Other}
 
 -- an event as it came
-abbrev pub event_of : Told → Event
+abbrev pub event_of : EventParts → Event
 event_of (Finish ticket took reply) = event.Finish ticket took reply
 event_of (Other e) = e
 
 -- an event beside which nothing is kept is no finish
-abbrev pub IsUnread : Told → Type 0
+abbrev pub IsUnread : EventParts → Type 0
 IsUnread (Finish ticket took reply) = Unit {0}
 IsUnread (Other e) = is_finish e ≡ false
 

@@ -55,7 +55,8 @@ fn transitions_to(
     news: &[InForce],
     lives: &Lives<'_>,
 ) -> Result<Vec<Transition>, NoMemory>
-    ensures { IfOk result (λ v. v.items ≡ map (plan.transition_of names.now news.now (map (spec.difference olds.now) news.now)) (concerned.concerned lives.now)) }
+    ensures { IfOk result (λ v. v.items ≡
+        map (plan.transition_of names.now news.now (map (spec.difference olds.now) news.now)) (concerned.concerned lives.now)) }
 {
     let old_names = names_of(alloc, olds)?;
     let differences = differences_of(alloc, &old_names, olds, news)?;

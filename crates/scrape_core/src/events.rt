@@ -8,7 +8,7 @@ ghost use Rattle.scrape_core.specs.Records.{is_finish};
 
 use crate::changes::{take_load, take_update};
 use crate::finishes::take_finish;
-use crate::read_events::{ReadEvent, Told};
+use crate::read_events::{EventParts, ReadEvent};
 use crate::state::State;
 use crate::taken::{Taken, without_runs};
 use crate::turns::{take_sweep, take_tick};
@@ -97,13 +97,13 @@ fn take_live<L: Ledger>(
     ensures err { OnErr result (kept.seen state.new ≡ kept.live state.old) }
     ensures err_book { OnErr result (book.new.entries ≡ book.old.entries) }
 {
-    match event.told() {
-        Told::Finish {
+    match event.parts() {
+        EventParts::Finish {
             ticket,
             took,
             reply,
         } => take_finish(alloc, state, book, *ticket, *took, reply, steps),
-        Told::Other(event) => take_other(alloc, state, book, event, steps),
+        EventParts::Other(event) => take_other(alloc, state, book, event, steps),
     }
 }
 

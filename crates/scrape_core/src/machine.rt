@@ -121,7 +121,7 @@ impl Core {
     pub fn let_go(self) {}
 
     /// Takes an event whose reply is read. `take` and `take_read` are its entrances.
-    fn take_told<L: Ledger>(
+    fn take_read_event<L: Ledger>(
         &mut self,
         alloc: Global,
         event: ReadEvent,
@@ -169,7 +169,7 @@ impl Core {
     {
         let life = life_of(&self.state, &event);
         let event = ReadEvent::by(alloc, event, life)?;
-        self.take_told(alloc, event, steps)
+        self.take_read_event(alloc, event, steps)
     }
 
     /// Takes the finish of a ticket after so many milliseconds, whose reply is read already, as `take` takes it: with the same answer, journal and
@@ -191,7 +191,7 @@ impl Core {
         ensures at_least { steps.old ≤ steps.new }
         ensures at_most { steps.new ≤ steps.old + relabelling.runs (spec.world_of self.old) (Finish ticket took reply) }
     {
-        self.take_told(alloc, ReadEvent::finish(ticket, took, reply), steps)
+        self.take_read_event(alloc, ReadEvent::finish(ticket, took, reply), steps)
     }
 
     /// The moment of the last event that carries one, 0 before any, in milliseconds.

@@ -1,4 +1,4 @@
-//! The open lives of a core: what of each is told to who asks for the targets.
+//! The open lives of a core: what of each is shown to who asks for the targets.
 ghost use Rattle.std.specs.Prelude.{◌≡◌, filter, length, option_map, slice_get};
 ghost use Rattle.scrape_core.specs.Kept.{IsListed};
 ghost use Rattle.scrape_core.specs.OpenLives as spec;
@@ -9,7 +9,7 @@ use label_set::LabelSet;
 use scrape_loop::Health;
 use scrape_steps::concerned::Lives;
 
-/// An open life, as who asks for the targets is told of it.
+/// An open life, as it is shown to who asks for the targets.
 #[derive(Drop)]
 pub struct OpenLife<'a> {
     /// Its number.

@@ -13,7 +13,7 @@ use std::marker::Model;
 
 /// An event with what the body of its reply says, if it is a finish.
 #[derive(Drop)]
-pub(crate) enum Told {
+pub(crate) enum EventParts {
     Finish {
         ticket: u64,
         took: i64,
@@ -26,7 +26,7 @@ pub(crate) enum Told {
 /// An event whose reply is read, if it is a finish. Contracts see the event.
 #[derive(Drop)]
 pub struct ReadEvent {
-    told: Told,
+    parts: EventParts,
 }
 
 impl Model for ReadEvent {
@@ -36,9 +36,9 @@ impl Model for ReadEvent {
 
     ghost use Rattle.scrape_core.specs.ReadEvents.{IsUnread, event_of};
 
-    ghost view = { λ e. event_of e.told };
+    ghost view = { λ e. event_of e.parts };
 
-    ghost invariant = { λ e. IsUnread e.told };
+    ghost invariant = { λ e. IsUnread e.parts };
 }
 
 impl ReadEvent {
@@ -93,7 +93,7 @@ impl ReadEvent {
         ensures { result ≡ Finish ticket took reply }
     {
         ReadEvent {
-            told: Told::Finish {
+            parts: EventParts::Finish {
                 ticket,
                 took,
                 reply,
@@ -102,19 +102,19 @@ impl ReadEvent {
     }
 
     /// What it is.
-    pub(crate) fn told(&self) -> &Told
+    pub(crate) fn parts(&self) -> &EventParts
         ensures event { event_of result.now ≡ self.now }
         ensures unread { IsUnread result.now }
     {
-        &self.told
+        &self.parts
     }
 
     /// Gives the event back, its bytes as they were.
     pub fn into_event(self) -> Event
         ensures { result ≡ self }
     {
-        match self.told {
-            Told::Finish {
+        match self.parts {
+            EventParts::Finish {
                 ticket,
                 took,
                 reply,
@@ -123,7 +123,7 @@ impl ReadEvent {
                 took,
                 reply: reply.into_reply(),
             },
-            Told::Other(event) => event,
+            EventParts::Other(event) => event,
         }
     }
 }
@@ -144,6 +144,6 @@ fn other(event: Event) -> ReadEvent
     ensures { result ≡ event }
 {
     ReadEvent {
-        told: Told::Other(event),
+        parts: EventParts::Other(event),
     }
 }

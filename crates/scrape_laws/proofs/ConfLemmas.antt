@@ -4,7 +4,7 @@ use Rattle.std.specs.Prelude.{All, Result, Ok, Err, option_map, option_and_then,
 use Rattle.std.proofs.lemmas.List.Elements.{All-nil, All-cons}
 use Rattle.serde_json.specs.Data.{Data, Items, no_items, item, Members, no_members, member}
 use Rattle.serde_json.specs.Find.{get, as_str, as_array, as_object}
-use Rattle.config_fields.specs.Faults.{told}
+use Rattle.config_fields.specs.Faults.{reported}
 use Rattle.config_fields.specs.Places.{field_place, item_place}
 use Rattle.config_fields.specs.Tables.{job_field, job_plain_field, top_field, key_text}
 use Rattle.config_fields.specs.Walks.{missing_before, owed_after}
@@ -13,7 +13,7 @@ use Rattle.config_fields.specs.declared.fault.ConfFault.TheVariants.{Rule}
 use Rattle.config_fields.specs.declared.forms.TextForm.TheVariants as form
 use Rattle.config_fields.specs.declared.tables.Owed.{Owed}
 use Rattle.config_fields.proofs.CleanLemmas.{AllCome, at_end, at_member, get-object, of_found, text-clean}
-use Rattle.config_fields.proofs.FaultLemmas.{both_clean, of_shape-clean, told-none}
+use Rattle.config_fields.proofs.FaultLemmas.{both_clean, of_shape-clean, reported-none}
 use Rattle.scrape_config.specs.Defaults.{text_under, list_under, interval_in, base_of}
 use Rattle.scrape_config.specs.Lists.{job_field_faults, owed_by_job, job_members_faults, job_faults, jobs_walk, name_again, names_of, twice_named, jobs_faults, top_field_faults, top_members_faults, conf_faults}
 use Rattle.scrape_config.specs.Reading.{jobs_place, conf_in, json_of, jobs_pattern, reading, unless_fault, whole_reading, with_patterns}
@@ -111,8 +111,8 @@ pub record AreSettled (js : List Job) : Type 0 where
 settled_by : (o : Option Data) (c : Conf) → conf_in o ≡ Ok c → AreSettled c.jobs
 settled_by None c e = absurd cc
 settled_by (Some d) c e =
-    let parts = no_fault (told (conf_faults d)) (conf_of d) c e in
-    let clean = told-none (conf_faults d) parts.0 in
+    let parts = no_fault (reported (conf_faults d)) (conf_of d) c e in
+    let clean = reported-none (conf_faults d) parts.0 in
     subst (λ (z : Conf). AreSettled z.jobs) parts.1 (record { names = differ d clean; built = all_built d })
 
 pub settled : (text : List ℕ) (c : Conf) → whole_reading text ≡ Ok c → AreSettled c.jobs

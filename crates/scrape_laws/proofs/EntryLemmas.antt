@@ -19,7 +19,7 @@ use Rattle.scrape_laws.specs.Scrapes.{LifeScrape, same_series, is_sample_of, tra
 use Rattle.scrape_laws.specs.Markers.{mark_if, is_of, reports_at, is_report_marker_of}
 use Rattle.scrape_laws.specs.Runs.{is_any}
 use Rattle.scrape_laws.proofs.SetLemmas.{copies, one_if, copies_gone, tracks_has}
-use Rattle.scrape_laws.proofs.ToldLemmas.{tells}
+use Rattle.scrape_laws.proofs.SeriesEntries.{tells}
 
 pub filter_map_none : {A : Type 0} (p : Entry → Bool) (f : A → Entry) (xs : List A) → ((y : A) → p (f y) ≡ false) → filter p (map f xs) ≡ []
 filter_map_none p f [] h = refl

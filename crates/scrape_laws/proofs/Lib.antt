@@ -1,5 +1,5 @@
 pub mod SetLemmas
-pub mod ToldLemmas
+pub mod SeriesEntries
 pub mod EntryLemmas
 pub mod LifeLemmas
 pub mod WorldLemmas

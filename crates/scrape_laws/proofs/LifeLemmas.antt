@@ -20,11 +20,11 @@ use Rattle.scrape_machine.specs.declared.lives.Local.{Local}
 use Rattle.scrape_machine.specs.declared.lives.Local.TheVariants.{Nothing, Scan, Answered, Change, Close}
 use Rattle.scrape_machine.specs.Lives.{is_open, forces, ends_at, closing_at, outcome_for, rules_of, scanned_life, with_ending, counted, changed, closed, life_after, scan_entries, counting_entries, life_gives}
 use Rattle.scrape_laws.specs.Scrapes.{LifeScrape, tracks}
-use Rattle.scrape_laws.specs.Markers.{told, is_of, ending_of, reports_at, is_report_marker_of}
+use Rattle.scrape_laws.specs.Markers.{series_entries, is_of, ending_of, reports_at, is_report_marker_of}
 use Rattle.scrape_laws.specs.Past.{tracked_by, known_by, ends_with, was_good}
 use Rattle.scrape_laws.specs.Runs.{is_any}
 use Rattle.scrape_laws.proofs.SetLemmas.{copies, one_if, tracked_copies}
-use Rattle.scrape_laws.proofs.ToldLemmas.{ends_with_push, any_push, tracked_push, known_push, told_more, told_ended}
+use Rattle.scrape_laws.proofs.SeriesEntries.{ends_with_push, any_push, tracked_push, known_push, entries_more, entries_ended}
 use Rattle.scrape_laws.proofs.EntryLemmas.{Skips, other_scrape, other_ending, own_scrape, own_ending, no_reports, own_reports}
 
 -- the report markers of a life by its state
@@ -56,7 +56,7 @@ other_life p (Answered took r) l e = other_counting p l took r (outcome_for l to
 other_life p (Change m s) l e = refl
 other_life p (Close m) l e = refl
 
--- what the scrapes of a life say of it; what it tracks is told until its ending was taken
+-- what the scrapes of a life say of it; what it tracks is tracked until its ending was taken
 pub record Knows (n : ℕ) (x : List Pair) (ss : List LifeScrape) (l : Life) : Type 0 where
   pub named : l.state.life ≡ n
   pub tracked : l.ended ≡ false → copies x l.state.tracked ≡ one_if x (ends_with (tracks x) false ss)
@@ -90,7 +90,7 @@ act_scrape (Close m) l = []
 -- the life goes on from l to k by the entries es, and its scrapes from ss to ts
 pub record Goes (n : ℕ) (x : List Pair) (ss ts : List LifeScrape) (l k : Life) (es : List Entry) : Type 0 where
   pub knows : Knows n x ts k
-  pub tells : told n x (ending_of (Some k)) false ts ≡ told n x (ending_of (Some l)) false ss ++ filter (is_of n x) es
+  pub tells : series_entries n x (ending_of (Some k)) false ts ≡ series_entries n x (ending_of (Some l)) false ss ++ filter (is_of n x) es
   pub reports : state_reports n (Some k) ts ≡ state_reports n (Some l) ss ++ filter (is_report_marker_of n) es
 
 pub no_ending : (l : Life) → l.ended ≡ false → ending_of (Some l) ≡ None
@@ -142,7 +142,7 @@ module _ (n : ℕ) (x : List Pair) (ss : List LifeScrape) (l : Life) where
           quiet = q;
           ended = λ h. en ∙ d;
         };
-        tells = ap (λ z. told n x z false ss) (no_ending k (en ∙ d) ∙ sym (no_ending l d)) ∙ sym (append-nil _);
+        tells = ap (λ z. series_entries n x z false ss) (no_ending k (en ∙ d) ∙ sym (no_ending l d)) ∙ sym (append-nil _);
         reports = ap (λ z. reports_at n k.state.target k.state.extra z ss) (no_ending k (en ∙ d)) ∙ sym (append-nil _ ∙ no_reports_yet ss d);
       }
 
@@ -162,9 +162,9 @@ module _ (n : ℕ) (x : List Pair) (ss : List LifeScrape) (l : Life) where
           quiet = λ h. absurd (true≢false (sym p ∙ h));
           ended = λ h. en ∙ d;
         };
-        tells = ap (λ z. told n x z false (ss ++ s ∷ [])) (no_ending k (en ∙ d))
-            ∙ (told_more n x false ss s
-            ∙ ap₂ ◌++◌ (ap (λ z. told n x z false ss) (sym (no_ending l d))) (sym (own_scrape n x l.state extra s took (ends_with (tracks x) false ss) w.named (w.tracked d))));
+        tells = ap (λ z. series_entries n x z false (ss ++ s ∷ [])) (no_ending k (en ∙ d))
+            ∙ (entries_more n x false ss s
+            ∙ ap₂ ◌++◌ (ap (λ z. series_entries n x z false ss) (sym (no_ending l d))) (sym (own_scrape n x l.state extra s took (ends_with (tracks x) false ss) w.named (w.tracked d))));
         reports = ap (λ z. reports_at n k.state.target k.state.extra z (ss ++ s ∷ [])) (no_ending k (en ∙ d))
             ∙ sym (ap₂ ◌++◌ (no_reports_yet ss d) (no_reports n l.state extra s.outcome s.moment took));
       }
@@ -202,9 +202,9 @@ module _ (n : ℕ) (x : List Pair) (ss : List LifeScrape) (l : Life) where
           quiet = w.quiet;
           ended = λ h. absurd (false≢true (sym (ap (λ z. not (is_some z)) o) ∙ h));
         };
-        tells = ap (λ z. told n x z false ss) q
-            ∙ (told_ended n x (marker_moment (closing_at c l)) false ss
-            ∙ ap₂ ◌++◌ (ap (λ z. told n x z false ss) (sym (no_ending l d)))
+        tells = ap (λ z. series_entries n x z false ss) q
+            ∙ (entries_ended n x (marker_moment (closing_at c l)) false ss
+            ∙ ap₂ ◌++◌ (ap (λ z. series_entries n x z false ss) (sym (no_ending l d)))
             (sym (own_ending n x (closing_at c l) (ends_with (tracks x) false ss) w.named (w.tracked d) (λ h. w.scraped ∙ any_ends (tracks x) ss h))));
         reports = ap (λ z. reports_at n l.state.target l.state.extra z ss) q
             ∙ (sym (own_reports n (closing_at c l) ss w.named w.scraped)

@@ -18,11 +18,11 @@ use Rattle.scrape_machine.specs.declared.lives.Life.{Life}
 use Rattle.scrape_machine.specs.Lives.{born, life_after}
 use Rattle.scrape_machine.specs.Machine.{World, beginning, local, step, gives, run, book_from, world_of, book_of}
 use Rattle.scrape_laws.specs.Scrapes.{LifeScrape, same_series, is_sample_of, tracks, scrape_at, scrapes_from, scrapes_of}
-use Rattle.scrape_laws.specs.Markers.{samples, mark_if, last_mark, told, ending_of, is_sample_or_marker, is_of, MarkerLaw, ending_reports, reports_at, is_report_marker, is_report_marker_of, ReportMarkerLaw}
+use Rattle.scrape_laws.specs.Markers.{samples, mark_if, last_mark, series_entries, ending_of, is_sample_or_marker, is_of, MarkerLaw, ending_reports, reports_at, is_report_marker, is_report_marker_of, ReportMarkerLaw}
 use Rattle.scrape_laws.specs.Runs.{Run, run_of, runs_from, runs, closing_moment, is_closed, one_marker, run_marker, loose, closing_entries, run_entries, is_marker, is_marker_of, is_scraped, is_scraped_of, ClosedRunsLaw, is_any}
 use Rattle.scrape_laws.specs.Past.{PastLaw}
 use Rattle.scrape_laws.proofs.SetLemmas.{same_itself}
-use Rattle.scrape_laws.proofs.ToldLemmas.{any_push}
+use Rattle.scrape_laws.proofs.SeriesEntries.{any_push}
 use Rattle.scrape_laws.proofs.EntryLemmas.{filter_map_none, filter_map_some}
 use Rattle.scrape_laws.proofs.LifeLemmas.{Knows, life_goes, state_reports}
 use Rattle.scrape_laws.proofs.RightLemmas.{HasExtra, lives_extra}
@@ -36,7 +36,7 @@ KnowsAt n x ss (Some l) = Knows n x ss l
 -- the life, if any, goes on from o to p by an event
 pub record GoesAt (n : ℕ) (x : List Pair) (ss ts : List LifeScrape) (w : World) (e : Event) (o p : Option Life) : Type 0 where
   pub knows : KnowsAt n x ts p
-  pub tells : told n x (ending_of p) false ts ≡ told n x (ending_of o) false ss ++ at_gives w e n (is_of n x) o
+  pub tells : series_entries n x (ending_of p) false ts ≡ series_entries n x (ending_of o) false ss ++ at_gives w e n (is_of n x) o
   pub reports : state_reports n p ts ≡ state_reports n o ss ++ at_gives w e n (is_report_marker_of n) o
 
 fresh_goes : (n : ℕ) (x : List Pair) (w : World) (e : Event) (l : Life) → IsFresh n l → GoesAt n x [] [] w e None (Some l)
@@ -66,7 +66,7 @@ is_of_only n x e ne = and_right (is_sample_or_marker e.kind) _ (and_left (eqb e.
 report_only : (n : ℕ) → Only (is_report_marker_of n) n
 report_only n e ne = and_right (is_report_marker e.kind) _ (ne_eqb e.life n ne)
 
--- one more event of what is told
+-- the entries of a series, behind one more event
 module _ (n : ℕ) (p : Entry → Bool) (only : Only p n) (T : Option Life → List LifeScrape → List Entry) where
   one_on : (w : World) (e : Event) (es : List Event) (ss : List LifeScrape) → AreNumbered 0 w.lives →
       (let ts = ss ++ scrape_at w e n (slice_get w.lives n) in T (slice_get (step w e).lives n) ts ≡ T (slice_get w.lives n) ss ++ at_gives w e n p (slice_get w.lives n)) →
@@ -83,22 +83,22 @@ module _ (n : ℕ) (p : Entry → Bool) (only : Only p n) (T : Option Life → L
 -- a whole run
 pub record RunGoes (n : ℕ) (x : List Pair) (es : List Event) (w : World) (ss : List LifeScrape) : Type 0 where
   pub tells :
-      told n x (ending_of (slice_get (run w es).lives n)) false (ss ++ scrapes_from w n es)
-      ≡ told n x (ending_of (slice_get w.lives n)) false ss ++ filter (is_of n x) (book_from w es)
+      series_entries n x (ending_of (slice_get (run w es).lives n)) false (ss ++ scrapes_from w n es)
+      ≡ series_entries n x (ending_of (slice_get w.lives n)) false ss ++ filter (is_of n x) (book_from w es)
   pub reports :
       state_reports n (slice_get (run w es).lives n) (ss ++ scrapes_from w n es)
       ≡ state_reports n (slice_get w.lives n) ss ++ filter (is_report_marker_of n) (book_from w es)
 
 run_goes : (n : ℕ) (x : List Pair) (es : List Event) (w : World) (ss : List LifeScrape) → AreNumbered 0 w.lives → KnowsAt n x ss (slice_get w.lives n) → RunGoes n x es w ss
 run_goes n x [] w ss h k = record {
-  tells = ap (told n x (ending_of (slice_get w.lives n)) false) (append-nil ss) ∙ sym (append-nil _);
+  tells = ap (series_entries n x (ending_of (slice_get w.lives n)) false) (append-nil ss) ∙ sym (append-nil _);
   reports = ap (state_reports n (slice_get w.lives n)) (append-nil ss) ∙ sym (append-nil _);
 }
 run_goes n x (e ∷ es) w ss h k =
     let g = goes_at n x ss w e (slice_get w.lives n) (slice_get (step w e).lives n) refl (follows w e n) k in
     let r = run_goes n x es (step w e) (ss ++ scrape_at w e n (slice_get w.lives n)) (step_numbered w e h) g.knows in
     record {
-      tells = one_on n (is_of n x) (is_of_only n x) (λ o ts. told n x (ending_of o) false ts) w e es ss h g.tells r.tells;
+      tells = one_on n (is_of n x) (is_of_only n x) (λ o ts. series_entries n x (ending_of o) false ts) w e es ss h g.tells r.tells;
       reports = one_on n (is_report_marker_of n) (report_only n) (state_reports n) w e es ss h g.reports r.reports;
     }
 
@@ -154,7 +154,7 @@ scraped_kind kind.Report b e = absurd (true≢false (sym e))
 scraped_kind kind.ReportStale b e = absurd (true≢false (sym e))
 
 module _ (n : ℕ) (x : List Pair) where
-  -- the markers of what is told
+  -- the markers among the entries of a series
   marker_here : (m : ℤ) → filter (is_marker_of n x) (stale_entry n m x ∷ []) ≡ stale_entry n m x ∷ []
   marker_here m = ap₂ (λ a b. cond (a && b) (stale_entry n m x ∷ []) []) (eq-eqb n n refl) (same_itself x)
 
@@ -179,22 +179,22 @@ module _ (n : ℕ) (x : List Pair) where
       ∙ ap (λ ys. ys ++ filter (is_marker_of n x) zs) (filter_map_none (is_marker_of n x) (sample_entry n s.moment) (filter (is_sample_of x) (samples_of s.outcome)) (λ r. refl))
 
   mark_step : (e : Option ℤ) (begun : List LifeScrape) (s : LifeScrape) (ss : List LifeScrape) (q : Bool) →
-      (filter (is_marker_of n x) (told n x e (is_any (begun ++ s ∷ [])) ss) ≡ flat_map (run_marker n x e) (runs_from (tracks x) (begun ++ s ∷ []) ss)) →
-      (filter (is_marker_of n x) (told n x e false ss) ≡ flat_map (run_marker n x e) (runs_from (tracks x) [] ss)) →
-      filter (is_marker_of n x) (samples n x s ++ (mark_if n x s.moment (is_any begun && not q) ++ told n x e q ss))
+      (filter (is_marker_of n x) (series_entries n x e (is_any (begun ++ s ∷ [])) ss) ≡ flat_map (run_marker n x e) (runs_from (tracks x) (begun ++ s ∷ []) ss)) →
+      (filter (is_marker_of n x) (series_entries n x e false ss) ≡ flat_map (run_marker n x e) (runs_from (tracks x) [] ss)) →
+      filter (is_marker_of n x) (samples n x s ++ (mark_if n x s.moment (is_any begun && not q) ++ series_entries n x e q ss))
       ≡ flat_map (run_marker n x e) (cond q (runs_from (tracks x) (begun ++ s ∷ []) ss) (run_of begun (s ∷ ss) ++ runs_from (tracks x) [] ss))
   mark_step e begun s ss true go fresh =
       no_samples s _
-      ∙ (filter-append (is_marker_of n x) (mark_if n x s.moment (is_any begun && false)) (told n x e true ss)
-      ∙ (ap (λ zs. zs ++ filter (is_marker_of n x) (told n x e true ss)) (no_marker s.moment (is_any begun))
-      ∙ (ap (λ b. filter (is_marker_of n x) (told n x e b ss)) (sym (any_push begun s)) ∙ go)))
+      ∙ (filter-append (is_marker_of n x) (mark_if n x s.moment (is_any begun && false)) (series_entries n x e true ss)
+      ∙ (ap (λ zs. zs ++ filter (is_marker_of n x) (series_entries n x e true ss)) (no_marker s.moment (is_any begun))
+      ∙ (ap (λ b. filter (is_marker_of n x) (series_entries n x e b ss)) (sym (any_push begun s)) ∙ go)))
   mark_step e begun s ss false go fresh =
       no_samples s _
-      ∙ (filter-append (is_marker_of n x) (mark_if n x s.moment (is_any begun && true)) (told n x e false ss)
+      ∙ (filter-append (is_marker_of n x) (mark_if n x s.moment (is_any begun && true)) (series_entries n x e false ss)
       ∙ (ap₂ ◌++◌ (closing_marker e begun s ss) fresh
       ∙ sym (flat_map-append (run_marker n x e) (run_of begun (s ∷ ss)) (runs_from (tracks x) [] ss))))
 
-  marks : (e : Option ℤ) (ss begun : List LifeScrape) → filter (is_marker_of n x) (told n x e (is_any begun) ss) ≡ flat_map (run_marker n x e) (runs_from (tracks x) begun ss)
+  marks : (e : Option ℤ) (ss begun : List LifeScrape) → filter (is_marker_of n x) (series_entries n x e (is_any begun) ss) ≡ flat_map (run_marker n x e) (runs_from (tracks x) begun ss)
   marks e [] begun = last_marker e begun
   marks e (s ∷ ss) begun = mark_step e begun s ss (tracks x s) (marks e ss (begun ++ s ∷ [])) (marks e ss [])
 
@@ -207,7 +207,7 @@ module _ (n : ℕ) (x : List Pair) where
   count e [] = refl
   count e (r ∷ rs) = count_step (closing_moment e r.after) r (flat_map (run_marker n x e) rs) (filter (is_closed e) rs) (count e rs)
 
-  -- the samples of what is told
+  -- the samples among the entries of a series
   unmarked : (m : ℤ) (b : Bool) → filter (is_scraped_of n x) (mark_if n x m b) ≡ []
   unmarked m true = refl
   unmarked m false = refl
@@ -231,12 +231,12 @@ module _ (n : ℕ) (x : List Pair) where
       (λ r. ap (λ b. b && is_sample_of x r) (eq-eqb n n refl))
       ∙ ap (map (sample_entry n s.moment)) (twice (samples_of s.outcome))
 
-  scraped : (e : Option ℤ) (b : Bool) (ss : List LifeScrape) → filter (is_scraped_of n x) (told n x e b ss) ≡ flat_map (samples n x) ss
+  scraped : (e : Option ℤ) (b : Bool) (ss : List LifeScrape) → filter (is_scraped_of n x) (series_entries n x e b ss) ≡ flat_map (samples n x) ss
   scraped e b [] = last_unmarked e b
   scraped e b (s ∷ ss) =
-      filter-append (is_scraped_of n x) (samples n x s) (mark_if n x s.moment (b && not (tracks x s)) ++ told n x e (tracks x s) ss)
+      filter-append (is_scraped_of n x) (samples n x s) (mark_if n x s.moment (b && not (tracks x s)) ++ series_entries n x e (tracks x s) ss)
       ∙ ap₂ ◌++◌ (all_samples s)
-      (filter-append (is_scraped_of n x) (mark_if n x s.moment (b && not (tracks x s))) (told n x e (tracks x s) ss)
+      (filter-append (is_scraped_of n x) (mark_if n x s.moment (b && not (tracks x s))) (series_entries n x e (tracks x s) ss)
       ∙ ap₂ ◌++◌ (unmarked s.moment (b && not (tracks x s))) (scraped e (tracks x s) ss))
 
 -- run by run
@@ -275,14 +275,14 @@ module _ (n : ℕ) (x : List Pair) where
   at_end e (o ∷ os) = ap (λ zs. all_of (o ∷ os) ++ zs) (last_one e) ∙ sym (append-nil _)
 
   step_yes : (e : Option ℤ) (begun : List LifeScrape) (s : LifeScrape) (ss : List LifeScrape) → tracks x s ≡ true →
-      (all_of (begun ++ s ∷ []) ++ told n x e (is_any (begun ++ s ∷ [])) ss
+      (all_of (begun ++ s ∷ []) ++ series_entries n x e (is_any (begun ++ s ∷ [])) ss
       ≡ before_runs (is_any (begun ++ s ∷ [])) ss ++ flat_map (run_entries n x e) (runs_from (tracks x) (begun ++ s ∷ []) ss)) →
-      all_of begun ++ (samples n x s ++ (mark_if n x s.moment (is_any begun && false) ++ told n x e true ss))
+      all_of begun ++ (samples n x s ++ (mark_if n x s.moment (is_any begun && false) ++ series_entries n x e true ss))
       ≡ before_runs (is_any begun) (s ∷ ss) ++ flat_map (run_entries n x e) (runs_from (tracks x) (begun ++ s ∷ []) ss)
   step_yes e begun s ss t go =
-      ap (λ zs. all_of begun ++ (samples n x s ++ (zs ++ told n x e true ss))) (no_mark s.moment (is_any begun))
-      ∙ (sym (append_assoc (all_of begun) (samples n x s) (told n x e true ss))
-      ∙ (ap₂ (λ zs b. zs ++ told n x e b ss) (sym (all_push begun s)) (sym (any_push begun s))
+      ap (λ zs. all_of begun ++ (samples n x s ++ (zs ++ series_entries n x e true ss))) (no_mark s.moment (is_any begun))
+      ∙ (sym (append_assoc (all_of begun) (samples n x s) (series_entries n x e true ss))
+      ∙ (ap₂ (λ zs b. zs ++ series_entries n x e b ss) (sym (all_push begun s)) (sym (any_push begun s))
       ∙ (go
       ∙ ap (λ zs. zs ++ flat_map (run_entries n x e) (runs_from (tracks x) (begun ++ s ∷ []) ss))
       (ap (λ b. before_runs b ss) (any_push begun s) ∙ sym (ap (λ zs. cond (is_any begun) [] (all_of zs)) (loose_yes s ss t) ∙ none (is_any begun))))))
@@ -292,8 +292,8 @@ module _ (n : ℕ) (x : List Pair) where
       none false = refl
 
   step_no : (e : Option ℤ) (begun : List LifeScrape) (s : LifeScrape) (ss : List LifeScrape) → tracks x s ≡ false →
-      (told n x e false ss ≡ all_of (loose x ss) ++ flat_map (run_entries n x e) (runs_from (tracks x) [] ss)) →
-      all_of begun ++ (samples n x s ++ (mark_if n x s.moment (is_any begun && true) ++ told n x e false ss))
+      (series_entries n x e false ss ≡ all_of (loose x ss) ++ flat_map (run_entries n x e) (runs_from (tracks x) [] ss)) →
+      all_of begun ++ (samples n x s ++ (mark_if n x s.moment (is_any begun && true) ++ series_entries n x e false ss))
       ≡ before_runs (is_any begun) (s ∷ ss) ++ flat_map (run_entries n x e) (run_of begun (s ∷ ss) ++ runs_from (tracks x) [] ss)
   step_no e [] s ss t fresh =
       ap (λ zs. samples n x s ++ zs) fresh
@@ -306,16 +306,16 @@ module _ (n : ℕ) (x : List Pair) where
       ∙ sym (ap (λ zs. (all_of (o ∷ os) ++ closing_entries n x e zs) ++ flat_map (run_entries n x e) (runs_from (tracks x) [] ss)) (loose_no s ss t))))
 
   run_step : (e : Option ℤ) (begun : List LifeScrape) (s : LifeScrape) (ss : List LifeScrape) (q : Bool) → tracks x s ≡ q →
-      (all_of (begun ++ s ∷ []) ++ told n x e (is_any (begun ++ s ∷ [])) ss
+      (all_of (begun ++ s ∷ []) ++ series_entries n x e (is_any (begun ++ s ∷ [])) ss
       ≡ before_runs (is_any (begun ++ s ∷ [])) ss ++ flat_map (run_entries n x e) (runs_from (tracks x) (begun ++ s ∷ []) ss)) →
-      (told n x e false ss ≡ all_of (loose x ss) ++ flat_map (run_entries n x e) (runs_from (tracks x) [] ss)) →
-      all_of begun ++ (samples n x s ++ (mark_if n x s.moment (is_any begun && not q) ++ told n x e q ss))
+      (series_entries n x e false ss ≡ all_of (loose x ss) ++ flat_map (run_entries n x e) (runs_from (tracks x) [] ss)) →
+      all_of begun ++ (samples n x s ++ (mark_if n x s.moment (is_any begun && not q) ++ series_entries n x e q ss))
       ≡ before_runs (is_any begun) (s ∷ ss) ++ flat_map (run_entries n x e) (cond q (runs_from (tracks x) (begun ++ s ∷ []) ss) (run_of begun (s ∷ ss) ++ runs_from (tracks x) [] ss))
   run_step e begun s ss true t go fresh = step_yes e begun s ss t go
   run_step e begun s ss false t go fresh = step_no e begun s ss t fresh
 
   run_by_run : (e : Option ℤ) (ss begun : List LifeScrape) →
-      all_of begun ++ told n x e (is_any begun) ss ≡ before_runs (is_any begun) ss ++ flat_map (run_entries n x e) (runs_from (tracks x) begun ss)
+      all_of begun ++ series_entries n x e (is_any begun) ss ≡ before_runs (is_any begun) ss ++ flat_map (run_entries n x e) (runs_from (tracks x) begun ss)
   run_by_run e [] begun = at_end e begun
   run_by_run e (s ∷ ss) begun = run_step e begun s ss (tracks x s) refl (run_by_run e ss (begun ++ s ∷ [])) (run_by_run e ss [])
 

@@ -31,9 +31,9 @@ last_mark n x (Some m) before = mark_if n x m before
 
 -- scrape by scrape, its samples of the series, and then a marker at its moment where the scrape before it tracked the series and it doesn't;
 -- at last the marker at the ending
-abbrev pub told : ℕ → List Pair → Option ℤ → Bool → List LifeScrape → List Entry
-told n x ending before [] = last_mark n x ending before
-told n x ending before (s ∷ ss) = samples n x s ++ (mark_if n x s.moment (before && not (tracks x s)) ++ told n x ending (tracks x s) ss)
+abbrev pub series_entries : ℕ → List Pair → Option ℤ → Bool → List LifeScrape → List Entry
+series_entries n x ending before [] = last_mark n x ending before
+series_entries n x ending before (s ∷ ss) = samples n x s ++ (mark_if n x s.moment (before && not (tracks x s)) ++ series_entries n x ending (tracks x s) ss)
 
 -- the moment of a life's ending, where it was taken
 abbrev pub ending_of : Option Life → Option ℤ
@@ -54,7 +54,7 @@ is_of n x e = is_sample_or_marker e.kind && ((e.life == n) && same_series x e.se
 -- in the book of a journal the samples and stale markers of each series in each life are those, in that order, and no others
 abbrev pub MarkerLaw : List Event → Type 0
 MarkerLaw journal = (n : ℕ) (x : List Pair) →
-    filter (is_of n x) (book_of journal) ≡ told n x (ending_of (slice_get (world_of journal).lives n)) false (scrapes_of n journal)
+    filter (is_of n x) (book_of journal) ≡ series_entries n x (ending_of (slice_get (world_of journal).lives n)) false (scrapes_of n journal)
 
 -- the report markers at the moment of an ending, where that was taken, of a life with these scrapes: one for each report of the life, the five and,
 -- where its job has the extra ones, three more; none where it has no scrape

@@ -68,7 +68,8 @@ IsRightFor honor metric target t r = t.0 ≡ r.raw → t.1.set ≡ row_series ho
 
 -- in every body
 abbrev pub IsRight : Bool → List RuleConf → List Pair → Text → Type 0
-IsRight honor metric target t = (form : Form) (bytes : List ℕ) (rows : List BodyRow) → reading form bytes ≡ Ok rows → All (IsRightFor honor metric target t) rows
+IsRight honor metric target t =
+    (form : Form) (bytes : List ℕ) (rows : List BodyRow) → reading form bytes ≡ Ok rows → All (IsRightFor honor metric target t) rows
 
 -- so for each text
 abbrev pub AreRight : Bool → List RuleConf → List Pair → List Text → Type 0

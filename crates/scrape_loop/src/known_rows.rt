@@ -124,7 +124,7 @@ fn show_row<L: Ledger>(
     }
 }
 
-/// Where the text of a row is looked for first: the place that reading it told, counted from 1; 0 is none.
+/// Where the text of a row is looked for first: the place that reading it gave, counted from 1; 0 is none.
 fn hint_at(places: &[u32], row: usize) -> usize {
     match places.get(row) {
         Some(place) => *place as usize,

@@ -4,7 +4,7 @@
 //! A scrape is counted by its reply, whose body is read before.
 //! Contracts see a life's state as the record of its number, its target's labels, the sets that its last counted scrape tracked, all sets of its last
 //! good one, what is known of its raw texts, whether a scrape of it counted, and whether the last was good; `specs/Tracked.antt` says what a
-//! scrape makes of it, `specs/Texts.antt` what its rows show of raw texts, `specs/Shown.antt` what those tell of its
+//! scrape makes of it, `specs/Texts.antt` what its rows show of raw texts, `specs/Shown.antt` what those say of its
 //! sets, `specs/Entries.antt` which entries it appends, and `specs/Closings.antt` what a life leaves behind when it
 //! is closed.
 //! Tests: `tests_deciding::scrapes`; cases: `scrape_cases::{scripts, texts}`.

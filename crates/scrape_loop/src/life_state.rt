@@ -74,8 +74,8 @@ fn seed(cache: &mut SeriesCache, alloc: Global, hasher: DefaultHasher)
     }
 }
 
-/// Appends the entries of a scrape that started at a moment and took so many milliseconds, where the cache shows its sets; the extra reports where it is
-/// told what they say.
+/// Appends the entries of a scrape that started at a moment and took so many milliseconds, where the cache shows its
+/// sets; the extra reports where it is given what they say.
 fn append(
     alloc: Global,
     past: &Past,

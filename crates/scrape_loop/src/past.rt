@@ -26,7 +26,7 @@ pub struct Past {
 }
 
 impl Past {
-    /// The entries of a scrape that started at a moment and took so many milliseconds, where the cache shows its sets; the extra reports where it is told
+    /// The entries of a scrape that started at a moment and took so many milliseconds, where the cache shows its sets; the extra reports where it is asked to
     /// what they say.
     pub fn entries_of(
         &self,

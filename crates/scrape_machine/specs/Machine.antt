@@ -72,7 +72,9 @@ job_name l = l.settings.conf.job_name
 -- how the settings of a job compare with those that the job of the same name had before
 abbrev pub compared : InForce → InForce → Difference
 compared before after =
-    if is_compatible before.job.conf after.job.conf then (if is_same before.job.conf after.job.conf then Same else Changed (settings_of after.job)) else Incompatible
+    if is_compatible before.job.conf after.job.conf
+    then (if is_same before.job.conf after.job.conf then Same else Changed (settings_of after.job))
+    else Incompatible
 
 abbrev pub difference_on : InForce → Option InForce → Difference
 difference_on after None = Incompatible

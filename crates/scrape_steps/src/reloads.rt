@@ -212,7 +212,8 @@ fn hold(
     transition: &Transition,
     life: &Life,
 ) -> Result<(), NoMemory>
-    ensures { OnOk result ((moment : ℤ) → plan.IsHeldWith held.new held.old names.now (lives_of.life_after (plan.local_of moment transition.now) life.now)) }
+    ensures { OnOk result ((moment : ℤ) →
+        plan.IsHeldWith held.new held.old names.now (lives_of.life_after (plan.local_of moment transition.now) life.now)) }
 {
     if closes(transition) || !is_open(life) {
         return Ok(());
@@ -236,7 +237,8 @@ pub fn held_of(
 ) -> Result<Seats, NoMemory>
     requires { length transitions.now ≡ length (concerned.concerned lives.now) }
     ensures { IfOk result (λ s. (moment : ℤ) →
-        plan.IsHeld s names.now (plan.after_each moment (concerned.all_transitions (concerned.concerns lives.now.moment) transitions.now lives.now.all) lives.now.all)) }
+        plan.IsHeld s names.now (plan.after_each moment
+        (concerned.all_transitions (concerned.concerns lives.now.moment) transitions.now lives.now.all) lives.now.all)) }
 {
     let mut held = Seats::new(alloc);
     let mut place: usize = 0;

@@ -154,7 +154,7 @@ known_last raw (t ∷ ts) k h = by (bytes_eq raw t.0) refl (known_last raw ts k)
     by true e rest = absurd (subst (λ (c : Bool). cond c (Some t.1) (find raw ts) ≡ None → ⊥) (sym e) (λ q. cc) h)
     by false e rest = rw e (rest (subst (λ (c : Bool). cond c (Some t.1) (find raw ts) ≡ None) e h))
 
--- where no set is told, nothing is known
+-- where no set is known, nothing is known
 pub unknown : (o : Option Known) → option_map (λ (k : Known). k.set) o ≡ None → o ≡ None
 unknown None h = refl
 unknown (Some k) h = absurd cc

@@ -25,11 +25,11 @@ find raw ts = lookup (bytes_eq raw) ts
 abbrev pub look_up : List ℕ → List (List ℕ × Known) → Option (Option (List Pair))
 look_up raw ts = option_map (λ (k : Known). k.set) (find raw ts)
 
--- the same, as a look at a cache tells it
-abbrev pub told : Look → Option (Option (List Pair))
-told Unknown = None
-told Dropped = Some None
-told (Set set) = Some (Some set.now)
+-- the same, as a look at a cache answers it
+abbrev pub answered : Look → Option (Option (List Pair))
+answered Unknown = None
+answered Dropped = Some None
+answered (Set set) = Some (Some set.now)
 
 -- a text, which was shown where it is this one
 abbrev pub stamped : List ℕ → Bool → List ℕ × Known → List ℕ × Known

@@ -17,7 +17,7 @@ use std::alloc::Global;
 use std::hash::DefaultHasher;
 use std::marker::Model;
 
-/// What a look at a cache tells of a raw text.
+/// What a look at a cache answers for a raw text.
 #[derive(Clone, Copy, Debug)]
 pub enum Look<'a> {
     /// The last good scrape didn't show it, and it didn't come since.
@@ -94,7 +94,7 @@ impl SeriesCache {
 
     /// What is known of a raw text. It takes no memory.
     pub fn look(&self, raw: &[u8]) -> Look<'_>
-        ensures told { spec.told result ≡ spec.look_up raw.now self.now.texts }
+        ensures answered { spec.answered result ≡ spec.look_up raw.now self.now.texts }
         ensures kept { self.now.kept ≤ length self.now.texts }
     {
         match self.texts.find(raw, self.expected) {
@@ -143,8 +143,8 @@ impl SeriesCache {
         self.expected = self.texts.show(raw, self.expected, tracked);
     }
 
-    /// Notes that the running scrape shows a raw text, as `stamp` does, where it is known, and tells the set of its series, or that it has none.
-    /// Of a text that isn't known it tells nothing, and nothing changes. It is looked for once, first at a place, which is counted from 1; 0 is none.
+    /// Notes that the running scrape shows a raw text, as `stamp` does, where it is known, and gives the set of its series, or that it has none.
+    /// For a text that isn't known it gives nothing, and nothing changes. It is looked for once, first at a place, which is counted from 1; 0 is none.
     ///
     /// # Errors
     ///
@@ -155,7 +155,7 @@ impl SeriesCache {
         hint: usize,
         tracked: bool,
     ) -> Result<Option<Option<LabelSet>>, NoMemory>
-        ensures told { IfOk result (λ k. k ≡ spec.look_up raw.now self.old.texts) }
+        ensures answered { IfOk result (λ k. k ≡ spec.look_up raw.now self.old.texts) }
         ensures texts { IfOk result (λ k. IfSome k (λ _. self.new.texts ≡ map (spec.stamped raw.now tracked) self.old.texts)) }
         ensures unknown { IfOk result (λ k. IfNone k (self.new ≡ self.old)) }
         ensures kept { self.new.kept ≡ self.old.kept }

@@ -9,7 +9,7 @@ use std::alloc::Global;
 use std::collections::HashSet;
 use std::marker::Model;
 
-/// Label sets, each once, kept by hash, so that most are told apart before any two are compared; seen as their rising list.
+/// Label sets, each once, kept by hash, so that most are seen to differ before any two are compared; seen as their rising list.
 #[derive(Debug, Drop)]
 pub struct RisingSets {
     sets: HashSet<LabelSet>,

@@ -202,7 +202,7 @@ impl Texts {
         }
     }
 
-    /// Notes that a known text was shown, and tells what is expected next. No hash is made where it is expected, nor where it is the last text,
+    /// Notes that a known text was shown, and notes what is expected next. No hash is made where it is expected, nor where it is the last text,
     /// which was just put: then the same is expected as before.
     pub(crate) fn show(&mut self, raw: &[u8], expected: Expected, tracked: bool) -> Expected
         requires { IsSome (look_up raw.now self.old) }
@@ -264,7 +264,7 @@ impl Texts {
         ensures renewed { self.new ≡ map renewed (shown_of self.old) }
         ensures distinct { AreDistinct self.old }
     {
-        // What it tells is that no text stands there twice.
+        // What it says is that no text stands there twice.
         let _len = self.len();
         self.entries.retain(
             |_text: &Vec<u8>, known: &mut Known| -> bool

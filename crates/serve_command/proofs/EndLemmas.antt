@@ -3,7 +3,7 @@ use Rattle.std.proofs.Common.{◌≡◌, ◌⊎◌, inl, inr, ⊎_elim, ℕ, Lis
 use Rattle.std.specs.Prelude.{Some, false, Err}
 use Rattle.journal_text.specs.declared.events.Event.{Event}
 use Rattle.journal_text.specs.declared.faults.ScriptFault.{ScriptFault}
-use Rattle.outside.specs.Objects.{SinkSeen, Use, IsUntouched, LacksFile, Missed, Rose}
+use Rattle.outside.specs.Objects.{SinkSeen, Use, IsUntouched, KnownAbsent, KnownLonger, LacksFile, Missed, Rose}
 use Rattle.command_words.specs.Askings.{Serving}
 use Rattle.command_words.specs.declared.words.Order.TheVariants.{Serve}
 use Rattle.scrape_commands.specs.Ends.{Speaks, status_at, status_of}
@@ -13,9 +13,9 @@ use Rattle.scrape_commands.specs.declared.refusals.Refusal.TheVariants as refusa
 use Rattle.scrape_commands.proofs.FaultLemmas.{fault_stands, script_not}
 use Rattle.scrape_commands.proofs.FileLemmas.{longer_has, longer_lacks, none_has, none_longer, not_lacking, not_longer, same_file}
 use Rattle.status_server.specs.Serving as server
-use Rattle.status_server.specs.Serving.{ServesAll, most_bytes}
+use Rattle.status_server.specs.Serving.{ServesAll}
 use Rattle.status_server.specs.declared.serving.ServeEnd.TheVariants as serve
-use Rattle.serve_command.specs.Ends.{Complete, EndedServe, GaveMore, IsRead, IsSound, TellsLonger, TellsNone, TellsScript, file_said, refusal_of, script_refusal}
+use Rattle.serve_command.specs.Ends.{Complete, EndedServe, GaveMore, IsRead, IsSound, KnownScript, file_said, refusal_of, script_refusal}
 use Rattle.serve_command.specs.Serves.{AnswersAll, Ends, IsFaulty, IsReplayed, Touched, Unserved, Wrote, most_script_bytes}
 use Rattle.serve_command.specs.declared.ends.ScriptEnd.{ScriptEnd}
 use Rattle.serve_command.specs.declared.ends.ScriptEnd.TheVariants as script
@@ -45,24 +45,24 @@ module _ (s : Serving) (t : Touched) where
   due_by due end e not at =
       ⊎_elim (λ r. absurd (not r)) (λ u. subst (λ (x : ServerEnd). IsFreely due (status_at (refusal_of x))) (sym u.1) (at u.0 u.2)) (replayed_at end e)
 
-  none_at : TellsNone s t → IsRead t → (e : ScriptEnd) → Unserved e s t → IsFreely 3 (status_of (script_refusal e))
+  none_at : KnownAbsent t.shelf.before s.script → IsRead t → (e : ScriptEnd) → Unserved e s t → IsFreely 3 (status_of (script_refusal e))
   none_at none read script.Absent u = inl refl
   none_at none read script.TooLong u = absurd (none_longer t.shelf.before.files s.script most_script_bytes none u.cause.0)
   none_at none read script.ReadFault u = absurd (read u.cause.counted)
   none_at none read (script.Script f) u = absurd (none_has t.shelf.before.files s.script u.cause.bytes none u.cause.has)
   none_at none read script.NoMemory u = inr refl
 
-  longer_at : TellsLonger s t → IsRead t → (e : ScriptEnd) → Unserved e s t → IsFreely 9 (status_of (script_refusal e))
+  longer_at : KnownLonger t.shelf.before s.script most_script_bytes → IsRead t → (e : ScriptEnd) → Unserved e s t → IsFreely 9 (status_of (script_refusal e))
   longer_at long read script.Absent u = absurd (longer_lacks t.shelf.before.files s.script most_script_bytes long u.cause.0)
   longer_at long read script.TooLong u = inl refl
   longer_at long read script.ReadFault u = absurd (read u.cause.counted)
   longer_at long read (script.Script f) u = absurd (longer_has t.shelf.before.files s.script u.cause.bytes most_script_bytes long u.cause.has u.cause.short)
   longer_at long read script.NoMemory u = inr refl
 
-  module _ (bytes : List ℕ) (told : TellsScript bytes s t) (read : IsRead t) where
+  module _ (bytes : List ℕ) (known : KnownScript s t bytes) (read : IsRead t) where
     unspelled_at : (e : ScriptEnd) → Unserved e s t → IsFreely 5 (status_of (script_refusal e))
-    unspelled_at script.Absent u = absurd (not_lacking t.shelf.before.files s.script bytes told.file u.cause.0)
-    unspelled_at script.TooLong u = absurd (not_longer t.shelf.before.files s.script bytes most_script_bytes told.file u.cause.0 told.short)
+    unspelled_at script.Absent u = absurd (not_lacking t.shelf.before.files s.script bytes known.file u.cause.0)
+    unspelled_at script.TooLong u = absurd (not_longer t.shelf.before.files s.script bytes most_script_bytes known.file u.cause.0 known.short)
     unspelled_at script.ReadFault u = absurd (read u.cause.counted)
     unspelled_at (script.Script f) u = inl refl
     unspelled_at script.NoMemory u = inr refl
@@ -70,35 +70,35 @@ module _ (s : Serving) (t : Touched) where
     spells_not : StandsForNone false bytes → Replayed → ⊥
     spells_not none r =
         script_not false bytes r.0
-        (subst (λ (b : List ℕ). IsScriptOf false b r.0) (same_file t.shelf.before.files s.script bytes r.1.bytes told.file r.1.has) r.1.is) none
+        (subst (λ (b : List ℕ). IsScriptOf false b r.0) (same_file t.shelf.before.files s.script bytes r.1.bytes known.file r.1.has) r.1.is) none
 
     stands_at : StandsFor false bytes → (e : ScriptEnd) → Unserved e s t → IsFreely 0 (status_of (script_refusal e))
-    stands_at stands script.Absent u = absurd (not_lacking t.shelf.before.files s.script bytes told.file u.cause.0)
-    stands_at stands script.TooLong u = absurd (not_longer t.shelf.before.files s.script bytes most_script_bytes told.file u.cause.0 told.short)
+    stands_at stands script.Absent u = absurd (not_lacking t.shelf.before.files s.script bytes known.file u.cause.0)
+    stands_at stands script.TooLong u = absurd (not_longer t.shelf.before.files s.script bytes most_script_bytes known.file u.cause.0 known.short)
     stands_at stands script.ReadFault u = absurd (read u.cause.counted)
     stands_at stands (script.Script f) u =
         absurd (fault_stands false bytes f
-        (subst (λ (b : List ℕ). IsFaultOf false b f) (same_file t.shelf.before.files s.script bytes u.cause.bytes told.file u.cause.has) u.cause.is) stands)
+        (subst (λ (b : List ℕ). IsFaultOf false b f) (same_file t.shelf.before.files s.script bytes u.cause.bytes known.file u.cause.has) u.cause.is) stands)
     stands_at stands script.NoMemory u = inr refl
 
   gave_more : Wrote serve.TooLong s t → GaveMore t
   gave_more e = let more = e.served.serves.so.1 in let given = e.served.serves.given.given in omega (arith, more, given)
 
-  done : (end : ServerEnd) → Ends end s t → (bytes : List ℕ) → TellsScript bytes s t → StandsFor false bytes → IsSound t → ¬ GaveMore t
+  done : (end : ServerEnd) → Ends end s t → (bytes : List ℕ) → KnownScript s t bytes → StandsFor false bytes → IsSound t → ¬ GaveMore t
       → IsFreely 0 (status_at (refusal_of end))
-  done Done e bytes told stands sound few = inl refl
-  done (Unreplayed u) e bytes told stands sound few = stands_at bytes told sound.read stands u e
-  done ReadFault e bytes told stands sound few = absurd (⊎_elim (λ f. sound.given f.2) (λ f. sound.read f.1) e.served.serves.so.0)
-  done TooLong e bytes told stands sound few = absurd (few (gave_more e))
-  done WriteFault e bytes told stands sound few =
+  done Done e bytes known stands sound few = inl refl
+  done (Unreplayed u) e bytes known stands sound few = stands_at bytes known sound.read stands u e
+  done ReadFault e bytes known stands sound few = absurd (⊎_elim (λ f. sound.given f.2) (λ f. sound.read f.1) e.served.serves.so.0)
+  done TooLong e bytes known stands sound few = absurd (few (gave_more e))
+  done WriteFault e bytes known stands sound few =
       absurd (⊎_elim (λ n. sound.put n.served.serves.so.2.counted) (λ f. sound.written f.trail.counted) e)
-  done NoMemory e bytes told stands sound few = inr refl
+  done NoMemory e bytes known stands sound few = inr refl
 
   complete : (end : ServerEnd) → Ends end s t → Complete (status_at (refusal_of end)) s t
   complete end e = record {
     missing = λ none read. due_by 3 end e (λ r. none_has t.shelf.before.files s.script r.1.bytes none r.1.has) (none_at none read);
     longer = λ long read. due_by 9 end e (λ r. longer_has t.shelf.before.files s.script r.1.bytes most_script_bytes long r.1.has r.1.short) (longer_at long read);
-    unspelled = λ bytes told none read. due_by 5 end e (spells_not bytes told read none) (unspelled_at bytes told read);
+    unspelled = λ bytes known none read. due_by 5 end e (spells_not bytes known read none) (unspelled_at bytes known read);
     done = done end e;
   }
 

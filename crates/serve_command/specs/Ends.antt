@@ -1,7 +1,7 @@
 -- How a call of the program ends that serves.
-use Rattle.std.specs.Prelude.{◌≡◌, ◌≤◌, ◌<◌, ◌⊎◌, ⊤, ℕ, ◌+◌, List, length, codes, false, Option, Some, None, IsSomeAnd, Result, Ok, Err}
+use Rattle.std.specs.Prelude.{◌≡◌, ◌<◌, ◌⊎◌, ⊤, ℕ, ◌+◌, List, codes, false, Option, Some, None, Result, Ok, Err}
 use Rattle.journal_text.specs.declared.faults.ScriptFault.{ScriptFault}
-use Rattle.outside.specs.Objects.{SinkSeen, Use, LacksFile, Missed, Rose, file_of}
+use Rattle.outside.specs.Objects.{SinkSeen, Use, KnownAbsent, KnownFile, KnownLonger, LacksFile, Missed, Rose}
 use Rattle.command_words.specs.Askings.{Serving}
 use Rattle.command_words.specs.declared.words.Order.{Order}
 use Rattle.command_words.specs.declared.words.Order.TheVariants.{Still, Run, Serve}
@@ -46,17 +46,9 @@ abbrev pub file_said : ServerEnd → List ℕ → List ℕ
 file_said TooLong name = codes "control"
 file_said _ name = name
 
--- the shelf tells the file of the script: that there is none, that it is longer than a script may be, and its text
--- within that limit
-abbrev pub TellsNone : Serving → Touched → Type 0
-TellsNone s t = IsSomeAnd t.shelf.before.files (λ files. file_of s.script files ≡ None)
-
-abbrev pub TellsLonger : Serving → Touched → Type 0
-TellsLonger s t = IsSomeAnd t.shelf.before.files (λ files. IsSomeAnd (file_of s.script files) (λ bytes. most_script_bytes < length bytes))
-
-pub record TellsScript (bytes : List ℕ) (s : Serving) (t : Touched) : Type 0 where
-  pub file : IsSomeAnd t.shelf.before.files (λ files. file_of s.script files ≡ Some bytes)
-  pub short : length bytes ≤ most_script_bytes
+-- the file of the script is known, and has these bytes, which a script may have
+abbrev pub KnownScript : Serving → Touched → List ℕ → Type 0
+KnownScript s t = KnownFile t.shelf.before s.script most_script_bytes
 
 -- the shelf didn't fail to read; and neither did control, and no writing failed
 abbrev pub IsRead : Touched → Type 0
@@ -75,10 +67,10 @@ GaveMore t = t.control.before.given + most_bytes < t.control.after.given
 -- which status is due, where nothing fails: for a script that isn't there, is too long or spells no journal, and for
 -- one that spells one, where the connection gives at most 1 MiB. Out of memory alone may stand in its place
 pub record Complete (status : ℕ) (s : Serving) (t : Touched) : Type 0 where
-  pub missing : TellsNone s t → IsRead t → IsFreely 3 status
-  pub longer : TellsLonger s t → IsRead t → IsFreely 9 status
-  pub unspelled : (bytes : List ℕ) → TellsScript bytes s t → StandsForNone false bytes → IsRead t → IsFreely 5 status
-  pub done : (bytes : List ℕ) → TellsScript bytes s t → StandsFor false bytes → IsSound t → ¬ GaveMore t → IsFreely 0 status
+  pub missing : KnownAbsent t.shelf.before s.script → IsRead t → IsFreely 3 status
+  pub longer : KnownLonger t.shelf.before s.script most_script_bytes → IsRead t → IsFreely 9 status
+  pub unspelled : (bytes : List ℕ) → KnownScript s t bytes → StandsForNone false bytes → IsRead t → IsFreely 5 status
+  pub done : (bytes : List ℕ) → KnownScript s t bytes → StandsFor false bytes → IsSound t → ¬ GaveMore t → IsFreely 0 status
 
 -- what a status says of the objects
 pub record Causes (status : ℕ) (s : Serving) (t : Touched) : Type 0 where

@@ -112,7 +112,7 @@ Ends TooLong s t = Wrote serve.TooLong s t
 Ends WriteFault s t = WroteNothing serve.WriteFault s t ⊎ WroteFront s t
 Ends NoMemory s t = OutOfMemory s t
 
--- where control tells what it has, each request of that is answered behind the script's journal, and the journal
+-- where it is known what control has, each request of that is answered behind the script's journal, and the journal
 -- behind them went to the trail
 pub record AnswersAll (s : Serving) (t : Touched) : Type 0 where
   pub journal : List Event

@@ -19,11 +19,11 @@ use Rattle.turn_lock.specs.Turns.{part}
 use Rattle.turn_lock.specs.declared.lock.Pass.{Pass}
 use Rattle.turn_lock.specs.declared.lock.TurnLock.{TurnLock}
 use Rattle.turn_lock.specs.declared.views.Part.{Part}
-use Rattle.station.specs.Crews.{Answered, AreAsked, entries_for, HasFinished, AllFinished, HasTicked, TellsCalls, AllTell, TellsSweeps, FirstEnded, IsTold, AllTold, behind_of, behinds_in}
+use Rattle.station.specs.Crews.{Answered, AreAsked, entries_for, HasFinished, AllFinished, HasTicked, RecordsCalls, AllRecorded, RecordsSweeps, FirstEnded, HasOwn, AllHaveOwn, behind_of, behinds_in}
 use Rattle.station.specs.declared.ends.RunEnd.{RunEnd}
 use Rattle.station.specs.declared.ends.RunEnd.TheVariants.{NoMemory}
 use Rattle.station.specs.Ends.{run_end}
-use Rattle.station.proofs.WorkLemmas.{asked_later, behind_told, events_join, finishes_told, sweeps_told}
+use Rattle.station.proofs.WorkLemmas.{asked_later, behind_told, events_join, finishes_recorded, sweeps_recorded}
 
 pub whole_end : (whole : Bool) (end : RunEnd) → run_end whole end ≢ NoMemory → whole ≡ true
 whole_end true end h = refl
@@ -95,7 +95,7 @@ ends_last place (a ∷ more) = ends_last place more
 
 module _ {T : Type 0} where
   pub told_all : (es : List Event) (ms : List Mark) (log : List Entry) (x : Note) (n : ℕ) (ps : List (Pass T Entry)) → 0 < n → length (seats_in ms) ≡ length es → Adds log 0 x (entries_of es ms)
-      → ((q : ℕ) → 0 < q → events_of q es (seats_in ms) ≡ events_in (own_by q log)) → Gathers (λ (e : Entry). e.seat) log n ps → AllTold es (seats_in ms) n ps
+      → ((q : ℕ) → 0 < q → events_of q es (seats_in ms) ≡ events_in (own_by q log)) → Gathers (λ (e : Entry). e.seat) log n ps → AllHaveOwn es (seats_in ms) n ps
   told_all es ms log x n [] some len adds others g = tt
   told_all es ms log x n (p ∷ ps) some len adds others g = (
     record {
@@ -105,15 +105,15 @@ module _ {T : Type 0} where
     told_all es ms log x (n + 1) ps (omega (arith, some)) len adds others g.2,
   )
 
-  pub ticker_told : (es : List Event) (ms : List Mark) (log : List Entry) (x : Note) (p : Pass T Entry) → length (seats_in ms) ≡ length es → Adds log 0 x (entries_of es ms) → own_by 1 log ≡ own_of p
+  pub ticker_recorded : (es : List Event) (ms : List Mark) (log : List Entry) (x : Note) (p : Pass T Entry) → length (seats_in ms) ≡ length es → Adds log 0 x (entries_of es ms) → own_by 1 log ≡ own_of p
       → behind_of 1 0 es (seats_in ms) ≡ behinds_in (own_of p)
-  ticker_told es ms log x p len adds own =
+  ticker_recorded es ms log x p len adds own =
       behind_told 1 0 ms es (omega arith) (sym len) ∙ ap behinds_in (ap (own_by 1) adds ∙ (own_else log 0 1 x (λ e. absurd (omega (arith, e))) ∙ own))
 
   rest_gathers : (log : List Entry) (n : ℕ) (p : Pass T Entry) (ps : List (Pass T Entry)) → Gathers (λ (e : Entry). e.seat) log n (p ∷ ps) → (own_by n log ≡ own_of p) × Gathers (λ (e : Entry). e.seat) log (n + 1) ps
   rest_gathers log n p ps h = (h.1, h.2)
 
-  -- what is told of the caller, of the ticker and of the workers
+  -- what is recorded of the caller, of the ticker and of the workers
   pub record Parts (log : List Entry) (caller ticker : Pass T Entry) (workers : List (Pass T Entry)) : Type 0 where
     pub callers : own_by 0 log ≡ own_of caller
     pub tickers : own_by 1 log ≡ own_of ticker
@@ -137,21 +137,21 @@ module _ {T : Type 0} where
   finished_first (x ∷ xs) (y ∷ ys) (p ∷ ps) some h = ap any_end h.0.own ∙ ends_last 0 h.0.more
 
   -- what the workers tell, and the ticker
-  tells_calls : (n : ℕ) (es : List Event) (seats : List ℕ) (x y : FetchSeen) (p : Pass T Entry) → HasFinished n x y p → IsTold es seats (2 + n) p → TellsCalls n es seats x y
-  tells_calls n es seats x y p f t = record {
+  records_calls : (n : ℕ) (es : List Event) (seats : List ℕ) (x y : FetchSeen) (p : Pass T Entry) → HasFinished n x y p → HasOwn es seats (2 + n) p → RecordsCalls n es seats x y
+  records_calls n es seats x y p f t = record {
     more = f.more;
     called = f.called;
     asked = subst (λ (l : List Event). AreAsked l f.more) (sym t.seen.1) (asked_later (events_in (seen_by p)) t.seen.0 f.more f.asked);
-    events = t.events ∙ (ap events_in f.own ∙ finishes_told n f.more);
+    events = t.events ∙ (ap events_in f.own ∙ finishes_recorded n f.more);
   }
 
-  pub all_tell : (n m : ℕ) (es : List Event) (seats : List ℕ) (xs ys : List FetchSeen) (ps : List (Pass T Entry)) → m ≡ 2 + n → AllFinished n xs ys ps → AllTold es seats m ps → AllTell n es seats xs ys
-  all_tell n m es seats [] [] ps is all told = tt
-  all_tell n m es seats [] (y ∷ ys) ps is all told = absurd all
-  all_tell n m es seats (x ∷ xs) [] ps is all told = absurd all
-  all_tell n m es seats (x ∷ xs) (y ∷ ys) [] is all told = absurd all
-  all_tell n m es seats (x ∷ xs) (y ∷ ys) (p ∷ ps) is all told =
-      (tells_calls n es seats x y p all.0 (subst (λ (k : ℕ). IsTold es seats k p) is told.0), all_tell (n + 1) (m + 1) es seats xs ys ps (omega (arith, is)) all.1 told.1)
+  pub all_recorded : (n m : ℕ) (es : List Event) (seats : List ℕ) (xs ys : List FetchSeen) (ps : List (Pass T Entry)) → m ≡ 2 + n → AllFinished n xs ys ps → AllHaveOwn es seats m ps → AllRecorded n es seats xs ys
+  all_recorded n m es seats [] [] ps is all known = tt
+  all_recorded n m es seats [] (y ∷ ys) ps is all known = absurd all
+  all_recorded n m es seats (x ∷ xs) [] ps is all known = absurd all
+  all_recorded n m es seats (x ∷ xs) (y ∷ ys) [] is all known = absurd all
+  all_recorded n m es seats (x ∷ xs) (y ∷ ys) (p ∷ ps) is all known =
+      (records_calls n es seats x y p all.0 (subst (λ (k : ℕ). HasOwn es seats k p) is known.0), all_recorded (n + 1) (m + 1) es seats xs ys ps (omega (arith, is)) all.1 known.1)
 
-pub ticker_tells : (turns : ℕ) (es : List Event) (seats : List ℕ) (x y : ClockSeen) (own : List Entry) → HasTicked turns x y own → behind_of 1 0 es seats ≡ behinds_in own → TellsSweeps turns es seats x y
-ticker_tells turns es seats x y own h told = record { sweeps = h.sweeps; many = h.many; gave = h.gave; events = told ∙ (ap behinds_in h.own_is ∙ sweeps_told h.sweeps) }
+pub ticker_records : (turns : ℕ) (es : List Event) (seats : List ℕ) (x y : ClockSeen) (own : List Entry) → HasTicked turns x y own → behind_of 1 0 es seats ≡ behinds_in own → RecordsSweeps turns es seats x y
+ticker_records turns es seats x y own h known = record { sweeps = h.sweeps; many = h.many; gave = h.gave; events = known ∙ (ap behinds_in h.own_is ∙ sweeps_recorded h.sweeps) }

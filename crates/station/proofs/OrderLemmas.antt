@@ -116,15 +116,15 @@ load_done d o start text v w u is h read = if_map o (λ files has. of files (loa
     one : HasOrdered (Load text ∷ []) v w
     one = ordered_more v w (Load text) h
 
-    told : {A : Type 0} (d : Result A Stop) (files : List StoredFile) (fs : List Filed) → Orders d (rereads files (map in_force fs)) w u → Does (taken_of d) (load_taken files text (Ok fs)) v u
-    told (Ok x) files fs has = (ordered_then (Load text ∷ []) (rereads files (map in_force fs)) v w u one has, refl)
-    told (Err s) files fs has = stopped_then s (Load text ∷ []) (rereads files (map in_force fs)) v w u one has
+    known : {A : Type 0} (d : Result A Stop) (files : List StoredFile) (fs : List Filed) → Orders d (rereads files (map in_force fs)) w u → Does (taken_of d) (load_taken files text (Ok fs)) v u
+    known (Ok x) files fs has = (ordered_then (Load text ∷ []) (rereads files (map in_force fs)) v w u one has, refl)
+    known (Err s) files fs has = stopped_then s (Load text ∷ []) (rereads files (map in_force fs)) v w u one has
 
     of : (files : List StoredFile) (r : Result (List Filed) ConfFault) → None ≡ load_fault r → loaded (jobs_known start v) text ≡ r → Orders d (rereads files (jobs_known start w)) w u → Does (taken_of d) (load_taken files text r) v u
     of files (Err f) none at has = absurd (cc)
     of files (Ok fs) none at has =
         let jobs : jobs_known start w ≡ map in_force fs = known_after start (Load text ∷ []) v w one ∙ ap (λ (r : Result (List Filed) ConfFault). or_else (after_load r) (jobs_known start v)) at in
-        told d files fs (subst (λ js. Orders d (rereads files js) w u) jobs has)
+        known d files fs (subst (λ js. Orders d (rereads files js) w u) jobs has)
 
 -- the listed files that are still to be read, the last of the list first
 popped : (files : List StoredFile) (ls ms : List Listed) (l : Listed) → ls ≡ ms ++ l ∷ [] → updates_in files (reverse ls) ≡ update_in files l ++ updates_in files (reverse ms)

@@ -15,9 +15,9 @@ use Rattle.run_lock.specs.declared.marks.Note.{Note}
 use Rattle.run_lock.specs.declared.marks.Note.TheVariants.{Before, Took, Brought, Ended, Failed}
 use Rattle.run_lock.specs.Callers.{jobs_after, jobs_known, ordered, orders_in}
 use Rattle.run_lock.specs.Entries.{entry, entries_from, entries_of, events_in, own_by, seats_in, begun_with, Adds}
-use Rattle.run_lock.proofs.EntryLemmas.{begun_brought, begun_events, own_else, own_here, told}
+use Rattle.run_lock.proofs.EntryLemmas.{begun_brought, begun_events, own_else, own_here, seat_events}
 use Rattle.scrape_machine.specs.Machine.{world_of}
-use Rattle.station.specs.Control.{Did, Ordered, entry_for, event_for, behind_for, HasDone, Came, Told, TellsControl, CallerDid, CallerTells, caller_did, control_lines, given_lines}
+use Rattle.station.specs.Control.{Did, Ordered, entry_for, event_for, behind_for, HasDone, Came, Recorded, RecordsControl, CallerDid, RecordsCaller, caller_did, control_lines, given_lines}
 use Rattle.station.specs.Crews.{Behind, behind_of, IsBehind, IsByCaller}
 use Rattle.station.specs.Ends.{run_end}
 use Rattle.station.specs.declared.ends.RunEnd.{RunEnd}
@@ -52,13 +52,13 @@ is_behind q now (mark.Ended t ∷ ms) es h = behind_none q t Ended (behind_of q 
 is_behind q now (mark.Failed t ∷ ms) es h = behind_none q t Failed (behind_of q now es (seats_in ms)) (entries_from now ms es) (λ rest k. k) (is_behind q now ms es h)
 
 -- the caller's events, where the journal ends with the halt
-pub caller_told : (es : List Event) (ms : List Mark) (log own : List Entry) (now : ℕ) → length (seats_in ms) ≡ length es → Adds log 0 (Brought now (Halt (pos now))) (entries_of es ms) → own_by 0 log ≡ own → IsByCaller es (seats_in ms) own
-caller_told es ms log own now len adds is =
+pub caller_recorded : (es : List Event) (ms : List Mark) (log own : List Entry) (now : ℕ) → length (seats_in ms) ≡ length es → Adds log 0 (Brought now (Halt (pos now))) (entries_of es ms) → own_by 0 log ≡ own → IsByCaller es (seats_in ms) own
+caller_recorded es ms log own now len adds is =
     let halt = entry 0 (Brought now (Halt (pos now))) in
     let mine : own_by 0 (entries_of es ms) ≡ own ++ halt ∷ [] = ap (own_by 0) adds ∙ (own_here log 0 0 (Brought now (Halt (pos now))) refl ∙ ap (λ (xs : List Entry). xs ++ halt ∷ []) is) in
     record {
       halted = now;
-      events = told 0 0 ms es (sym len) ∙ (ap events_in mine ∙ events_join own (halt ∷ []));
+      events = seat_events 0 0 ms es (sym len) ∙ (ap events_in mine ∙ events_join own (halt ∷ []));
       behind = subst (λ (xs : List Entry). IsBehind xs (behind_of 0 0 es (seats_in ms))) mine (is_behind 0 0 ms es (sym len));
     }
 
@@ -126,8 +126,8 @@ carried_behind (x ∷ xs) halted [] h = absurd h
 carried_behind (x ∷ xs) halted (b ∷ bs) h = ap₂ (λ (c : Behind) (cs : List Behind). c ∷ cs) h.0 (carried_behind xs halted bs h.1)
 
 -- what the caller's events tell of what it did
-pub tells_done : (start es : List Event) (seats : List ℕ) (v w : List Entry) (d : Did) (err : Use SinkSeen) → v ≡ begun_with start → IsByCaller es seats w → HasDone d v w err → TellsControl start es seats d err
-tells_done start es seats v w d err first of done =
+pub records_done : (start es : List Event) (seats : List ℕ) (v w : List Entry) (d : Did) (err : Use SinkSeen) → v ≡ begun_with start → IsByCaller es seats w → HasDone d v w err → RecordsControl start es seats d err
+records_done start es seats v w d err first of done =
     let carried = done.orders.carried in
     let halt = entry 0 (Brought of.halted (Halt (pos of.halted))) in
     let mine : w ≡ begun_with start ++ map entry_for carried = done.orders.added ∙ ap (λ (xs : List Entry). xs ++ map entry_for carried) first in
@@ -149,20 +149,20 @@ if_some (Some x) f h = f x h
 
 pub tells_over : {S E : Type 0} (seen : S → ShelfSeen) (held : E → SinkSeen) (whole : Bool) (end result : RunEnd) (a : ShelfSeen) (b : SinkSeen) (s s' : S) (e e' : E) (control : Use SourceSeen) (start es : List Event) (seats : List ℕ) (v w : List Entry)
     → result ≡ run_end whole end → s' ≡ s → e' ≡ e → v ≡ begun_with start → (whole ≡ true → IsByCaller es seats w)
-    → CallerDid start end (used a (seen s)) control v w (used b (held e)) → CallerTells start result (used a (seen s')) control es seats (used b (held e'))
+    → CallerDid start end (used a (seen s)) control v w (used b (held e)) → RecordsCaller start result (used a (seen s')) control es seats (used b (held e'))
 tells_over {S} {E} seen held whole end result a b s s' e e' control start es seats v w is shelf err first brought done =
-    subst (λ (t : RunEnd × S × E). CallerTells start t.0 (used a (seen t.1)) control es seats (used b (held t.2))) (λ i. (sym is i, sym shelf i, sym err i)) (of whole brought)
+    subst (λ (t : RunEnd × S × E). RecordsCaller start t.0 (used a (seen t.1)) control es seats (used b (held t.2))) (λ i. (sym is i, sym shelf i, sym err i)) (of whole brought)
   where
     jobs : jobs_known start v ≡ (world_of start).jobs
     jobs = ap (jobs_after (world_of start).jobs) (ap ordered first ∙ ap orders_in (begun_brought start))
 
     tells : (files : List StoredFile) (bytes : List ℕ) → IsByCaller es seats w
         → Came end (used a (seen s)) (caller_did files (jobs_known start v) (control_lines bytes)) (caller_did files (jobs_known start v) (given_lines control bytes)) v w (used b (held e))
-        → Told end (used a (seen s)) (caller_did files (world_of start).jobs (control_lines bytes)) (caller_did files (world_of start).jobs (given_lines control bytes)) start es seats (used b (held e))
+        → Recorded end (used a (seen s)) (caller_did files (world_of start).jobs (control_lines bytes)) (caller_did files (world_of start).jobs (given_lines control bytes)) start es seats (used b (held e))
     tells files bytes of was =
         let came = subst (λ js. Came end (used a (seen s)) (caller_did files js (control_lines bytes)) (caller_did files js (given_lines control bytes)) v w (used b (held e))) jobs was in
-        record { what = came.what; fits = came.fits; tells = tells_done start es seats v w came.what (used b (held e)) first of came.done }
+        record { what = came.what; fits = came.fits; records = records_done start es seats v w came.what (used b (held e)) first of came.done }
 
-    of : (x : Bool) → (x ≡ true → IsByCaller es seats w) → CallerTells start (run_end x end) (used a (seen s)) control es seats (used b (held e))
+    of : (x : Bool) → (x ≡ true → IsByCaller es seats w) → RecordsCaller start (run_end x end) (used a (seen s)) control es seats (used b (held e))
     of true own more = if_some a.files (λ files h. if_some control.before.left (λ bytes g. tells files bytes (own refl) g) h) (done more)
     of false own more = absurd (more refl)

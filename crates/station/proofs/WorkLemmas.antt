@@ -11,7 +11,7 @@ use Rattle.outside.specs.declared.replies.Reply.TheVariants.{Body, Quoted, Lost,
 use Rattle.outside.specs.declared.requests.Fetched.{Fetched}
 use Rattle.outside.specs.declared.requests.Request.{Request}
 use Rattle.outside.specs.Clocks.{ClockSeen, Reads, next_reading, later_readings}
-use Rattle.outside.specs.Fetches.{FetchSeen, Tells, CountsReply, call}
+use Rattle.outside.specs.Fetches.{FetchSeen, AddsCall, CountsReply, call}
 use Rattle.outside.specs.Objects.{used, Use}
 use Rattle.run_lock.specs.declared.marks.Entry.{Entry}
 use Rattle.journal_text.specs.Events.{now_after}
@@ -62,7 +62,7 @@ asked_push es (b ∷ given) a was h = (was.0, asked_push es given a was.1 h)
 request_prefix : (xs ys : List Entry) (k : ℕ) (r : Request) → IsPrefix xs ys → request (events_in xs) k ≡ Some r → IsRequestIn (events_in ys) k r
 request_prefix xs ys k r h is = (events_in xs, events_in h.0, sym (ap events_in h.1) ∙ events_join xs h.0, is)
 
--- a fetch told its call, and its count didn't fall
+-- a fetch added its call, and its count didn't fall
 pub counts_rise : (r : Reply) (u : Use FetchSeen) → CountsReply r u → u.before.faults ≤ u.after.faults
 counts_rise (Body status bytes) u h = omega (arith, h)
 counts_rise (Quoted status bytes) u h = omega (arith, h)
@@ -74,8 +74,8 @@ counts_rise Oversize u h = omega (arith, h)
 some_is : {A : Type 0} (a b : A) → Some a ≡ Some b → a ≡ b
 some_is a b h = cc
 
-called_more : (more : List Answered) (x y z : FetchSeen) (k now : ℕ) (r : Request) (f : Fetched) → Called more x y → Tells r f (used y z) → y.faults ≤ z.faults → Called (more ++ answered k (call r f) now ∷ []) x z
-called_more more x y z k now r f was tells counts = record { told = of x.calls was.told; counts = omega (arith, was.counts, counts) }
+called_more : (more : List Answered) (x y z : FetchSeen) (k now : ℕ) (r : Request) (f : Fetched) → Called more x y → AddsCall r f (used y z) → y.faults ≤ z.faults → Called (more ++ answered k (call r f) now ∷ []) x z
+called_more more x y z k now r f was tells counts = record { calls = of x.calls was.calls; counts = omega (arith, was.counts, counts) }
   where
     last : (had : List Call) (o : Option (List Call)) → o ≡ Some (had ++ map (λ (a : Answered). a.call) more) → IfSome o (λ cs. z.calls ≡ Some (cs ++ call r f ∷ [])) →
         z.calls ≡ Some (had ++ map (λ (a : Answered). a.call) (more ++ answered k (call r f) now ∷ []))
@@ -92,7 +92,7 @@ called_more more x y z k now r f was tells counts = record { told = of x.calls w
 module _ {T : Type 0} where
   -- before the first call
   pub worked_none : (place : ℕ) (x : FetchSeen) (p : Pass T Entry) → own_of p ≡ [] → HasWorked place x x p
-  worked_none place x p is = record { more = []; called = record { told = of x.calls; counts = omega arith }; asked = tt; own = is }
+  worked_none place x p is = record { more = []; called = record { calls = of x.calls; counts = omega arith }; asked = tt; own = is }
     where
       of : (o : Option (List Call)) → IfSome o (λ had. o ≡ Some (had ++ []))
       of None = tt
@@ -109,7 +109,7 @@ module _ {T : Type 0} where
   -- and brings its finish
   pub worked_more : (place k now : ℕ) (r : Request) (f : Fetched) (x y z : FetchSeen) (p q s : Pass T Entry) → HasWorked place x y p → IsPrefix (seen_by p) (seen_by q) → request (events_in (seen_by q)) k ≡ Some r
       → Adds (own_of p) (2 + place) (Took k) (own_of q) → IsPrefix (seen_by q) (seen_by s) → Adds (own_of q) (2 + place) (Brought now (finish_with k f)) (own_of s)
-      → Tells r f (used y z) → y.faults ≤ z.faults → HasWorked place x z s
+      → AddsCall r f (used y z) → y.faults ≤ z.faults → HasWorked place x z s
   worked_more place k now r f x y z p q s was first asked took second brought tells counts =
       let a = answered k (call r f) now in record {
         more = was.more ++ a ∷ [];
@@ -162,9 +162,9 @@ sweep_count [] = refl
 sweep_count (x ∷ xs) = ap (λ (n : ℕ). suc n) (sweep_count xs)
 
 -- what the workers tell: the events among their entries are the finishes of their calls
-pub finishes_told : (place : ℕ) (more : List Answered) → events_in (entries_for place more ++ entry (2 + place) Ended ∷ []) ≡ map finish_of more
-finishes_told place [] = refl
-finishes_told place (a ∷ more) = ap (λ (es : List Event). finish_of a ∷ es) (finishes_told place more)
+pub finishes_recorded : (place : ℕ) (more : List Answered) → events_in (entries_for place more ++ entry (2 + place) Ended ∷ []) ≡ map finish_of more
+finishes_recorded place [] = refl
+finishes_recorded place (a ∷ more) = ap (λ (es : List Event). finish_of a ∷ es) (finishes_recorded place more)
 
 -- the events of a seat with the last moment before each, by its entries
 behind_more : (q s now : ℕ) (d : Event) (us : List Behind) (es : List Entry) → us ≡ behinds_in (own_by q es) → cond (s == q) (record { last = now; event = d } ∷ us) us ≡ behinds_in (own_by q (entry s (Brought now d) ∷ es))
@@ -193,6 +193,6 @@ behind_told q now (mark.Brought t ∷ ms) (d ∷ es) some h = behind_more q t no
 behind_told q now (mark.Ended t ∷ ms) es some h = behind_less q t Ended (behind_of q now es (seats_in ms)) (entries_from now ms es) refl (behind_told q now ms es some h)
 behind_told q now (mark.Failed t ∷ ms) es some h = behind_less q t Failed (behind_of q now es (seats_in ms)) (entries_from now ms es) refl (behind_told q now ms es some h)
 
-pub sweeps_told : (xs : List Swept) → behinds_in (sweeps_for xs) ≡ map sweep_of xs
-sweeps_told [] = refl
-sweeps_told (x ∷ xs) = ap (λ (bs : List Behind). sweep_of x ∷ bs) (sweeps_told xs)
+pub sweeps_recorded : (xs : List Swept) → behinds_in (sweeps_for xs) ≡ map sweep_of xs
+sweeps_recorded [] = refl
+sweeps_recorded (x ∷ xs) = ap (λ (bs : List Behind). sweep_of x ∷ bs) (sweeps_recorded xs)

@@ -234,18 +234,18 @@ pub record Came (end : RunEnd) (shelf : Use ShelfSeen) (whole given : Did) (v w 
   pub fits : Fits end shelf whole given what
   pub done : HasDone what v w err
 
--- where memory didn't run out, the shelf tells its files and control what it has
-abbrev pub WhereTold : RunEnd → Use ShelfSeen → Use SourceSeen → (List StoredFile → List ℕ → Type 0) → Type 0
-WhereTold end shelf control P = end ≢ NoMemory → IfSome shelf.before.files (λ files. IfSome control.before.left (P files))
+-- where memory didn't run out, it is known what files the shelf has, and what control has
+abbrev pub WhereKnown : RunEnd → Use ShelfSeen → Use SourceSeen → (List StoredFile → List ℕ → Type 0) → Type 0
+WhereKnown end shelf control P = end ≢ NoMemory → IfSome shelf.before.files (λ files. IfSome control.before.left (P files))
 
 -- what the reading of control did, and what the caller did in all
 abbrev pub ControlDid : List Event → RunEnd → Use ShelfSeen → Use SourceSeen → List Entry → List Entry → Use SinkSeen → Type 0
-ControlDid start end shelf control v w err = WhereTold end shelf control (λ files bytes.
+ControlDid start end shelf control v w err = WhereKnown end shelf control (λ files bytes.
     let doing = lines_did files (jobs_known start v) 1 in
     Came end shelf (doing (control_lines bytes)) (doing (given_lines control bytes)) v w err)
 
 abbrev pub CallerDid : List Event → RunEnd → Use ShelfSeen → Use SourceSeen → List Entry → List Entry → Use SinkSeen → Type 0
-CallerDid start end shelf control v w err = WhereTold end shelf control (λ files bytes.
+CallerDid start end shelf control v w err = WhereKnown end shelf control (λ files bytes.
     let doing = caller_did files (jobs_known start v) in
     Came end shelf (doing (control_lines bytes)) (doing (given_lines control bytes)) v w err)
 
@@ -258,7 +258,7 @@ behind_for o = record { last = o.last; event = event_for o }
 
 -- the events of the caller's seat are those that came before the run, what it ordered, each at the moment of the event before, and the halt at the
 -- last moment; nothing else; and it said what it had to say
-pub record TellsControl (start es : List Event) (seats : List ℕ) (d : Did) (err : Use SinkSeen) : Type 0 where
+pub record RecordsControl (start es : List Event) (seats : List ℕ) (d : Did) (err : Use SinkSeen) : Type 0 where
   pub carried : List Ordered
   pub halted : ℕ
   pub orders : map order_of carried ≡ d.orders
@@ -266,12 +266,12 @@ pub record TellsControl (start es : List Event) (seats : List ℕ) (d : Did) (er
   pub moments : drop (length start) (behind_of 0 0 es seats) ≡ map behind_for carried ++ record { last = halted; event = Halt (pos halted) } ∷ []
   pub said : Adds d.said err
 
-pub record Told (end : RunEnd) (shelf : Use ShelfSeen) (whole given : Did) (start es : List Event) (seats : List ℕ) (err : Use SinkSeen) : Type 0 where
+pub record Recorded (end : RunEnd) (shelf : Use ShelfSeen) (whole given : Did) (start es : List Event) (seats : List ℕ) (err : Use SinkSeen) : Type 0 where
   pub what : Did
   pub fits : Fits end shelf whole given what
-  pub tells : TellsControl start es seats what err
+  pub records : RecordsControl start es seats what err
 
-abbrev pub CallerTells : List Event → RunEnd → Use ShelfSeen → Use SourceSeen → List Event → List ℕ → Use SinkSeen → Type 0
-CallerTells start end shelf control es seats err = WhereTold end shelf control (λ files bytes.
+abbrev pub RecordsCaller : List Event → RunEnd → Use ShelfSeen → Use SourceSeen → List Event → List ℕ → Use SinkSeen → Type 0
+RecordsCaller start end shelf control es seats err = WhereKnown end shelf control (λ files bytes.
     let doing = caller_did files (world_of start).jobs in
-    Told end shelf (doing (control_lines bytes)) (doing (given_lines control bytes)) start es seats err)
+    Recorded end shelf (doing (control_lines bytes)) (doing (given_lines control bytes)) start es seats err)

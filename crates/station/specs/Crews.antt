@@ -36,9 +36,9 @@ abbrev pub entries_for : ℕ → List Answered → List Entry
 entries_for place [] = []
 entries_for place (a ∷ more) = entry (2 + place) (Took a.ticket) ∷ entry (2 + place) (Brought a.last (finish_of a)) ∷ entries_for place more
 
--- where a fetcher told its calls, it tells these further ones now; its count didn't fall
+-- where the calls of a fetcher were known, these further ones are known now; its count didn't fall
 pub record Called (more : List Answered) (earlier later : FetchSeen) : Type 0 where
-  pub told : IfSome earlier.calls (λ had. later.calls ≡ Some (had ++ map (λ (a : Answered). a.call) more))
+  pub calls : IfSome earlier.calls (λ had. later.calls ≡ Some (had ++ map (λ (a : Answered). a.call) more))
   pub counts : earlier.faults ≤ later.faults
 
 -- a ticket's request, as a front of these events has it
@@ -50,7 +50,7 @@ abbrev pub AreAsked : List Event → List Answered → Type 0
 AreAsked es [] = Unit {0}
 AreAsked es (a ∷ more) = IsRequestIn es a.ticket a.call.request × AreAsked es more
 
--- the fetcher was called further, with the requests of its tickets, and the worker's entries tell just these calls
+-- the fetcher was called further, with the requests of its tickets, and the worker's entries are of just these calls
 pub record HasWorked {T : Type 0} (place : ℕ) (earlier later : FetchSeen) (pass : Pass T Entry) : Type 0 where
   pub more : List Answered
   pub called : Called more earlier later
@@ -73,7 +73,7 @@ abbrev pub sweeps_for : List Swept → List Entry
 sweeps_for [] = []
 sweeps_for (s ∷ more) = entry 1 (sweep_brought s.reading s.last) ∷ sweeps_for more
 
--- the clock gave the readings of these sweeps, one after another, where it told what it gives
+-- the clock gave the readings of these sweeps, one after another, where it is known what it gives
 abbrev pub GaveReadings : List Swept → List ℤ → Option (List ℤ) → Type 0
 GaveReadings [] readings after = after ≡ Some readings
 GaveReadings (s ∷ more) readings after = (s.reading ≡ next_reading readings) × GaveReadings more (later_readings readings) after
@@ -93,16 +93,16 @@ AllFinished n _ _ _ = ⊥
 
 -- the events of worker number `place` are the finishes with what its fetcher brought in this run, in their order, each for a call with the request
 -- of its ticket
-pub record TellsCalls (place : ℕ) (es : List Event) (seats : List ℕ) (earlier later : FetchSeen) : Type 0 where
+pub record RecordsCalls (place : ℕ) (es : List Event) (seats : List ℕ) (earlier later : FetchSeen) : Type 0 where
   pub more : List Answered
   pub called : Called more earlier later
   pub asked : AreAsked es more
   pub events : events_of (2 + place) es seats ≡ map finish_of more
 
-abbrev pub AllTell : ℕ → List Event → List ℕ → List FetchSeen → List FetchSeen → Type 0
-AllTell n es seats [] [] = Unit {0}
-AllTell n es seats (x ∷ xs) (y ∷ ys) = TellsCalls n es seats x y × AllTell (n + 1) es seats xs ys
-AllTell n es seats _ _ = ⊥
+abbrev pub AllRecorded : ℕ → List Event → List ℕ → List FetchSeen → List FetchSeen → Type 0
+AllRecorded n es seats [] [] = Unit {0}
+AllRecorded n es seats (x ∷ xs) (y ∷ ys) = RecordsCalls n es seats x y × AllRecorded (n + 1) es seats xs ys
+AllRecorded n es seats _ _ = ⊥
 
 -- the events of a seat, each with the last moment before it
 pub record Behind : Type 0 where
@@ -132,7 +132,7 @@ abbrev pub sweep_of : Swept → Behind
 sweep_of s = record { last = s.last; event = Sweep (sweep_moment s.reading s.last) }
 
 -- the ticker brought just so many sweeps, each at the greater of the clock's next reading and the moment before
-pub record TellsSweeps (turns : ℕ) (es : List Event) (seats : List ℕ) (earlier later : ClockSeen) : Type 0 where
+pub record RecordsSweeps (turns : ℕ) (es : List Event) (seats : List ℕ) (earlier later : ClockSeen) : Type 0 where
   pub sweeps : List Swept
   pub many : length sweeps ≡ turns
   pub gave : IfSome earlier.readings (λ readings. GaveReadings sweeps readings later.readings)
@@ -164,10 +164,10 @@ FirstEnded [] = ⊥
 FirstEnded (p ∷ ps) = any_end (own_of p) ≡ true
 
 -- a closed journal begins with the events that the pass of seat n had seen, and the events of that seat are those among the pass's own entries
-pub record IsTold {T : Type 0} (es : List Event) (seats : List ℕ) (n : ℕ) (pass : Pass T Entry) : Type 0 where
+pub record HasOwn {T : Type 0} (es : List Event) (seats : List ℕ) (n : ℕ) (pass : Pass T Entry) : Type 0 where
   pub seen : BeginsWith (events_in (seen_by pass)) es
   pub events : events_of n es seats ≡ events_in (own_of pass)
 
-abbrev pub AllTold : {T : Type 0} → List Event → List ℕ → ℕ → List (Pass T Entry) → Type 0
-AllTold es seats n [] = Unit {0}
-AllTold es seats n (p ∷ ps) = IsTold es seats n p × AllTold es seats (n + 1) ps
+abbrev pub AllHaveOwn : {T : Type 0} → List Event → List ℕ → ℕ → List (Pass T Entry) → Type 0
+AllHaveOwn es seats n [] = Unit {0}
+AllHaveOwn es seats n (p ∷ ps) = HasOwn es seats n p × AllHaveOwn es seats (n + 1) ps

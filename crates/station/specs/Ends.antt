@@ -38,7 +38,7 @@ OneFailed shelf control =
     (Rose shelf.before.faults shelf.after.faults × IsSame control.before.faults control.after.faults)
     ⊎ (IsSame shelf.before.faults shelf.after.faults × Rose control.before.faults control.after.faults)
 
--- where the input told what it had, nothing of it is left
+-- where it is known what the input had, nothing of it is left
 abbrev pub IsEmptied : Use SourceSeen → Type 0
 IsEmptied u = IfSome u.before.left (λ had. u.after.left ≡ Some [])
 

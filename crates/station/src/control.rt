@@ -101,7 +101,7 @@ fn end_of(stop: Stop) -> RunEnd
     }
 }
 
-/// How the loop ends after a piece, if it does: where the input is too long, a read fault is not told.
+/// How the loop ends after a piece, if it does: where the input is too long, a read fault is not reported.
 fn end_after(done: Result<(), Stop>, too_long: bool) -> Option<RunEnd>
     ensures { result ≡ spec.end_after done too_long }
 {

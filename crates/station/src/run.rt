@@ -6,8 +6,8 @@ ghost use Rattle.run_lock.specs.Callers.{BeginsWith};
 ghost use Rattle.run_lock.specs.Entries.{begun_with, seats_in};
 ghost use Rattle.run_lock.specs.Seats.{AreFresh, AreOwn, IsOwn};
 ghost use Rattle.scrape_core.specs.Records.{IsFresh, IsWhole};
-ghost use Rattle.station.specs.Control.{CallerTells};
-ghost use Rattle.station.specs.Crews.{AllFinished, AllTell, AllTold, FirstEnded, HasTicked, IsByCaller, TellsSweeps, behind_of, behinds_in};
+ghost use Rattle.station.specs.Control.{RecordsCaller};
+ghost use Rattle.station.specs.Crews.{AllFinished, AllRecorded, AllHaveOwn, FirstEnded, HasTicked, IsByCaller, RecordsSweeps, behind_of, behinds_in};
 ghost use Rattle.station.specs.Ends as spec;
 ghost use Rattle.station.specs.Ends.{ShelfWent, SinkWent, SourceWent, EndsSo};
 ghost use Rattle.turn_lock.specs.Passes.{made_of, own_of};
@@ -132,7 +132,7 @@ fn close_run<L: Ledger, B: Asked>(
     ensures caller { result.whole ≡ true → IsByCaller result.core (seats_in result.marks.items) (own_of caller) }
     ensures known { result.whole ≡ true → All (λ q. q < 2 + vec_len workers) (seats_in result.marks.items) }
     ensures ticker { result.whole ≡ true → behind_of 1 0 result.core (seats_in result.marks.items) ≡ behinds_in (own_of ticker) }
-    ensures told { result.whole ≡ true → AllTold result.core (seats_in result.marks.items) 2 workers.items }
+    ensures own { result.whole ≡ true → AllHaveOwn result.core (seats_in result.marks.items) 2 workers.items }
 {
     let passes = all_passes(caller, ticker, workers);
     let state = lock.close(passes);
@@ -191,15 +191,15 @@ fn run_with<
     ensures seats { length result.seats ≡ length result.core }
     ensures known { result.end ≢ RunEnd.NoMemory → All (λ q. q < 2 + vec_len fetchers) result.seats }
     ensures back { IsTrue (is_some result.control) × IsTrue (is_some result.clock) × (vec_len result.fetchers ≡ vec_len fetchers) }
-    ensures workers { result.end ≢ RunEnd.NoMemory → AllTell 0 result.core result.seats (map F.seen fetchers.items) (map F.seen result.fetchers.items) }
-    ensures sweeps { result.end ≢ RunEnd.NoMemory → IfSome result.clock (λ k. TellsSweeps turns result.core result.seats (K.seen clock) (K.seen k)) }
+    ensures workers { result.end ≢ RunEnd.NoMemory → AllRecorded 0 result.core result.seats (map F.seen fetchers.items) (map F.seen result.fetchers.items) }
+    ensures sweeps { result.end ≢ RunEnd.NoMemory → IfSome result.clock (λ k. RecordsSweeps turns result.core result.seats (K.seen clock) (K.seen k)) }
     ensures shelf { ShelfWent (used (S.seen shelf.old) (S.seen shelf.new)) }
     ensures err { SinkWent (used (E.seen err.old) (E.seen err.new)) }
     ensures control { IfSome result.control (λ c. SourceWent (used (C.seen control) (C.seen c))) }
     ensures ends { IfSome result.control (λ c. EndsSo result.end (used (S.seen shelf.old) (S.seen shelf.new))
         (used (E.seen err.old) (E.seen err.new)) (used (C.seen control) (C.seen c))) }
     ensures begins { BeginsWith core result.core }
-    ensures caller { IfSome result.control (λ c. CallerTells core result.end (used (S.seen shelf.old) (S.seen shelf.new))
+    ensures caller { IfSome result.control (λ c. RecordsCaller core result.end (used (S.seen shelf.old) (S.seen shelf.new))
         (used (C.seen control) (C.seen c)) result.core result.seats (used (E.seen err.old) (E.seen err.new))) }
 {
     let Opened {
@@ -321,15 +321,15 @@ pub fn run_station<
     ensures seats { length result.seats ≡ length result.core }
     ensures known { result.end ≢ RunEnd.NoMemory → All (λ q. q < 2 + vec_len fetchers) result.seats }
     ensures back { IsTrue (is_some result.control) × IsTrue (is_some result.clock) × (vec_len result.fetchers ≡ vec_len fetchers) }
-    ensures workers { result.end ≢ RunEnd.NoMemory → AllTell 0 result.core result.seats (map F.seen fetchers.items) (map F.seen result.fetchers.items) }
-    ensures sweeps { result.end ≢ RunEnd.NoMemory → IfSome result.clock (λ k. TellsSweeps turns result.core result.seats (K.seen clock) (K.seen k)) }
+    ensures workers { result.end ≢ RunEnd.NoMemory → AllRecorded 0 result.core result.seats (map F.seen fetchers.items) (map F.seen result.fetchers.items) }
+    ensures sweeps { result.end ≢ RunEnd.NoMemory → IfSome result.clock (λ k. RecordsSweeps turns result.core result.seats (K.seen clock) (K.seen k)) }
     ensures shelf { ShelfWent (used (S.seen shelf.old) (S.seen shelf.new)) }
     ensures err { SinkWent (used (E.seen err.old) (E.seen err.new)) }
     ensures control { IfSome result.control (λ c. SourceWent (used (C.seen control) (C.seen c))) }
     ensures ends { IfSome result.control (λ c. EndsSo result.end (used (S.seen shelf.old) (S.seen shelf.new))
         (used (E.seen err.old) (E.seen err.new)) (used (C.seen control) (C.seen c))) }
     ensures begins { BeginsWith core result.core }
-    ensures caller { IfSome result.control (λ c. CallerTells core result.end (used (S.seen shelf.old) (S.seen shelf.new))
+    ensures caller { IfSome result.control (λ c. RecordsCaller core result.end (used (S.seen shelf.old) (S.seen shelf.new))
         (used (C.seen control) (C.seen c)) result.core result.seats (used (E.seen err.old) (E.seen err.new))) }
 {
     run_with::<Brand, Brand, W, S, E, C, K, F>(

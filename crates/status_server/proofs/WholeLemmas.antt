@@ -11,17 +11,17 @@ use Rattle.status_server.specs.Steps.{site}
 use Rattle.status_server.proofs.ConnectionLemmas.{closed-append}
 
 -- by what the source told before, and tells now
-told : (es : List Event) (x : Site) (bytes replies : List ℕ) (loads : List Event) (before after : Option (List ℕ)) → Gives bytes before after →
+known : (es : List Event) (x : Site) (bytes replies : List ℕ) (loads : List Event) (before after : Option (List ℕ)) → Gives bytes before after →
     IsClosed es x (take 1048576 bytes) replies loads → IfSome before (λ had. IsServed es x had replies loads)
-told es x bytes replies loads None after g c = tt
-told es x bytes replies loads (Some had) after (rest, is, whole) c =
+known es x bytes replies loads None after g c = tt
+known es x bytes replies loads (Some had) after (rest, is, whole) c =
     let front : take 1048576 bytes ++ (drop 1048576 bytes ++ rest) ≡ had = sym (append_assoc (take 1048576 bytes) (drop 1048576 bytes) rest) ∙ (ap (λ t. t ++ rest) (take-append-drop 1048576 bytes) ∙ sym whole) in
     inr (subst (λ t. IsClosed es x t replies loads) front (closed-append es x (take 1048576 bytes) replies (drop 1048576 bytes ++ rest) loads c))
 
-told-open : (es : List Event) (x : Site) (bytes replies : List ℕ) (loads : List Event) (before after : Option (List ℕ)) → Gives bytes before after → IfSome before (λ had. after ≡ Some []) →
+known-open : (es : List Event) (x : Site) (bytes replies : List ℕ) (loads : List Event) (before after : Option (List ℕ)) → Gives bytes before after → IfSome before (λ had. after ≡ Some []) →
     IsOpen es x bytes replies loads → IfSome before (λ had. IsServed es x had replies loads)
-told-open es x bytes replies loads None after g e o = tt
-told-open es x bytes replies loads (Some had) after (rest, is, whole) e o =
+known-open es x bytes replies loads None after g e o = tt
+known-open es x bytes replies loads (Some had) after (rest, is, whole) e o =
     let same : Some rest ≡ Some [] = sym is ∙ e in
     let none : rest ≡ [] = cc in
     inl (subst (λ t. IsOpen es x t replies loads) (sym (whole ∙ (ap (λ t. bytes ++ t) none ∙ append-nil bytes))) o)
@@ -33,8 +33,8 @@ serves-all es file t after s = of t.source.before.left served
     served = by s.so.0
       where
         by : IsOver es (site t.shelf.before file) s.bytes s.replies s.loads t.source → IfSome t.source.before.left (λ had. IsServed es (site t.shelf.before file) had s.replies s.loads)
-        by (inl c) = told es (site t.shelf.before file) s.bytes s.replies s.loads t.source.before.left t.source.after.left s.given.left c
-        by (inr o) = told-open es (site t.shelf.before file) s.bytes s.replies s.loads t.source.before.left t.source.after.left s.given.left o.2 o.0
+        by (inl c) = known es (site t.shelf.before file) s.bytes s.replies s.loads t.source.before.left t.source.after.left s.given.left c
+        by (inr o) = known-open es (site t.shelf.before file) s.bytes s.replies s.loads t.source.before.left t.source.after.left s.given.left o.2 o.0
 
     of : (o : Option (List ℕ)) → IfSome o (λ had. IsServed es (site t.shelf.before file) had s.replies s.loads) →
         IfSome o (λ had. IsServedWhole es (site t.shelf.before file) had t.sink after)

@@ -36,7 +36,9 @@ IsRefused text = Refuses Syntax text ⊎ (Refuses Pattern text ⊎ Refuses Bare 
 
 -- what the selectors of a query come to: none are asked for, as there is none, or one doesn't decode or is refused; or they have these parts
 abbrev pub AsksNone : List ℕ → Type 0
-AsksNone query = (selectors query ≡ None) ⊎ ((selectors query ≡ Some []) ⊎ ((texts : List (List ℕ)) × (selectors query ≡ Some texts) × Any IsRefused texts))
+AsksNone query =
+    (selectors query ≡ None)
+    ⊎ ((selectors query ≡ Some []) ⊎ ((texts : List (List ℕ)) × (selectors query ≡ Some texts) × Any IsRefused texts))
 
 abbrev pub AsksFor : List ℕ → List SelectorParts → Type 0
 AsksFor query parts = (texts : List (List ℕ)) × (selectors query ≡ Some texts) × (texts ≢ []) × AreSelectors texts parts

@@ -16,7 +16,7 @@ use Rattle.status_server.specs.declared.reloads.Reload.TheVariants.{Loaded, Abse
 use Rattle.status_server.specs.declared.replies.Status.{Status}
 use Rattle.status_server.specs.declared.replies.Status.TheVariants.{Done, Failed}
 
--- where a server finds its configuration: files, where they are told, and the name of one of them
+-- where a server finds its configuration: files, where they are known, and the name of one of them
 pub record Site : Type 0 where
   pub files : Option (List StoredFile)
   pub file : List ℕ

@@ -40,7 +40,7 @@ pub record IsSound (shelf : Use ShelfSeen) (source : Use SourceSeen) : Type 0 wh
   pub shelf_same : shelf.after.faults ≡ shelf.before.faults
   pub source_same : source.after.faults ≡ source.before.faults
 
--- where the source told what it had, nothing of it is left
+-- where it is known what the source had, nothing of it is left
 abbrev pub IsEmptied : Use SourceSeen → Type 0
 IsEmptied u = IfSome u.before.left (λ had. u.after.left ≡ Some [])
 
@@ -87,7 +87,7 @@ pub record IsServedWhole (es : List Event) (site : Site) (bytes : List ℕ) (sin
   pub put : Took replies sink
   pub journal : after ≡ es ++ loads
 
--- where a source tells what it has, a connection that was served to its end is answered by all of that
+-- where it is known what a source has, a connection that was served to its end is answered by all of that
 abbrev pub ServesAll : Type 0
 ServesAll = (es : List Event) (file : List ℕ) (t : Touched) (after : List Event) → Serves Done es file t after →
     IfSome t.source.before.left (λ had. IsServedWhole es (site t.shelf.before file) had t.sink after)

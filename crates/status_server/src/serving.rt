@@ -159,7 +159,7 @@ pub fn serve<S: Shelf, C: Source, O: Sink>(
     serve_from::<Brand, S, C, O>(alloc, Blank::new(1), start, shelf, source, sink)
 }
 
-/// The law that a connection which was served to its end is answered by all that its source had, where the source tells that. It does nothing.
+/// The law that a connection which was served to its end is answered by all that its source had, where that is known. It does nothing.
 pub fn serves_all()
     ensures { ServesAll }
 {}

@@ -44,7 +44,7 @@ fn scheme_cause(
     }
 }
 
-/// Why a label set is no target, if it isn't one. The first cause in the order of `TargetCause` is told.
+/// Why a label set is no target, if it isn't one. The first cause in the order of `TargetCause` is reported.
 ///
 /// The source is "Configuration" of the Prometheus documentation, relabel_config; the causes of a refusal are this project's.
 ///

@@ -278,7 +278,7 @@ fn page_in(alloc: Global, params: &[Param], identity: &LabelSet, base: Url) -> R
     page(base, path.as_str(), pairs.as_slice())
 }
 
-/// The request of a scrape of a target that a job keeps, told by the target's identity.
+/// The request of a scrape of a target that a job keeps, known by the target's identity.
 ///
 /// It is `None` exactly where the identity has a cause to refuse it: no `__address__`, a byte of `/ ? # @ \` in it, a `__scheme__` that
 /// is neither `http` nor `https`, or no URL that reads the scheme, `://`, the address and `/`.

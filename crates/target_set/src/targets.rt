@@ -15,7 +15,7 @@ use std::alloc::Global;
 use std::marker::Model;
 use std::sync::ledger::Ledger;
 
-/// Why a target is refused. The first cause in this order is told.
+/// Why a target is refused. The first cause in this order is reported.
 #[derive(Clone, Copy, PartialEq, Eq, Debug)]
 pub enum TargetCause {
     /// It has no `__address__`.

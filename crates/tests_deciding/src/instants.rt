@@ -70,8 +70,8 @@ fn shown(alloc: Global, rows: &[ViewRow]) -> Result<String, NoMemory> {
     let mut text = String::new(alloc);
     for row in rows {
         let value = row.value.bytes();
-        let told = format!(in alloc; "{} {} {};", row.place, row.moment, value.escape_ascii())?;
-        text.push_str(told.as_str())?;
+        let line = format!(in alloc; "{} {} {};", row.place, row.moment, value.escape_ascii())?;
+        text.push_str(line.as_str())?;
     }
     Ok(text)
 }

@@ -71,7 +71,7 @@ fn outcome(alloc: Global, job: &Job, reply: &Reply, took: i64) -> Result<Scrape,
 }
 
 /// What a reply comes to under the job, as a text.
-fn told(rt: &impl Abort, alloc: Global, reply: &Reply, took: i64) -> Result<String, NoMemory> {
+fn shown(rt: &impl Abort, alloc: Global, reply: &Reply, took: i64) -> Result<String, NoMemory> {
     let conf = conf_of(rt, alloc, FIELDS)?;
     let text = match outcome(alloc, job_in(rt, &conf), reply, took)? {
         Scrape::Good { rows, scraped } => format!(in alloc; "{} of {scraped}", rows.items.len())?,
@@ -104,12 +104,12 @@ const BODIES: &[(u16, &str, i64, &str)] = &[
 fn bodies_are_told(rt: &impl Abort, alloc: Global) -> Result<(), NoMemory> {
     for &(status, text, took, wanted) in BODIES {
         let bytes = Blob::from_slice(alloc, text.as_bytes())?;
-        let found = told(rt, alloc, &Reply::Body { status, bytes }, took)?;
+        let found = shown(rt, alloc, &Reply::Body { status, bytes }, took)?;
         are_bytes(rt, found.as_bytes(), wanted.as_bytes());
     }
     let bytes = Blob::from_slice(alloc, b"{\"a.b\",\"c.d\"=\"x\"} 1\ny 2\n")?;
     let status = 200;
-    let found = told(rt, alloc, &Reply::Quoted { status, bytes }, 10_000)?;
+    let found = shown(rt, alloc, &Reply::Quoted { status, bytes }, 10_000)?;
     are_bytes(rt, found.as_bytes(), b"1 of 2");
     Ok(())
 }
@@ -121,7 +121,7 @@ fn other_replies_are_told(rt: &impl Abort, alloc: Global) -> Result<(), NoMemory
         (Reply::Unsent, "Unsent, 0 of 0"),
         (Reply::Oversize, "Size, 0 of 0"),
     ] {
-        let found = told(rt, alloc, reply, 5)?;
+        let found = shown(rt, alloc, reply, 5)?;
         are_bytes(rt, found.as_bytes(), wanted.as_bytes());
     }
     Ok(())

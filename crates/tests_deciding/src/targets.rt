@@ -67,15 +67,15 @@ fn listed(alloc: Global, job: &Job) -> Result<TargetList, NoMemory> {
 }
 
 /// The refused targets, the kept and the dropped ones, and whether these are too many.
-fn told(alloc: Global, list: &TargetList) -> Result<String, NoMemory> {
+fn shown(alloc: Global, list: &TargetList) -> Result<String, NoMemory> {
     let mut text = String::new(alloc);
     for refused in &list.refused.items {
-        let told = format!(in alloc; "{} {:?}; ", refused.place, refused.cause)?;
-        text.push_str(told.as_str())?;
+        let shown = format!(in alloc; "{} {:?}; ", refused.place, refused.cause)?;
+        text.push_str(shown.as_str())?;
     }
     let kept = list.kept.items.len();
-    let told = format!(in alloc; "kept {kept}, dropped {}, {}", list.dropped, list.over)?;
-    text.push_str(told.as_str())?;
+    let shown = format!(in alloc; "kept {kept}, dropped {}, {}", list.dropped, list.over)?;
+    text.push_str(shown.as_str())?;
     Ok(text)
 }
 
@@ -83,7 +83,7 @@ fn listed_targets_are_told(rt: &impl Abort, alloc: Global) -> Result<(), NoMemor
     for &(fields, wanted) in ROWS {
         let conf = conf_of(rt, alloc, fields)?;
         let list = listed(alloc, job_in(rt, &conf))?;
-        are_bytes(rt, told(alloc, &list)?.as_bytes(), wanted.as_bytes());
+        are_bytes(rt, shown(alloc, &list)?.as_bytes(), wanted.as_bytes());
     }
     Ok(())
 }

@@ -24,7 +24,7 @@
 //! | `ValueText::{of_count, of_millis}`, `seconds_text` | `tracked`, `scripts` |
 //! | `write_seconds3` | `tests_running::fetches`; `checks/live` |
 //! | `read_millis`, `read_duration` | `bodies`, `fields` |
-//! | `to_number`, `number_of`, `digit_count`, `reads_the_values` | contract alone |
+//! | `to_number`, `number_of`, `digit_count`, `is_number`, `without_sign`, `reads_the_values` | contract alone |
 //! | `MemShelf`, `SureShelf`, `MemSink`, `SureSink`, `MemSource`, `SureSource` | the tests of `scrape_cli` |
 //! | `MemClock`, `MemFetch` | the tests of `scrape_cli` |
 //! | `FileShelf`, `FileSink`, `StdSink` | `checks/ends` |
@@ -34,7 +34,7 @@
 //! | `TcpLink` | `links::all_reads_together_keep_the_timeout`; `checks/live` |
 //! | `SureFetch` | `fetches::is_given`, which a test of `inputs` calls |
 //! | `is_scheme`, `scheme_of`, `scheme_text` | `targets`, `fields` |
-//! | `tell_call` | within `SureFetch::fetch` |
+//! | `note_call` | within `SureFetch::fetch` |
 #![tactic(auto)]
 
 #[cfg(test)]

@@ -45,8 +45,8 @@ fn shown(alloc: Global, body: &ReadBody) -> Result<Vec<u8>, NoMemory> {
 /// Why a text was not read, and whether its bytes came back.
 fn shown_fault(alloc: Global, text: &[u8], unread: &Unread) -> Result<Vec<u8>, NoMemory> {
     let is_back = unread.bytes.as_slice() == text;
-    let told = format!(in alloc; "{:?} {is_back}", unread.cause)?;
-    Ok(told.into_bytes())
+    let cause = format!(in alloc; "{:?} {is_back}", unread.cause)?;
+    Ok(cause.into_bytes())
 }
 
 /// A comment, blanks where they may stand, a label with an empty value, a timestamp, and a last line that no line feed

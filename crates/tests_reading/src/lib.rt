@@ -14,6 +14,7 @@
 //! | `BodyReader::{of, feed, finish}`, `Unread`, `BodyCause` | `bodies::where_a_body_is_cut_makes_no_difference` |
 //! | `BodyReader::new` | contract alone: it is `of` |
 //! | `reads_the_format`, `has_one_reading`, `plain_reads_quoted`, `raw_texts_tell` | contract alone |
+//! | `expo_reader::{faults, names, parts, texts}` | within `read_body`, `Selector::read` and `convert` |
 //! | `convert`, `OmError` | `openmetrics`; `conversions` |
 //! | `om_reader::{reads_the_format, has_one_reading, keeps_rows}` | contract alone |
 //! | `Pattern::{build, as_str, full_match, expand}`, `Matching::expand` | `patterns::whole_texts_are_matched` |

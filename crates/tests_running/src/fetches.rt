@@ -60,7 +60,7 @@ fn clock(alloc: Global, first: i64, second: i64) -> Result<MemClock, NoMemory>
 type MemHttp = HttpFetch<MemLink, MemClock>;
 
 /// What was fetched, in a word; the body is one that comes after 15 milliseconds.
-fn told(fetched: &Fetched) -> &'static str {
+fn shown(fetched: &Fetched) -> &'static str {
     match &fetched.reply {
         Reply::Body { status: 200, bytes } if bytes.as_slice() == b"x 1\n".as_slice() => "body",
         Reply::Lost => "lost",
@@ -78,7 +78,7 @@ fn is_answered(
     wanted: (i64, &str),
 ) -> Result<(), NoMemory> {
     let fetched = fetch.fetch(alloc, &request(alloc, scheme)?)?;
-    holds(rt, (fetched.took, told(&fetched)) == wanted, wanted.1);
+    holds(rt, (fetched.took, shown(&fetched)) == wanted, wanted.1);
     Ok(())
 }
 

@@ -136,7 +136,7 @@ fn bytes_of(alloc: Global, text: &str) -> Result<Vec<u8>, NoMemory> {
 }
 
 /// The word of a reply, its status, and its body.
-fn told(reply: &Reply) -> (&'static str, u16, &[u8]) {
+fn shown(reply: &Reply) -> (&'static str, u16, &[u8]) {
     match reply {
         Reply::Body { status, bytes } => ("body", *status, bytes.as_slice()),
         Reply::Quoted { status, bytes } => ("quoted", *status, bytes.as_slice()),
@@ -149,7 +149,7 @@ fn told(reply: &Reply) -> (&'static str, u16, &[u8]) {
 
 /// Ends the test where a reply isn't that of its row.
 fn is_of(rt: &impl Abort, reply: &Reply, row: Row<'_>, body: &[u8]) {
-    holds(rt, told(reply) == (row.word, row.status, body), row.reply);
+    holds(rt, shown(reply) == (row.word, row.status, body), row.reply);
 }
 
 fn reply_of_pieces(
@@ -185,8 +185,8 @@ fn received(alloc: Global, bytes: &[u8], limit: u64) -> Result<Reply, NoMemory> 
     receive(alloc, &mut link, limit.min(19))
 }
 
-/// Ends the test where a reply is told otherwise: whole, from a link, byte by byte, or in two pieces.
-fn is_told(
+/// Ends the test where a reply is another: whole, from a link, byte by byte, or in two pieces.
+fn is_so(
     rt: &impl Abort,
     alloc: Global,
     bytes: &[u8],
@@ -206,14 +206,14 @@ fn is_told(
     Ok(())
 }
 
-/// Ends the test where the reply of a row is told otherwise.
-fn row_is_told(rt: &impl Abort, alloc: Global, line: &str) -> Result<(), NoMemory> {
+/// Ends the test where the reply of a row is another.
+fn row_is_so(rt: &impl Abort, alloc: Global, line: &str) -> Result<(), NoMemory> {
     let Some(row) = row_of(line) else {
         panic!(rt; "misread: {line}");
     };
     let bytes = bytes_of(alloc, row.reply)?;
     let body = bytes_of(alloc, row.body)?;
-    is_told(rt, alloc, &bytes, row, &body)
+    is_so(rt, alloc, &bytes, row, &body)
 }
 
 /// Ends the test where a reply is whole at another byte.
@@ -247,7 +247,7 @@ fn replies_whole_and_cut_at_each_place(rt: HostRuntime) -> Result<(), Fail> {
     for rows in [REPLIES, HOSTILE] {
         for line in rows.lines() {
             if !line.is_empty() && !line.starts_with("--") {
-                row_is_told(&rt, rt.alloc(), line)?;
+                row_is_so(&rt, rt.alloc(), line)?;
             }
         }
     }

@@ -74,7 +74,8 @@ fn is_fraction(count: usize, rest: &[u8]) -> bool
     (count > 0 || more > 0) && is_exponent(&rest[more..])
 }
 
-fn is_number(bytes: &[u8]) -> bool
+/// Whether the bytes are a number with no sign.
+pub fn is_number(bytes: &[u8]) -> bool
     ensures { result ≡ spec.is_number bytes.now }
 {
     let count = digit_count(bytes);

@@ -11,6 +11,6 @@ pub mod numbers;
 pub mod texts;
 
 pub use durations::{BadDuration, read_duration};
-pub use grammar::digit_count;
+pub use grammar::{digit_count, is_number, without_sign};
 pub use numbers::{BadNumber, number_of, read_millis, to_number, write_seconds3};
 pub use texts::{BadValue, ValueError, ValueText, reads_the_values};

@@ -77,8 +77,9 @@ impl Core {
         self.take(alloc, event, steps)
     }
 
-    /// Takes the finish of a ticket after so many milliseconds, by a reply with this status whose body is read already, in its form, as `step` takes it: with the
-    /// same answer, journal and book, without reading the body once more. A finish carries no moment, so it may always follow.
+    /// Takes the finish of a ticket after so many milliseconds, by a reply with this status whose body is read already,
+    /// in its form, as `step` takes it: with the same answer, journal and book, without reading the body once more. A
+    /// finish carries no moment, so it may always follow.
     /// Where memory runs out, the body is dropped and the core is as before.
     pub fn finish_read<L: Ledger>(
         &mut self,
@@ -105,7 +106,8 @@ impl Core {
         ensures apart { ApartLaw self.old (finish_with ticket took body.form status body.bytes) }
         ensures runs { (other : List Event) → ApartRunsLaw self.new other }
         ensures reload { ReloadLaw self.old (finish_with ticket took body.form status body.bytes) }
-        ensures steps { OnOk result (steps.new ≡ steps.old + relabelling.runs (spec.world_of self.old) (finish_with ticket took body.form status body.bytes)) }
+        ensures steps { OnOk result (steps.new ≡
+            steps.old + relabelling.runs (spec.world_of self.old) (finish_with ticket took body.form status body.bytes)) }
         ensures at_least { steps.old ≤ steps.new }
         ensures at_most { steps.new ≤ steps.old + relabelling.runs (spec.world_of self.old) (finish_with ticket took body.form status body.bytes) }
     {

@@ -54,7 +54,12 @@ fn shown(alloc: Global, request: &Request) -> Result<String, AllocError> {
 }
 
 /// The request of an identity under the job of settings, or `none`.
-fn told(rt: &impl Abort, alloc: Global, fields: &str, labels: &str) -> Result<String, NoMemory> {
+fn request_shown(
+    rt: &impl Abort,
+    alloc: Global,
+    fields: &str,
+    labels: &str,
+) -> Result<String, NoMemory> {
     let conf = conf_of(rt, alloc, fields)?;
     let identity = set_of(alloc, labels)?;
     match request_of(alloc, &job_in(rt, &conf).conf, &identity)? {
@@ -70,7 +75,7 @@ pub(crate) fn requests_are_made_of_identities(
     for row in ROWS.split(";\n") {
         let (fields, rest) = row.split_once('|').unwrap_or((row, ""));
         let (labels, wanted) = rest.split_once('|').unwrap_or((rest, ""));
-        let text = told(rt, alloc, fields, labels.trim())?;
+        let text = request_shown(rt, alloc, fields, labels.trim())?;
         are_bytes(rt, text.as_bytes(), wanted.trim().as_bytes());
     }
     Ok(())

@@ -8,5 +8,5 @@ abbrev pub invariant-loop-value : goal.invariant-loop-value
 invariant-loop-value l =
     record {
       counted : l.index ≡ l.value-index;
-      told : best l.found (item_faults l.place l.index (items_view (drop l.value-index l.values))) ≡ best l.fn.found (item_faults l.place 0 (items_view l.values));
+      reported : best l.found (item_faults l.place l.index (items_view (drop l.value-index l.values))) ≡ best l.fn.found (item_faults l.place 0 (items_view l.values));
     }

@@ -3,7 +3,7 @@ use Rattle.http_fetch.specs.declared.stages.Stage.{Stage}
 use Rattle.http_fetch.specs.declared.stages.Stage.TheVariants.{Heads}
 use Rattle.http_fetch.specs.Steps.{Steps}
 use Rattle.http_fetch.proofs.StepLemmas.{head-step, head-never}
-use Rattle.http_fetch.specs.Kinds.{Tells}
+use Rattle.http_fetch.specs.Kinds.{StageKind}
 use Rattle.http_fetch.proofs.KindLemmas.{head-kind}
 use Rattle.http_fetch.proofs.stages.head_step.Goals as goal
 
@@ -17,7 +17,7 @@ returns-in-Never-clause-leads c = rw (c.lost.ensures.next, c.lost.ensures.used) 
 
 pub returns-in-Found-clause-kind : goal.returns-in-Found-clause-kind
 returns-in-Found-clause-kind c =
-    subst (λ (n : Stage). Tells n c.in-Found.kind c.args.left c.args.text.now (drop c.in-Found.len c.args.text.now)) (sym c.after_head.ensures)
+    subst (λ (n : Stage). StageKind n c.in-Found.kind c.args.left c.args.text.now (drop c.in-Found.len c.args.text.now)) (sym c.after_head.ensures)
     (head-kind c.args.text.now c.in-Found.status c.in-Found.len c.in-Found.framing c.in-Found.kind c.args.limit c.args.left c.in-Found.ensures)
 
 pub returns-in-Never-clause-kind : goal.returns-in-Never-clause-kind

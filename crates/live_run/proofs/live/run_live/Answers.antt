@@ -3,7 +3,7 @@ use Rattle.std.proofs.lemmas.List.{length-map}
 use Rattle.journal_text.specs.declared.events.Event.{Event}
 use Rattle.journal_text.specs.declared.events.Event.TheVariants.{Load}
 use Rattle.run_lock.specs.Callers.{BeginsWith}
-use Rattle.station.specs.Control.{CallerTells}
+use Rattle.station.specs.Control.{RecordsCaller}
 use Rattle.std.specs.Prelude.{All, IfSome}
 use Rattle.outside.specs.Clocks.{Reads}
 use Rattle.live_run.specs.declared.asked.LiveEnd.{LiveEnd}
@@ -39,15 +39,15 @@ returns-clause-ended g c =
     let known : Known ran.result.end w t ran.result.core ran.result.seats = record {
       moment = m;
       later = g.K.Clock.seen c.now-moment.new.self;
-      reading = subst (λ (z : ℤ). IfSome (g.K.Clock.seen c.args.clock).readings (λ readings. Reads z readings (g.K.Clock.seen c.now-moment.new.self).readings)) (sym (reading_is c.now-moment.result c.now-moment.ensures.limits)) c.now-moment.ensures.told;
+      reading = subst (λ (z : ℤ). IfSome (g.K.Clock.seen c.args.clock).readings (λ readings. Reads z readings (g.K.Clock.seen c.now-moment.new.self).readings)) (sym (reading_is c.now-moment.result c.now-moment.ensures.limits)) c.now-moment.ensures.read;
       text = first.0;
       has = first.1;
       short = first.2;
       taken = first.3;
       begins = λ h. subst (λ (es : List Event). BeginsWith es ran.result.core) first.4 ran.ensures.begins;
       caller = subst
-          (λ (s : ShelfSeen). CallerTells (Load m first.0 ∷ []) ran.result.end (used s after) control ran.result.core ran.result.seats err) same
-          (subst (λ (es : List Event). CallerTells es ran.result.end (used (g.S.Shelf.seen c.first_load.new.shelf) after) control ran.result.core ran.result.seats err) first.4 caller);
+          (λ (s : ShelfSeen). RecordsCaller (Load m first.0 ∷ []) ran.result.end (used s after) control ran.result.core ran.result.seats err) same
+          (subst (λ (es : List Event). RecordsCaller es ran.result.end (used (g.S.Shelf.seen c.first_load.new.shelf) after) control ran.result.core ran.result.seats err) first.4 caller);
       whole = ran.ensures.done;
       each = λ h. ran.ensures.seats;
       known = λ h. subst (λ (n : ℕ). All (λ q. q < 2 + n) ran.result.seats) (c.args.fetchers.ok.0 ∙ sym (length-map c.args.fetchers.items g.F.Fetch.seen)) (ran.ensures.known h);

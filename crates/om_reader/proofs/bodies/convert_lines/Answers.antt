@@ -7,7 +7,7 @@ use Rattle.om_reader.proofs.bodies.convert_lines.Goals as goal
 
 pub loop-place-init : goal.loop-place-init
 loop-place-init c = record {
-  told = converted-start c.args.text.now.items c.args.body.now;
+  known = converted-start c.args.text.now.items c.args.body.now;
   near = omega arith;
   few = omega arith;
 }
@@ -15,7 +15,7 @@ loop-place-init c = record {
 pub returns-then-is_eof : goal.returns-then-is_eof
 returns-then-is_eof c =
     let body = c.args.body.now in
-    let h = c.loop-place.invariant.told in
+    let h = c.loop-place.invariant.known in
     let place = c.loop-place.place in
     let end = c.line_end-end.result in
     let lt : place < length body = grind (arith, nat_tests, c.loop-place-test.true) in
@@ -27,7 +27,7 @@ returns-then-is_eof c =
 pub returns-in-Err : goal.returns-in-Err
 returns-in-Err c =
     let body = c.args.body.now in
-    let h = c.loop-place.invariant.told in
+    let h = c.loop-place.invariant.known in
     let place = c.loop-place.place in
     let lt : place < length body = grind (arith, nat_tests, c.loop-place-test.true) in
     loop-fault c.args.text.now.items c.loop-place.text.items body c.behind-rest.result.now c.loop-place.number place c.line_end-end.result (reading body) c.behind-rest.ensures lt
@@ -36,14 +36,14 @@ returns-in-Err c =
 pub loop-place-preserved : goal.loop-place-preserved
 loop-place-preserved c =
     let body = c.args.body.now in
-    let h = c.loop-place.invariant.told in
+    let h = c.loop-place.invariant.known in
     let place = c.loop-place.place in
     let end = c.line_end-end.result in
     let rest = c.behind-rest.result.now in
     let lt : place < length body = grind (arith, nat_tests, c.loop-place-test.true) in
     let row = c.in-Ok.ensures in
     record {
-      told = loop-more c.args.text.now.items c.loop-place.text.items body rest c.loop-place.number place end (reading body) c.behind-rest.ensures lt c.line_end-end.ensures.value h
+      known = loop-more c.args.text.now.items c.loop-place.text.items body rest c.loop-place.number place end (reading body) c.behind-rest.ensures lt c.line_end-end.ensures.value h
           row.0 c.convert_line.new.text.items (sym c.is_eof.ensures ∙ c.if-is_eof.false) row.1 row.2;
       near = loop-near c.args.text.now.items c.loop-place.text.items body rest c.loop-place.number place end (reading body) c.behind-rest.ensures lt c.line_end-end.ensures.value h c.line_end-end.ensures.within;
       few = omega (arith, c.loop-place.invariant.few);
@@ -51,6 +51,6 @@ loop-place-preserved c =
 
 pub returns : goal.returns
 returns c =
-    let h = c.loop-place.invariant.told in
+    let h = c.loop-place.invariant.known in
     let over : length c.args.body.now ≤ c.loop-place.place = grind (arith, nat_tests, c.loop-place-test.false) in
-    no-end h.rows c.loop-place.number c.loop-place.place c.args.body.now (reading c.args.body.now) h.told over
+    no-end h.rows c.loop-place.number c.loop-place.place c.args.body.now (reading c.args.body.now) h.known over

@@ -5,7 +5,7 @@ use Rattle.om_reader.proofs.bodies.convert_lines.Given as goal
 
 abbrev pub invariant-loop-place : goal.invariant-loop-place
 invariant-loop-place l = record {
-  told : HasConverted l.fn.text.items l.text.items l.number (drop l.place l.body) (reading l.body);
+  known : HasConverted l.fn.text.items l.text.items l.number (drop l.place l.body) (reading l.body);
   near : l.place ≤ length l.body + 1;
   few : l.number ≤ l.place + 1;
 }

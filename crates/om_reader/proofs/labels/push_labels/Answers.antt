@@ -2,9 +2,9 @@ use Rattle.std.proofs.Common.{◌≡◌, ◌∙◌, ◌<◌, ◌++◌, ◌∷◌
 use Rattle.label_set.specs.declared.texts.Pair.{Pair}
 use Rattle.expo_reader.specs.Bodies.{names_of}
 use Rattle.expo_reader.specs.Texts.{mark_at}
-use Rattle.om_reader.specs.declared.faults.Fault.{Fault}
-use Rattle.om_reader.specs.declared.faults.Fault.TheVariants.{Faulty}
-use Rattle.om_reader.specs.Faults.{FaultIs}
+use Rattle.expo_reader.specs.declared.faults.Fault.{Fault}
+use Rattle.expo_reader.specs.declared.faults.Fault.TheVariants.{Faulty}
+use Rattle.expo_reader.specs.Faults.{FaultIs}
 use Rattle.om_reader.specs.Forms.{labels_at}
 use Rattle.om_reader.proofs.LabelLemmas.{labels-fault, labels-last, labels-more, labels-open, names-more}
 use Rattle.om_reader.proofs.labels.push_labels.Goals as goal
@@ -18,12 +18,12 @@ last (Err f) rest_of old new ys rest total items some none h = subst (λ g. Faul
 
 pub returns-in-Err-clause-labels : goal.returns-in-Err-clause-labels
 returns-in-Err-clause-labels c =
-    let t = c.loop-rest.invariant.told in
+    let t = c.loop-rest.invariant.known in
     labels-fault t.more c.loop-rest.left.now _ c.in-Err.fault c.in-Err.ensures.label t.reaches
 
 pub returns-in-None-clause-labels : goal.returns-in-None-clause-labels
 returns-in-None-clause-labels c =
-    let t = c.loop-rest.invariant.told in
+    let t = c.loop-rest.invariant.known in
     let bs = c.loop-rest.left.now in
     let rest = c.in-Ok.rest.now in
     let found = c.in-Ok.ensures.label in
@@ -36,7 +36,7 @@ returns-in-None-clause-labels c =
 
 pub loop-rest-preserved : goal.loop-rest-preserved
 loop-rest-preserved c =
-    let t = c.loop-rest.invariant.told in
+    let t = c.loop-rest.invariant.known in
     let bs = c.loop-rest.left.now in
     let rest = c.in-Ok.rest.now in
     let next = c.in-Some.next.now in
@@ -44,7 +44,7 @@ loop-rest-preserved c =
     let less : length rest < length bs = c.in-Ok.ensures.shorter in
     let fewer : length next < length rest = c.in-Some.ensures.shorter in
     record {
-      told = record {
+      known = record {
         more = t.more ++ found.0 ∷ [];
         items = found.2 ∙ ap (λ xs. xs ++ found.0.name ∷ []) t.items ∙ names-more c.args.room.now t.more found.0;
         reaches = labels-more t.more bs _ found.0 rest found.1 less next c.in-Some.ensures.rest fewer t.reaches;

@@ -5,7 +5,7 @@ use Rattle.om_reader.proofs.labels.push_labels.Given as goal
 
 abbrev pub invariant-loop-rest : goal.invariant-loop-rest
 invariant-loop-rest l = record {
-  told : HasAdded l.fn.room l.room l.left (labels_at (length l.text + 1) l.text);
+  known : HasAdded l.fn.room l.room l.left (labels_at (length l.text + 1) l.text);
   shorter : length l.left ≤ length l.text;
 }
 

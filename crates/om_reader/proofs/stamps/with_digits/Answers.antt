@@ -11,10 +11,10 @@ returns-in-None c = λ less.
     let r = digit-at ds i c.requires c.loop-digit-test.true in
     let step = value-step c.loop-digit.count i d ds c.loop-digit-test.true refl r.0 r.1 in
     let grows = value-grows (c.loop-digit.count * 10 + (d - 48)) (drop (i + 1) ds) in
-    c.in-None.ensures (omega (arith, less, grows, step, c.loop-digit.invariant.told)))
+    c.in-None.ensures (omega (arith, less, grows, step, c.loop-digit.invariant.known)))
 
 pub returns : goal.returns
 returns c =
     let whole : c.loop-digit.count ≡ digits_value_after 10 c.args.number c.args.digits.now =
-    sym (value-end c.loop-digit.count c.loop-digit.digit-index c.args.digits.now c.loop-digit-test.false) ∙ c.loop-digit.invariant.told in
+    sym (value-end c.loop-digit.count c.loop-digit.digit-index c.args.digits.now c.loop-digit-test.false) ∙ c.loop-digit.invariant.known in
     (omega (arith, whole, c.loop-digit.invariant.small), whole)

@@ -18,7 +18,7 @@ loop-value-preserved c =
     let is_now : c.job.new.found ≡ best c.loop-value.found first = search rules in
     record {
       counted = ap (λ m. m + 1) c.loop-value.invariant.counted;
-      told = told_next c.loop-value.found c.job.new.found first (jobs_walk c.args.base place (n + 1) rest) (jobs_walk c.args.base place n (items_view (drop i vs))) is_now
+      reported = told_next c.loop-value.found c.job.new.found first (jobs_walk c.args.base place (n + 1) rest) (jobs_walk c.args.base place n (items_view (drop i vs))) is_now
           (ap (λ xs. jobs_walk c.args.base place n (items_view xs)) (next_item vs i v c.value-item.is c.loop-value-test.true))
-          ∙ c.loop-value.invariant.told;
+          ∙ c.loop-value.invariant.reported;
     }

@@ -19,7 +19,7 @@ loop-value-preserved c =
     let is_now : c.object.new.found ≡ best c.loop-value.found first = search rules in
     record {
       counted = ap (λ m. m + 1) c.loop-value.invariant.counted;
-      told = told_next c.loop-value.found c.object.new.found first (objects_faults c.args.list place (n + 1) rest) (objects_faults c.args.list place n (items_view (drop i vs))) is_now
+      reported = told_next c.loop-value.found c.object.new.found first (objects_faults c.args.list place (n + 1) rest) (objects_faults c.args.list place n (items_view (drop i vs))) is_now
           (ap (λ xs. objects_faults c.args.list place n (items_view xs)) (next_item vs i v c.value-item.is c.loop-value-test.true))
-          ∙ c.loop-value.invariant.told;
+          ∙ c.loop-value.invariant.reported;
     }

@@ -15,7 +15,7 @@ returns-in-Some-fault_of-clause-does g c =
     let text = c.args.text in
     load_refused (g.S.Shelf.seen c.args.shelf.now).files jobs text c.in-Some-fault_of.fault (own_of c.args.seat.now.pass) (own_of c.carry_out-answer.new.self.pass)
     (sym c.in-Some-fault_of.is ∙ c.fault_of.ensures (loaded jobs text) (if_some_is (IsAnswered jobs (Load text)) c.carry_out-answer.result c.in-Some.answer c.in-Some.is c.carry_out-answer.ensures.answer))
-    (on_some c.carry_out-answer.result c.in-Some.answer c.in-Some.is c.carry_out-answer.ensures.told)
+    (on_some c.carry_out-answer.result c.in-Some.answer c.in-Some.is c.carry_out-answer.ensures.ordered)
 
 pub returns-in-Ok-clause-does : goal.returns-in-Ok-clause-does
 returns-in-Ok-clause-does g c =
@@ -28,7 +28,7 @@ returns-in-Ok-clause-does g c =
     subst (λ (r : Result (Unit {0}) Stop). IfSome o (λ files. Does (taken_of r) (load_taken files text (loaded jobs text)) v u)) c.in-Ok.is
     (load_done c.read_listed-done.result o start text v (own_of c.carry_out-answer.new.self.pass) u
     (sym c.in_default-fault_of.is ∙ c.fault_of.ensures (loaded jobs text) (if_some_is (IsAnswered jobs (Load text)) c.carry_out-answer.result c.in-Some.answer c.in-Some.is c.carry_out-answer.ensures.answer))
-    (on_some c.carry_out-answer.result c.in-Some.answer c.in-Some.is c.carry_out-answer.ensures.told) c.read_listed-done.ensures.orders)
+    (on_some c.carry_out-answer.result c.in-Some.answer c.in-Some.is c.carry_out-answer.ensures.ordered) c.read_listed-done.ensures.orders)
 
 pub returns-in-Err-clause-does : goal.returns-in-Err-clause-does
 returns-in-Err-clause-does g c =
@@ -41,4 +41,4 @@ returns-in-Err-clause-does g c =
     subst (λ (r : Result (Unit {0}) Stop). IfSome o (λ files. Does (taken_of r) (load_taken files text (loaded jobs text)) v u)) c.in-Err.is
     (load_done c.read_listed-done.result o start text v (own_of c.carry_out-answer.new.self.pass) u
     (sym c.in_default-fault_of.is ∙ c.fault_of.ensures (loaded jobs text) (if_some_is (IsAnswered jobs (Load text)) c.carry_out-answer.result c.in-Some.answer c.in-Some.is c.carry_out-answer.ensures.answer))
-    (on_some c.carry_out-answer.result c.in-Some.answer c.in-Some.is c.carry_out-answer.ensures.told) c.read_listed-done.ensures.orders)
+    (on_some c.carry_out-answer.result c.in-Some.answer c.in-Some.is c.carry_out-answer.ensures.ordered) c.read_listed-done.ensures.orders)

@@ -3,8 +3,8 @@ use Rattle.std.specs.Prelude.{vec_len}
 use Rattle.journal_text.specs.Events.{now_of}
 use Rattle.run_lock.specs.Entries.{entries_of}
 use Rattle.turn_lock.specs.Passes.{AreAll, own_of}
-use Rattle.station.proofs.CloseLemmas.{all_order, ended_log, parted, told_all, ticker_told}
-use Rattle.station.proofs.RecordLemmas.{caller_told, seats_known}
+use Rattle.station.proofs.CloseLemmas.{all_order, ended_log, parted, told_all, ticker_recorded}
+use Rattle.station.proofs.RecordLemmas.{caller_recorded, seats_known}
 use Rattle.station.proofs.run.close_run.Goals as goal
 
 pub close-state-requires-clause-all : goal.close-state-requires-clause-all
@@ -25,7 +25,7 @@ returns-clause-caller g c =
     let state = c.close-state.result in
     let log = entries_of state.core state.marks.items in
     let p = parted log c.args.caller c.args.ticker c.args.workers.items c.all_passes-passes.result.items c.all_passes-passes.ensures c.close-state.ensures.gathers in
-    λ h. caller_told c.close-core.result.0 c.close-core.result.1.items log (own_of c.args.caller) (now_of state.core) c.close-core.ensures.seats c.close-core.ensures.entries p.callers
+    λ h. caller_recorded c.close-core.result.0 c.close-core.result.1.items log (own_of c.args.caller) (now_of state.core) c.close-core.ensures.seats c.close-core.ensures.entries p.callers
 
 pub returns-clause-known : goal.returns-clause-known
 returns-clause-known g c =
@@ -39,10 +39,10 @@ returns-clause-ticker g c =
     let state = c.close-state.result in
     let log = entries_of state.core state.marks.items in
     let p = parted log c.args.caller c.args.ticker c.args.workers.items c.all_passes-passes.result.items c.all_passes-passes.ensures c.close-state.ensures.gathers in
-    λ h. ticker_told c.close-core.result.0 c.close-core.result.1.items log _ c.args.ticker c.close-core.ensures.seats c.close-core.ensures.entries p.tickers
+    λ h. ticker_recorded c.close-core.result.0 c.close-core.result.1.items log _ c.args.ticker c.close-core.ensures.seats c.close-core.ensures.entries p.tickers
 
-pub returns-clause-told : goal.returns-clause-told
-returns-clause-told g c =
+pub returns-clause-own : goal.returns-clause-own
+returns-clause-own g c =
     let state = c.close-state.result in
     let log = entries_of state.core state.marks.items in
     let p = parted log c.args.caller c.args.ticker c.args.workers.items c.all_passes-passes.result.items c.all_passes-passes.ensures c.close-state.ensures.gathers in

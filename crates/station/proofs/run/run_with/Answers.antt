@@ -6,8 +6,8 @@ use Rattle.outside.specs.Objects.{used}
 use Rattle.run_lock.specs.Callers.{BeginsWith}
 use Rattle.run_lock.specs.Entries.{begun_with, seats_in}
 use Rattle.turn_lock.specs.Passes.{own_of}
-use Rattle.station.specs.Control.{CallerTells}
-use Rattle.station.proofs.CloseLemmas.{all_tell, finished_first, ticker_tells, whole_end}
+use Rattle.station.specs.Control.{RecordsCaller}
+use Rattle.station.proofs.CloseLemmas.{all_recorded, finished_first, ticker_records, whole_end}
 use Rattle.station.proofs.CrewLemmas.{and_parts}
 use Rattle.station.proofs.EndLemmas.{ends_over}
 use Rattle.station.proofs.RecordLemmas.{tells_over}
@@ -38,8 +38,8 @@ returns-clause-workers g c =
     λ h.
     let whole = whole_end closed.whole _ (λ e. h (c.end_of.ensures ∙ e)) in
     let parts = and_parts crew.ended ticked.done (sym c.both-came.ensures ∙ c.close_run-whole.ensures.came whole) in
-    all_tell 0 2 closed.core (seats_in closed.marks.items) (map g.F.Fetch.seen c.args.fetchers.items) (map g.F.Fetch.seen crew.fetchers.items) crew.passes.items refl
-    (c.run_beside-crew.ensures.0.1.1.1.1.0 parts.0) (c.close_run-whole.ensures.told whole)
+    all_recorded 0 2 closed.core (seats_in closed.marks.items) (map g.F.Fetch.seen c.args.fetchers.items) (map g.F.Fetch.seen crew.fetchers.items) crew.passes.items refl
+    (c.run_beside-crew.ensures.0.1.1.1.1.0 parts.0) (c.close_run-whole.ensures.own whole)
 
 pub returns-clause-sweeps : goal.returns-clause-sweeps
 returns-clause-sweeps g c =
@@ -49,7 +49,7 @@ returns-clause-sweeps g c =
     λ h.
     let whole = whole_end closed.whole _ (λ e. h (c.end_of.ensures ∙ e)) in
     let parts = and_parts crew.ended ticked.done (sym c.both-came.ensures ∙ c.close_run-whole.ensures.came whole) in
-    ticker_tells c.args.turns closed.core (seats_in closed.marks.items) (g.K.Clock.seen c.args.clock) (g.K.Clock.seen ticked.clock) (own_of ticked.pass)
+    ticker_records c.args.turns closed.core (seats_in closed.marks.items) (g.K.Clock.seen c.args.clock) (g.K.Clock.seen ticked.clock) (own_of ticked.pass)
     (c.run_beside-crew.ensures.0.1.1.1.1.1 parts.1) (c.close_run-whole.ensures.ticker whole)
 
 pub returns-clause-ends : goal.returns-clause-ends
@@ -82,7 +82,7 @@ returns-clause-caller g c =
     let closed = c.close_run-whole.result in
     let control = used (g.C.Source.seen c.args.control) (g.C.Source.seen r.2.control) in
     subst
-    (λ (es : List Event). CallerTells es c.end_of.result (used (g.S.Shelf.seen c.args.shelf.now) (g.S.Shelf.seen c.shelf-1.given.0)) control closed.core (seats_in closed.marks.items) (used (g.E.Sink.seen c.args.err.now) (g.E.Sink.seen c.err-1.given.0)))
+    (λ (es : List Event). RecordsCaller es c.end_of.result (used (g.S.Shelf.seen c.args.shelf.now) (g.S.Shelf.seen c.shelf-1.given.0)) control closed.core (seats_in closed.marks.items) (used (g.E.Sink.seen c.args.err.now) (g.E.Sink.seen c.err-1.given.0)))
     (sym c.requires.start)
     (tells_over g.S.Shelf.seen g.E.Sink.seen closed.whole r.2.end c.end_of.result (g.S.Shelf.seen c.args.shelf.now) (g.E.Sink.seen c.args.err.now) r.0.now _ r.1.now _ control g.B.Asked.start closed.core (seats_in closed.marks.items)
     (own_of c.in-Ok.opened.caller) (own_of r.2.pass) c.end_of.ensures (search rules) (search rules)

@@ -1,6 +1,6 @@
 use Rattle.std.proofs.Common.{◌++◌, sym, subst}
 use Rattle.http_fetch.proofs.DecoderLemmas.{got-fits, stands-done, stands-for-on, settled, must-not-end}
-use Rattle.http_fetch.proofs.KindLemmas.{tells-done, tells-more}
+use Rattle.http_fetch.proofs.KindLemmas.{stage_kind-done, stage_kind-more}
 use Rattle.http_fetch.proofs.ReplyLemmas.{http-settled}
 use Rattle.http_fetch.specs.Stages.{Fits}
 use Rattle.http_fetch.proofs.decoder.Decoder.feed.Goals as goal
@@ -10,7 +10,7 @@ returns-then-is_done-clause-stands c = λ limit b st. record {
   limit_is = st.limit_is;
   stands = stands-done limit c.args.self.now.stage c.args.self.now.body.items c.args.self.now.pending.items b c.args.piece.now (sym c.if-is_done.ensures) st.stands;
   short = st.short;
-  kind = tells-done c.args.self.now.stage c.args.self.now.kind 8 b c.args.self.now.pending.items c.args.piece.now (sym c.if-is_done.ensures) st.kind;
+  kind = stage_kind-done c.args.self.now.stage c.args.self.now.kind 8 b c.args.self.now.pending.items c.args.piece.now (sym c.if-is_done.ensures) st.kind;
 }
 
 pub returns-then-is_done-clause-done : goal.returns-then-is_done-clause-done
@@ -46,7 +46,7 @@ returns-then-is_done-2-clause-stands c = λ limit b st.
       stands = stands-for-on c.args.self.now limit c.in_ok-next.next.stage c.advance.new.body.items c.advance.new.pending.items b c.args.piece.now st c.in_ok-next.ensures.leads c.in_ok-next.ensures.waits;
       short = c.in_ok-next.ensures.short fits;
       kind = c.in_ok-next.ensures.kind (b ++ c.args.piece.now)
-          (tells-more c.args.self.now.stage c.args.self.now.kind 8 b c.args.self.now.pending.items c.args.piece.now st.kind);
+          (stage_kind-more c.args.self.now.stage c.args.self.now.kind 8 b c.args.self.now.pending.items c.args.piece.now st.kind);
     }
 
 pub returns-clause-stands : goal.returns-clause-stands
@@ -57,5 +57,5 @@ returns-clause-stands c = λ limit b st.
       stands = stands-for-on c.args.self.now limit c.in_ok-next.next.stage c.advance.new.body.items c.advance.new.pending.items b c.args.piece.now st c.in_ok-next.ensures.leads c.in_ok-next.ensures.waits;
       short = c.in_ok-next.ensures.short fits;
       kind = c.in_ok-next.ensures.kind (b ++ c.args.piece.now)
-          (tells-more c.args.self.now.stage c.args.self.now.kind 8 b c.args.self.now.pending.items c.args.piece.now st.kind);
+          (stage_kind-more c.args.self.now.stage c.args.self.now.kind 8 b c.args.self.now.pending.items c.args.piece.now st.kind);
     }

@@ -9,8 +9,8 @@ use Rattle.run_lock.specs.Tasks.{order_brought}
 use Rattle.run_lock.proofs.SeatLemmas.{adds_own, given_own, on_some_map, own_at}
 use Rattle.run_lock.proofs.seat.Seat.carry_out.Goals as goal
 
-pub returns-then-failed-clause-told : goal.returns-then-failed-clause-told
-returns-then-failed-clause-told g c =
+pub returns-then-failed-clause-ordered : goal.returns-then-failed-clause-ordered
+returns-then-failed-clause-ordered g c =
     let before = c.take-state.result in
     let after = c.carry_out-answer.new.self in
     let log = entries_of before.core before.marks.items in
@@ -28,8 +28,8 @@ returns-then-failed-clause-answer g c =
     let same : own_by 0 log ≡ own = own_at log own (number_of c.args.self.now.pass) 0 c.requires.seat.2 c.take-state.ensures.own in
     subst (λ (xs : List Entry). IfSome c.carry_out-answer.result (IsAnswered (jobs_known g.B.Asked.start xs) c.args.order)) same c.carry_out-answer.ensures.answer
 
-pub returns-else-failed-clause-told : goal.returns-else-failed-clause-told
-returns-else-failed-clause-told g c =
+pub returns-else-failed-clause-ordered : goal.returns-else-failed-clause-ordered
+returns-else-failed-clause-ordered g c =
     let before = c.take-state.result in
     let after = c.carry_out-answer.new.self in
     let log = entries_of before.core before.marks.items in

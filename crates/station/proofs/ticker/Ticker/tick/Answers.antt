@@ -23,11 +23,11 @@ loop-turn-preserved g c =
     let b = c.sweep.ensures.brought c.if-not-sweep.false in
     let was = subst (HasTicked c.loop-turn._turn x y) (sym c.plan.ensures.own) c.loop-turn.invariant.ticked in
     let read : c.new-reading.result ≡ c.now.result = search rules in
-    let told = subst (λ (s : ClockSeen). IfSome s.readings (λ rs. Reads c.now.result rs z.readings)) c.wait_until.ensures c.now.ensures.told in
+    let known = subst (λ (s : ClockSeen). IfSome s.readings (λ rs. Reads c.now.result rs z.readings)) c.wait_until.ensures c.now.ensures.read in
     record {
       lock = c.sweep.ensures.lock ∙ (c.plan.ensures.lock ∙ c.loop-turn.invariant.lock);
       seat = c.sweep.ensures.seat;
       ticked = ticked_more c.loop-turn._turn b.0 c.new-reading.result x y z (own_of c.plan.new.self.pass) (own_of c.sweep.new.self.pass) was
-          (subst (λ (r : ℤ). IfSome y.readings (λ rs. Reads r rs z.readings)) (sym read) told)
+          (subst (λ (r : ℤ). IfSome y.readings (λ rs. Reads r rs z.readings)) (sym read) known)
           b.1;
     }

@@ -39,7 +39,7 @@ loop-preserved-in-Fetch g c =
           c.in-Fetch.ensures.task
           c.bring.ensures.seen
           b.1
-          c.in-Ok.ensures.told
+          c.in-Ok.ensures.added
           (counts_rise (c.in-Ok.fetched).reply (used y z) c.in-Ok.ensures.counts);
     }
 

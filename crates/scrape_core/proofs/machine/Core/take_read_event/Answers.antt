@@ -5,7 +5,7 @@ use Rattle.scrape_laws.proofs.RightLemmas.{lives_right}
 use Rattle.scrape_machine.specs.Lives.{IsRightLife}
 use Rattle.scrape_machine.specs.Machine.{World}
 use Rattle.scrape_core.proofs.KeptLemmas.{kept_push}
-use Rattle.scrape_core.proofs.machine.Core.take_told.Goals as goal
+use Rattle.scrape_core.proofs.machine.Core.take_read_event.Goals as goal
 
 pub take-requires-clause-right : goal.take-requires-clause-right
 take-requires-clause-right g c = subst (λ (w : World). All IsRightLife w.lives) (sym c.self.invariant.0.state) (lives_right c.self.inside.journal.events)

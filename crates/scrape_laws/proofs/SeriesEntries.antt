@@ -1,4 +1,4 @@
--- What is told of a series, one scrape on and at the ending.
+-- The entries of a series, one scrape on and at the ending.
 use Rattle.std.proofs.Common.{◌≡◌, ℕ, ℤ, Bool, true, not, ◌&&◌, cond, List, [], ◌∷◌, ◌++◌, Some, None, refl, sym, ap, ◌∙◌, append_assoc, append-nil}
 use Rattle.label_set.specs.declared.texts.Pair.{Pair}
 use Rattle.report_samples.specs.declared.entries.Entry.{Entry}
@@ -6,7 +6,7 @@ use Rattle.sample_rows.specs.declared.scrape.Scrape.{Scrape}
 use Rattle.sample_rows.specs.declared.scrape.Scrape.TheVariants.{Good, Bad}
 use Rattle.scrape_loop.specs.Tracked.{all_sets, is_good, known_after, tracked_sets}
 use Rattle.scrape_laws.specs.Scrapes.{LifeScrape, tracks}
-use Rattle.scrape_laws.specs.Markers.{samples, mark_if, told}
+use Rattle.scrape_laws.specs.Markers.{samples, mark_if, series_entries}
 use Rattle.scrape_laws.specs.Past.{tracked_by, known_by, ends_with}
 use Rattle.scrape_laws.specs.Runs.{is_any}
 
@@ -40,15 +40,15 @@ module _ (n : ℕ) (x : List Pair) where
   three us bs cs ds = ap (λ zs. us ++ zs) (sym (append_assoc bs cs ds)) ∙ sym (append_assoc us (bs ++ cs) ds)
 
   -- one scrape more
-  pub told_more : (b : Bool) (ss : List LifeScrape) (s : LifeScrape) → told n x None b (ss ++ s ∷ []) ≡ told n x None b ss ++ tells n x (ends_with (tracks x) b ss) s
-  told_more b [] s = ap (λ zs. samples n x s ++ zs) (append-nil _)
-  told_more b (t ∷ ss) s =
-      ap (λ zs. samples n x t ++ (mark_if n x t.moment (b && not (tracks x t)) ++ zs)) (told_more (tracks x t) ss s)
-      ∙ three (samples n x t) (mark_if n x t.moment (b && not (tracks x t))) (told n x None (tracks x t) ss) (tells n x (ends_with (tracks x) (tracks x t) ss) s)
+  pub entries_more : (b : Bool) (ss : List LifeScrape) (s : LifeScrape) → series_entries n x None b (ss ++ s ∷ []) ≡ series_entries n x None b ss ++ tells n x (ends_with (tracks x) b ss) s
+  entries_more b [] s = ap (λ zs. samples n x s ++ zs) (append-nil _)
+  entries_more b (t ∷ ss) s =
+      ap (λ zs. samples n x t ++ (mark_if n x t.moment (b && not (tracks x t)) ++ zs)) (entries_more (tracks x t) ss s)
+      ∙ three (samples n x t) (mark_if n x t.moment (b && not (tracks x t))) (series_entries n x None (tracks x t) ss) (tells n x (ends_with (tracks x) (tracks x t) ss) s)
 
   -- at the ending
-  pub told_ended : (m : ℤ) (b : Bool) (ss : List LifeScrape) → told n x (Some m) b ss ≡ told n x None b ss ++ mark_if n x m (ends_with (tracks x) b ss)
-  told_ended m b [] = refl
-  told_ended m b (t ∷ ss) =
-      ap (λ zs. samples n x t ++ (mark_if n x t.moment (b && not (tracks x t)) ++ zs)) (told_ended m (tracks x t) ss)
-      ∙ three (samples n x t) (mark_if n x t.moment (b && not (tracks x t))) (told n x None (tracks x t) ss) (mark_if n x m (ends_with (tracks x) (tracks x t) ss))
+  pub entries_ended : (m : ℤ) (b : Bool) (ss : List LifeScrape) → series_entries n x (Some m) b ss ≡ series_entries n x None b ss ++ mark_if n x m (ends_with (tracks x) b ss)
+  entries_ended m b [] = refl
+  entries_ended m b (t ∷ ss) =
+      ap (λ zs. samples n x t ++ (mark_if n x t.moment (b && not (tracks x t)) ++ zs)) (entries_ended m (tracks x t) ss)
+      ∙ three (samples n x t) (mark_if n x t.moment (b && not (tracks x t))) (series_entries n x None (tracks x t) ss) (mark_if n x m (ends_with (tracks x) (tracks x t) ss))
