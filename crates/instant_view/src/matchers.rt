@@ -1,9 +1,6 @@
 //! What a selector is made of.
-ghost use Rattle.std.specs.Prelude.{◌≡◌};
-
-use label_set::{Name, NoMemory};
+use label_set::{ListOf, Name, NoMemory};
 use std::alloc::{AllocError, AllocFailed};
-use std::marker::Model;
 
 /// How a matcher compares the value of its label.
 #[derive(Clone, Copy, PartialEq, Eq, Debug)]
@@ -27,29 +24,8 @@ pub struct Matcher {
     pub value: Name,
 }
 
-/// Matchers in order. Contracts see the list of them.
-#[derive(Drop, Debug)]
-pub struct MatcherList {
-    pub items: Vec<Matcher>,
-}
-
-impl Model for MatcherList {
-    ghost use Rattle.std.specs.Prelude.{List};
-    ghost use Rattle.instant_view.specs.declared.matchers.Matcher.{Matcher};
-
-    ghost Value = { List Matcher };
-
-    ghost view = { λ l. l.items.items };
-}
-
-impl MatcherList {
-    /// The matchers.
-    pub fn as_slice(&self) -> &[Matcher]
-        ensures { result.now ≡ self.now }
-    {
-        self.items.as_slice()
-    }
-}
+/// Matchers in order.
+pub type MatcherList = ListOf<Matcher>;
 
 /// A selector as it is written: a metric name, or none, and matchers.
 #[derive(Drop, Debug)]

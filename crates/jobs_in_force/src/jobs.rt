@@ -8,7 +8,7 @@ ghost use Rattle.jobs_in_force.specs.TargetWords.{IsIndexed, HasNoName, is_targe
 ghost use Rattle.jobs_in_force.specs.Settings.{settings_of};
 
 use indexmap::IndexSet;
-use label_set::{LabelSet, NoMemory};
+use label_set::{LabelSet, ListOf, NoMemory};
 use life_roll::Interval;
 use scrape_config::Job;
 use std::alloc::Global;
@@ -120,10 +120,7 @@ pub struct SharedFiles {
 }
 
 /// The groups of a job's files.
-#[derive(Drop)]
-pub struct FileList {
-    pub items: Vec<FileGroups>,
-}
+type FileList = ListOf<FileGroups>;
 
 impl Model for SharedFiles {
     ghost use Rattle.std.specs.Prelude.{List};
@@ -132,7 +129,7 @@ impl Model for SharedFiles {
 
     ghost Value = { List FileGroups };
 
-    ghost view = { λ s. (arc_value s.files).items.items };
+    ghost view = { λ s. arc_value s.files };
 }
 
 impl SharedFiles {
@@ -158,7 +155,7 @@ impl SharedFiles {
     pub fn as_slice(&self) -> &[FileGroups]
         ensures { result.now ≡ self.now }
     {
-        self.files.items.as_slice()
+        self.files.as_slice()
     }
 }
 

@@ -2,13 +2,12 @@
 use denote.Param.Send.{IsSend, IsSync, sendable}
 use Rattle.std.proofs.Crossing.{crosses}
 use Rattle.std.proofs.MapsCrossing as maps
+use Rattle.label_set.specs.contracts.lists.ListOf as ListOf
 use Rattle.label_set.specs.contracts.sets.LabelSet as LabelSet
 use Rattle.label_set.specs.contracts.shared.Shared as Shared
 use Rattle.label_set.specs.contracts.texts.Blob as Blob
 use Rattle.label_set.specs.contracts.texts.Name as Name
-use Rattle.label_set.specs.contracts.texts.NameList as NameList
 use Rattle.label_set.specs.contracts.texts.Pair as Pair
-use Rattle.label_set.specs.contracts.texts.PairList as PairList
 
 pub blob_send : IsSend Blob.the_row
 blob_send = search (sendable, crosses) depth 60 fits 10000
@@ -28,16 +27,16 @@ pair_send = search (name_send, name_sync, sendable, crosses) depth 60 fits 10000
 pub pair_sync : IsSync Pair.the_row
 pair_sync = search (name_send, name_sync, sendable, crosses) depth 60 fits 10000
 
-pub name_list_send : IsSend NameList.the_row
+pub name_list_send : IsSend (ListOf.the_row Name.the_row)
 name_list_send = search (name_send, name_sync, sendable, crosses) depth 60 fits 10000
 
-pub name_list_sync : IsSync NameList.the_row
+pub name_list_sync : IsSync (ListOf.the_row Name.the_row)
 name_list_sync = search (name_send, name_sync, sendable, crosses) depth 60 fits 10000
 
-pub pair_list_send : IsSend PairList.the_row
+pub pair_list_send : IsSend (ListOf.the_row Pair.the_row)
 pair_list_send = search (pair_send, pair_sync, sendable, crosses) depth 60 fits 10000
 
-pub pair_list_sync : IsSync PairList.the_row
+pub pair_list_sync : IsSync (ListOf.the_row Pair.the_row)
 pair_list_sync = search (pair_send, pair_sync, sendable, crosses) depth 60 fits 10000
 
 pub shared_send : IsSend Shared.the_row

@@ -2,23 +2,12 @@
 ghost use Rattle.std.specs.Prelude.{◌≡◌, ◌≤◌, ◌<◌, ℕ, List, Option, Some, None, IfSome, Ok, OnOk, IfOk, All};
 ghost use Rattle.outside.specs.Clocks.{IsReading, next_reading, later_readings};
 
-use label_set::NoMemory;
+use label_set::{ListOf, NoMemory};
 use std::collections::VecDeque;
 use std::marker::Model;
 
 /// Moments, in milliseconds since 1970.
-#[derive(Debug, Drop)]
-pub struct MomentList {
-    pub items: Vec<i64>,
-}
-
-impl Model for MomentList {
-    ghost use Rattle.std.specs.Prelude.{ℤ, List};
-
-    ghost Value = { List ℤ };
-
-    ghost view = { λ l. l.items.items };
-}
+pub type MomentList = ListOf<i64>;
 
 /// What tells the time.
 pub trait Clock: Drop {

@@ -11,25 +11,13 @@ use crate::memory::next_call;
 use crate::objects::CallList;
 use crate::replies::Reply;
 use crate::requests::{Fetched, Request, Scheme};
-use label_set::NoMemory;
+use label_set::{ListOf, NoMemory};
 use std::alloc::Global;
 use std::collections::VecDeque;
 use std::marker::Model;
 
 /// Fetches in order.
-#[derive(Debug, Drop)]
-pub struct FetchedList {
-    pub items: Vec<Fetched>,
-}
-
-impl Model for FetchedList {
-    ghost use Rattle.std.specs.Prelude.{List};
-    ghost use Rattle.outside.specs.declared.requests.Fetched.{Fetched};
-
-    ghost Value = { List Fetched };
-
-    ghost view = { λ l. l.items.items };
-}
+pub type FetchedList = ListOf<Fetched>;
 
 /// What fetches the page of a target.
 pub trait Fetch: Drop {

@@ -1,9 +1,8 @@
 //! Shelves of files and sinks of bytes: what their calls say, whatever stands behind them.
 ghost use Rattle.std.specs.Prelude.{◌≤◌, length, OnOk, OnErr, IfOk, IsErrOf};
 
-use label_set::{Blob, Name, NoMemory};
+use label_set::{Blob, ListOf, Name, NoMemory};
 use std::alloc::Global;
-use std::marker::Model;
 
 /// A file in memory.
 #[derive(Debug, Drop)]
@@ -13,33 +12,10 @@ pub struct StoredFile {
 }
 
 /// Files in order. Of two with one name the first counts.
-#[derive(Debug, Drop)]
-pub struct FileList {
-    pub items: Vec<StoredFile>,
-}
-
-impl Model for FileList {
-    ghost use Rattle.std.specs.Prelude.{List};
-    ghost use Rattle.outside.specs.declared.objects.StoredFile.{StoredFile};
-
-    ghost Value = { List StoredFile };
-
-    ghost view = { λ l. l.items.items };
-}
+pub type FileList = ListOf<StoredFile>;
 
 /// Numbers of calls, which count from 0.
-#[derive(Debug, Drop)]
-pub struct CallList {
-    pub items: Vec<u64>,
-}
-
-impl Model for CallList {
-    ghost use Rattle.std.specs.Prelude.{ℕ, List};
-
-    ghost Value = { List ℕ };
-
-    ghost view = { λ l. l.items.items };
-}
+pub type CallList = ListOf<u64>;
 
 /// Why a file was not read.
 #[derive(Clone, Copy, PartialEq, Eq, Debug)]

@@ -2,8 +2,7 @@
 ghost use Rattle.std.specs.Prelude.{◌≡◌, is_none};
 ghost use Rattle.report_samples.specs.Kinds.{marks_end};
 
-use label_set::LabelSet;
-use std::marker::Model;
+use label_set::{LabelSet, ListOf};
 use value_text::ValueText;
 
 /// What an entry is ("Staleness" of the Prometheus documentation, for the two markers).
@@ -33,17 +32,5 @@ pub struct Entry {
     pub ghost marked: { is_none value ≡ marks_end kind },
 }
 
-/// Entries, seen as their list.
-#[derive(Debug, Drop)]
-pub struct EntryList {
-    pub items: Vec<Entry>,
-}
-
-impl Model for EntryList {
-    ghost use Rattle.std.specs.Prelude.{List};
-    ghost use Rattle.report_samples.specs.declared.entries.Entry.{Entry};
-
-    ghost Value = { List Entry };
-
-    ghost view = { λ l. l.items.items };
-}
+/// Entries in order.
+pub type EntryList = ListOf<Entry>;

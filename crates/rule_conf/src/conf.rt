@@ -4,9 +4,8 @@ ghost use Rattle.std.specs.List.{list_all};
 ghost use Rattle.label_set.specs.Bytes as names;
 ghost use Rattle.rule_conf.specs.Refusals.{has_bad_target, rule_fault};
 
-use label_set::{Name, NameList, NoMemory, is_label_name};
+use label_set::{ListOf, Name, NameList, NoMemory, is_label_name};
 use std::alloc::Global;
-use std::marker::Model;
 
 /// What a rule does.
 #[derive(Clone, Copy, PartialEq, Eq, Debug)]
@@ -53,29 +52,8 @@ pub struct RuleConf {
     pub action: Action,
 }
 
-/// Rules in the order in which they run. Contracts see the list of the rules.
-#[derive(Drop, Debug)]
-pub struct RuleList {
-    pub items: Vec<RuleConf>,
-}
-
-impl Model for RuleList {
-    ghost use Rattle.std.specs.Prelude.{List};
-    ghost use Rattle.rule_conf.specs.declared.conf.RuleConf.{RuleConf};
-
-    ghost Value = { List RuleConf };
-
-    ghost view = { λ l. l.items.items };
-}
-
-impl RuleList {
-    /// The rules.
-    pub fn as_slice(&self) -> &[RuleConf]
-        ensures { result.now ≡ self.now }
-    {
-        self.items.as_slice()
-    }
-}
+/// Rules in the order in which they run.
+pub type RuleList = ListOf<RuleConf>;
 
 /// A field of a rule that is refused.
 #[derive(Clone, Copy, PartialEq, Eq, Debug)]

@@ -1,8 +1,7 @@
 //! What a scrape goes by, and what it comes to.
 use crate::fault::ScrapeFault;
-use label_set::LabelSet;
+use label_set::{LabelSet, ListOf};
 use scrape_limits::Limits;
-use std::marker::Model;
 use value_text::ValueText;
 
 /// What the rows of a reply are judged by, beside the job's rules for samples.
@@ -33,20 +32,8 @@ pub struct Sample {
     pub tracked: bool,
 }
 
-/// Samples in the order of the body, seen as their list.
-#[derive(Debug, Drop)]
-pub struct SampleList {
-    pub items: Vec<Sample>,
-}
-
-impl Model for SampleList {
-    ghost use Rattle.std.specs.Prelude.{List};
-    ghost use Rattle.sample_rows.specs.declared.scrape.Sample.{Sample};
-
-    ghost Value = { List Sample };
-
-    ghost view = { λ l. l.items.items };
-}
+/// Samples in the order of the body.
+pub type SampleList = ListOf<Sample>;
 
 /// What a scrape comes to.
 #[derive(Debug, Drop)]

@@ -1,11 +1,8 @@
 //! What a configuration is.
-ghost use Rattle.std.specs.Prelude.{◌≡◌};
-
-use label_set::{Name, NameList, PairList};
+use label_set::{ListOf, Name, NameList, PairList};
 use outside::Scheme;
 use relabel::{RuleList, Rules};
 use scrape_limits::Limits;
-use std::marker::Model;
 
 /// A parameter of the URL and its values (`params`).
 #[derive(Drop, Debug)]
@@ -14,29 +11,8 @@ pub struct Param {
     pub values: NameList,
 }
 
-/// Parameters by rising name. Contracts see the list of the parameters.
-#[derive(Drop, Debug)]
-pub struct ParamList {
-    pub items: Vec<Param>,
-}
-
-impl Model for ParamList {
-    ghost use Rattle.std.specs.Prelude.{List};
-    ghost use Rattle.scrape_config.specs.declared.conf.Param.{Param};
-
-    ghost Value = { List Param };
-
-    ghost view = { λ l. l.items.items };
-}
-
-impl ParamList {
-    /// The parameters.
-    pub fn as_slice(&self) -> &[Param]
-        ensures { result.now ≡ self.now }
-    {
-        self.items.as_slice()
-    }
-}
+/// Parameters by rising name.
+pub type ParamList = ListOf<Param>;
 
 /// Targets that stand together, with the labels that they share (`static_configs`, or the list of a file).
 #[derive(Drop, Debug)]
@@ -49,29 +25,8 @@ pub struct Group {
     pub file: Option<Name>,
 }
 
-/// Groups in the order in which they are written. Contracts see the list of the groups.
-#[derive(Drop, Debug)]
-pub struct GroupList {
-    pub items: Vec<Group>,
-}
-
-impl Model for GroupList {
-    ghost use Rattle.std.specs.Prelude.{List};
-    ghost use Rattle.scrape_config.specs.declared.conf.Group.{Group};
-
-    ghost Value = { List Group };
-
-    ghost view = { λ l. l.items.items };
-}
-
-impl GroupList {
-    /// The groups.
-    pub fn as_slice(&self) -> &[Group]
-        ensures { result.now ≡ self.now }
-    {
-        self.items.as_slice()
-    }
-}
+/// Groups in the order in which they are written.
+pub type GroupList = ListOf<Group>;
 
 /// The settings of a job (`scrape_configs`), after defaults.
 #[derive(Drop, Debug)]
@@ -111,29 +66,8 @@ pub struct Job {
     pub metric_rules: Rules,
 }
 
-/// Jobs in the order in which they are written. Contracts see the list of the jobs.
-#[derive(Drop)]
-pub struct JobList {
-    pub items: Vec<Job>,
-}
-
-impl Model for JobList {
-    ghost use Rattle.std.specs.Prelude.{List};
-    ghost use Rattle.scrape_config.specs.declared.conf.Job.{Job};
-
-    ghost Value = { List Job };
-
-    ghost view = { λ l. l.items.items };
-}
-
-impl JobList {
-    /// The jobs.
-    pub fn as_slice(&self) -> &[Job]
-        ensures { result.now ≡ self.now }
-    {
-        self.items.as_slice()
-    }
-}
+/// Jobs in the order in which they are written.
+pub type JobList = ListOf<Job>;
 
 /// A configuration.
 #[derive(Drop)]

@@ -7,7 +7,7 @@ use crate::counts::{dropped_of, refused_of};
 use crate::files::FileGroups;
 use crate::kept::kept_of;
 use crate::walk::{outcomes_of, outcomes_with_files};
-use label_set::{LabelSet, NoMemory, Steps};
+use label_set::{LabelSet, ListOf, NoMemory, Steps};
 use relabel::Rules;
 use scrape_config::{Group, JobConf};
 use scrape_limits::exceeds;
@@ -71,20 +71,8 @@ pub struct RefusedTarget {
     pub cause: TargetCause,
 }
 
-/// Refused targets. Contracts see their list.
-#[derive(Drop, Debug)]
-pub struct RefusedList {
-    pub items: Vec<RefusedTarget>,
-}
-
-impl Model for RefusedList {
-    ghost use Rattle.std.specs.Prelude.{List};
-    ghost use Rattle.target_set.specs.declared.targets.RefusedTarget.{RefusedTarget};
-
-    ghost Value = { List RefusedTarget };
-
-    ghost view = { λ l. l.items.items };
-}
+/// Refused targets.
+pub type RefusedList = ListOf<RefusedTarget>;
 
 /// What becomes of the targets that a job lists.
 #[derive(Drop, Debug)]

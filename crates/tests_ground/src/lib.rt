@@ -5,13 +5,13 @@
 //!
 //! | public call | test, cases or check |
 //! |---|---|
-//! | `Name::{from_str, copy, as_str}`, `NameList::as_slice` | `relabelling`, whose rules are copied |
+//! | `Name::{from_str, copy, as_str}`, `ListOf::as_slice` | `relabelling`, whose rules are copied |
 //! | `Blob::{from_slice, as_slice}`, `Blob::copy` | `scripts`; `checks/live`, whose bodies are copied |
-//! | `Pair::{from_strs, label}`, `PairList::as_slice`, `borrowed` | `targets` |
+//! | `Pair::{from_strs, label}`, `borrowed` | `targets` |
 //! | `Pair::copy` | `label_sets::is_copied`, which a test calls |
 //! | `is_label_name`, `is_metric_name` | `fields`, `bodies` |
 //! | `LabelSet::{of, from_labels, labels, with_all, len, get}` | `targets`, `conflicts`, `relabelling` |
-//! | `LabelSet::{with, copy, eq, hash, cmp}`, `SetList::as_slice` | `scripts`, `instants`, `updates` |
+//! | `LabelSet::{with, copy, eq, hash, cmp}` | `scripts`, `instants`, `updates` |
 //! | `LabelSet::append_text` | `bodies`, `quoted` |
 //! | `LabelSet::{with_any, write_text, is_same, at}` | `label_sets::a_set_of_any_names_is_made` |
 //! | `LabelSet::without` | within `with_any` |
