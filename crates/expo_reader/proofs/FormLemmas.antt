@@ -73,7 +73,7 @@ module _ (number : ℕ) (line : List ℕ) (row : BodyRow) where
   by_labels name None y lift e = absurd cc
   by_labels name (Some q) y lift e = ap (labelled_row number line name) (lift q refl) ∙ e
 
-  by_braces : (name rest : List ℕ) (o : Option (List ℕ)) → after_name Plain number line name rest o ≡ Some row → after_name Quoted number line name rest o ≡ Some row
+  by_braces : (name rest : List ℕ) (o : Option (List ℕ)) → after_name Plain number line (name, rest) o ≡ Some row → after_name Quoted number line (name, rest) o ≡ Some row
   by_braces name rest None e = e
   by_braces name rest (Some inside) e =
       by_labels name (labels_in Plain (length inside + 1) inside) (labels_in Quoted (length inside + 1) inside) (λ p h. labels-lift Plain (length inside + 1) inside p h) e
@@ -81,7 +81,7 @@ module _ (number : ℕ) (line : List ℕ) (row : BodyRow) where
   by_word : (o : Option (List ℕ × List ℕ)) → named_row Plain number line o ≡ Some row → named_row Quoted number line o ≡ Some row
   by_word None e = absurd cc
   by_word (Some (name, rest)) e =
-      let k = chosen (is_metric_name name) (after_name Plain number line name rest (mark_in 123 rest)) row e in
+      let k = chosen (is_metric_name name) (after_name Plain number line (name, rest) (mark_in 123 rest)) row e in
       rw k.0 (by_braces name rest (mark_in 123 rest) k.1)
 
 pub sample-lift : (form : Form) (number : ℕ) (line : List ℕ) (row : BodyRow) → sample_in form number line ≡ Some row → sample_in Quoted number line ≡ Some row

@@ -85,15 +85,15 @@ raw-goes from into raw goes is =
 -- the line that begins with it
 module _ (form : Form) (number : ℕ) (rest value after : List ℕ) (stamp : Option ℤ) (blank : slice_index rest 0 ≡ 32) (written : is_value value ≡ true) (end : IsLineEnd after stamp)
     (whole : rest ≡ blanks rest ++ (value ++ after)) (r : BodyRow) where
-  named-again : (n : ℕ) (line : List ℕ) → IsNamed form n line r → IsNamed form number (r.raw ++ rest) (made_row number r.raw r.name r.labels value stamp)
+  named-again : (n : ℕ) (line : List ℕ) → IsNamed form n line r → IsNamed form number (r.raw ++ rest) (made_row number r.raw r.name r.labels (value, stamp))
   named-again n line p =
       let next = known-middle form r p.2 rest p.8 (starts-blank rest blank) (blanks-are rest) (value ++ after) whole p.1 p.7 in
       ([], next.0, p.2, after, refl, refl, p.6, next.1, p.8, value-written value written, end, next.2)
 
-  braced-again : (n : ℕ) (line : List ℕ) → IsBraced n line r → IsBraced number (r.raw ++ rest) (made_row number r.raw r.name r.labels value stamp)
+  braced-again : (n : ℕ) (line : List ℕ) → IsBraced n line r → IsBraced number (r.raw ++ rest) (made_row number r.raw r.name r.labels (value, stamp))
   braced-again n line p = ([], p.1, blanks rest, after, refl, refl, blanks-are rest, p.7, p.8, p.9, value-written value written, end, ap (λ t. r.raw ++ t) whole)
 
-  sample-again : (n : ℕ) (line : List ℕ) → IsSample form n line r → IsSample form number (r.raw ++ rest) (made_row number r.raw r.name r.labels value stamp)
+  sample-again : (n : ℕ) (line : List ℕ) → IsSample form n line r → IsSample form number (r.raw ++ rest) (made_row number r.raw r.name r.labels (value, stamp))
   sample-again n line p =
       ⊎_elim
       (λ (m : IsNamed form n line r). inl (named-again n line m))
@@ -108,7 +108,7 @@ module _ (form : Form) (number : ℕ) (text raw rest : List ℕ) (is_raw : IsRaw
       let w = raw-written form raw is_raw in
       let r = w.2 in
       let end = value-sound rest v s.stamp h.1 in
-      let row : BodyRow = made_row number r.raw r.name r.labels v s.stamp in
+      let row : BodyRow = made_row number r.raw r.name r.labels (v, s.stamp) in
       let is : text ≡ r.raw ++ rest = whole ∙ ap (λ a. a ++ rest) w.4 in
       let sample : IsSample form number text row =
       subst (λ t. IsSample form number t row) (sym is) (sample-again form number rest v end.0 s.stamp blank end.1 end.2 end.3 r w.0 w.1 w.3) in
@@ -116,7 +116,7 @@ module _ (form : Form) (number : ℕ) (text raw rest : List ℕ) (is_raw : IsRaw
       let here : bare text ≡ text = ap (λ k. drop k text) bare_is in
       let said : sample_in form number text ≡ Some row = ap (sample_in form number) (sym here) ∙ found in
       let front : r.raw ≡ take s.raw_len text = sym w.4 ∙ sym (take-append_seam raw rest) ∙ ap (take (length raw)) (sym whole) ∙ ap (λ k. take k text) (sym h.0) in
-      spanned-said form number text r.name r.labels s (said ∙ ap (λ (w : List ℕ). Some (made_row number w r.name r.labels v s.stamp)) front)
+      spanned-said form number text r.name r.labels s (said ∙ ap (λ (w : List ℕ). Some (made_row number w r.name r.labels (v, s.stamp))) front)
 
 -- each row of a body has a raw text
 pub row-raw : (form : Form) (bytes : List ℕ) (rows : List BodyRow) (i : ℕ) (r : BodyRow) → reading form bytes ≡ Ok rows → i < length rows → r ≡ get_or rows i r → IsRawText form r.raw

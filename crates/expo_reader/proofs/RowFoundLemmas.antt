@@ -93,7 +93,7 @@ module _ (number : ℕ) (row : BodyRow) (after : List ℕ) (is_number : row.line
         let word : word_in line ≡ Some (row.name, rest) = word-front [] row.name rest refl name.0 name.1 (some-stop middle (row.value ++ after) some e) in
         let brace : mark_in 123 rest ≡ None = mark-word 123 middle row.value after refl e (value-word row.value valued) in
         ap (named_row form number line) word
-        ∙ rw named (ap (after_name form number line row.name rest) brace
+        ∙ rw named (ap (after_name form number line (row.name, rest)) brace
         ∙ ap (row_of number row.name row.name []) (value-found middle row.value after row.stamp e valued end)
         ∙ ap (λ (ls : List Pair). row_of number row.name row.name ls (Some (row.value, row.stamp))) (sym none)
         ∙ row-same number row.name row is_number raw)
@@ -116,7 +116,7 @@ module _ (number : ℕ) (row : BodyRow) (after : List ℕ) (is_number : row.line
         let found : labels_in form (length opened + 1) opened ≡ Some (row.labels, tail) = labels-found form row.labels inside labels tail (length opened + 1) few in
         let whole : line ≡ front ++ tail = simp append_assoc in
         ap (named_row form number line) word
-        ∙ rw named (ap (after_name form number line row.name rest) brace
+        ∙ rw named (ap (after_name form number line (row.name, rest)) brace
         ∙ ap (labelled_row number line row.name) found
         ∙ ap (λ (l : List ℕ). differing_row number l row.name row.labels tail) whole
         ∙ differing-found front b2 e2 differ raw)

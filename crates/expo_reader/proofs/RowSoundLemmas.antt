@@ -99,7 +99,7 @@ module _ (form : Form) (number : ℕ) (line name rest : List ℕ) (row : BodyRow
   by_labels inside m None l e = absurd cc
   by_labels inside m (Some (labels, tail)) l e = with-labels inside m labels tail (labels-sound form (length inside + 1) inside labels tail l) e
 
-  by_name : (o : Option (List ℕ)) → mark_in 123 rest ≡ o → after_name form number (bare line) name rest o ≡ Some row → IsNamed form number line row
+  by_name : (o : Option (List ℕ)) → mark_in 123 rest ≡ o → after_name form number (bare line) (name, rest) o ≡ Some row → IsNamed form number line row
   by_name None m e = no-labels e
   by_name (Some inside) m e = by_labels inside m (labels_in form (length inside + 1) inside) refl e
 
@@ -109,7 +109,7 @@ bare-stops line = no-blanks (bare line) (stops-drop is_blank line)
 by_line : (form : Form) (number : ℕ) (line : List ℕ) (row : BodyRow) (o : Option (List ℕ × List ℕ)) → word_in (bare line) ≡ o → named_row form number (bare line) o ≡ Some row → IsNamed form number line row
 by_line form number line row None w e = absurd cc
 by_line form number line row (Some (name, rest)) w e =
-    let k = chosen (is_metric_name name) (after_name form number (bare line) name rest (mark_in 123 rest)) row e in
+    let k = chosen (is_metric_name name) (after_name form number (bare line) (name, rest) (mark_in 123 rest)) row e in
     let found = word-sound (bare line) name rest w in
     let text_is : bare line ≡ name ++ rest = found.0 ∙ ap (λ b. b ++ (name ++ rest)) (bare-stops line) in
     by_name form number line name rest row text_is k.0 found.2 (mark_in 123 rest) refl k.1

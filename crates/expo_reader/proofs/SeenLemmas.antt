@@ -18,7 +18,7 @@ use Rattle.expo_reader.proofs.RowLemmas.{chosen, either}
 same-parts : (number : ℕ) (raw name : List ℕ) (labels : List Pair) (o : Option (List ℕ × Option ℤ)) (row : BodyRow) → row_of number raw name labels o ≡ Some row → (name ≡ row.name) × (labels ≡ row.labels)
 same-parts number raw name labels None row e = absurd cc
 same-parts number raw name labels (Some (value, stamp)) row e =
-    let made : made_row number raw name labels value stamp ≡ row = cc in
+    let made : made_row number raw name labels (value, stamp) ≡ row = cc in
     (ap (λ (x : BodyRow). x.name) made, ap (λ (x : BodyRow). x.labels) made)
 
 module _ (number : ℕ) (line : List ℕ) (row : BodyRow) where
@@ -28,7 +28,7 @@ module _ (number : ℕ) (line : List ℕ) (row : BodyRow) where
       let d = chosen (names_differ labels) (row_of number (take (length line - length tail) line) name labels (value_in tail)) row e in
       same-parts number (take (length line - length tail) line) name labels (value_in tail) row d.1
 
-  by_mark : (name rest : List ℕ) (o : Option (List ℕ)) → after_name Quoted number line name rest o ≡ Some row → (name ≡ row.name) × (inside_labels o ≡ row.labels)
+  by_mark : (name rest : List ℕ) (o : Option (List ℕ)) → after_name Quoted number line (name, rest) o ≡ Some row → (name ≡ row.name) × (inside_labels o ≡ row.labels)
   by_mark name rest None e = same-parts number name name [] (value_in rest) row e
   by_mark name rest (Some inside) e = by_labels name (labels_in Quoted (length inside + 1) inside) e
 
@@ -38,7 +38,7 @@ module _ (number : ℕ) (line : List ℕ) (row : BodyRow) where
 
   by_word : (o b : Option (List ℕ × List ℕ)) → named_row Quoted number line o ≡ Some row → (name_of o b ≡ row.name) × (labels_behind o b ≡ row.labels)
   by_word None b e = absurd cc
-  by_word (Some (name, rest)) b e = by_mark name rest (mark_in 123 rest) (chosen (is_metric_name name) (after_name Quoted number line name rest (mark_in 123 rest)) row e).1
+  by_word (Some (name, rest)) b e = by_mark name rest (mark_in 123 rest) (chosen (is_metric_name name) (after_name Quoted number line (name, rest) (mark_in 123 rest)) row e).1
 
   by_front : (o b : Option (List ℕ × List ℕ)) → word_in line ≡ o → braced_name line ≡ b → braced_row number line b ≡ Some row → (name_of o b ≡ row.name) × (labels_behind o b ≡ row.labels)
   by_front None b w n e = by_braces b e

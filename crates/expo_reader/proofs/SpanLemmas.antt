@@ -87,7 +87,7 @@ name-front line name rest e none =
 -- the row of a line without labels
 pub bare-is : (form : Form) (number : ℕ) (line name rest : List ℕ) → word_in line ≡ Some (name, rest) → is_metric_name name ≡ true → mark_in 123 rest ≡ None →
     named_row form number line (word_in line) ≡ row_of number name name [] (value_in rest)
-bare-is form number line name rest word metric none = ap (named_row form number line) word ∙ rw metric (ap (after_name form number line name rest) none)
+bare-is form number line name rest word metric none = ap (named_row form number line) word ∙ rw metric (ap (after_name form number line (name, rest)) none)
 
 else-none : {A : Type 0} (o : Option A) → or_else o None ≡ o
 else-none None = refl
@@ -113,7 +113,7 @@ module _ (number : ℕ) (line name raw rest : List ℕ) (labels : List Pair) (ra
   parts-said (Ok s) h =
       let v = take s.value_len (drop s.value_at line) in
       is ∙ ap (row_of number raw name labels) h.1
-      ∙ ap (λ (w : List ℕ). Some (made_row number w name labels v s.stamp)) (raw_is ∙ ap (λ k. take k line) (sym h.0))
+      ∙ ap (λ (w : List ℕ). Some (made_row number w name labels (v, s.stamp))) (raw_is ∙ ap (λ k. take k line) (sym h.0))
   parts-said (Err f) h = subst (λ g. FaultIs g said) (sym h.0) (is ∙ ap (row_of number raw name labels) h.1)
 
 -- a line that is read as something else is
@@ -131,7 +131,7 @@ fault-again NoMemory x g none e = tt
 module _ (form : Form) (number : ℕ) (line name rest inside : List ℕ) (word : word_in line ≡ Some (name, rest)) (mark : mark_in 123 rest ≡ Some inside) (metric : is_metric_name name ≡ true) where
   pub inside-row : sample_in form number line ≡ labelled_row number line name (labels_in form (length inside + 1) inside)
   inside-row =
-      front-only form number line name rest word ∙ ap (named_row form number line) word ∙ rw metric (ap (after_name form number line name rest) mark)
+      front-only form number line name rest word ∙ ap (named_row form number line) word ∙ rw metric (ap (after_name form number line (name, rest)) mark)
 
   pub inside-fault : (f : Fault) → FaultIs f (labels_in form (length inside + 1) inside) → FaultIs f (sample_in form number line)
   inside-fault f e =

@@ -43,12 +43,12 @@ labels_behind None braced = braced_labels braced
 unfoldable pub labels_at : List ℕ → List Pair
 labels_at line = labels_behind (word_in line) (braced_name line)
 
-abbrev pub made_row : ℕ → List ℕ → List ℕ → List Pair → List ℕ → Option ℤ → BodyRow
-made_row number raw name labels value stamp = record { line = number; raw = raw; name = name; labels = labels; value = value; stamp = stamp }
+abbrev pub made_row : ℕ → List ℕ → List ℕ → List Pair → List ℕ × Option ℤ → BodyRow
+made_row number raw name labels (value, stamp) = record { line = number; raw = raw; name = name; labels = labels; value = value; stamp = stamp }
 
 -- the row of a line with that name and these labels, whose other parts stand there
 abbrev pub spanned_row : ℕ → List ℕ → List ℕ → List Pair → LineSpan → BodyRow
-spanned_row number line name labels s = made_row number (take s.raw_len line) name labels (take s.value_len (drop s.value_at line)) s.stamp
+spanned_row number line name labels s = made_row number (take s.raw_len line) name labels (take s.value_len (drop s.value_at line), s.stamp)
 
 -- the row of a line whose parts stand there
 abbrev pub row_at : ℕ → List ℕ → LineSpan → BodyRow

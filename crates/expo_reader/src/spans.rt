@@ -166,32 +166,44 @@ pub(crate) fn line_parts<'b>(
     }
 }
 
+/// A line of a body: the form of the body, the number of the line, and its bytes.
+#[derive(Clone, Copy)]
+struct BodyLine<'b> {
+    form: Form,
+    number: u64,
+    bytes: &'b [u8],
+}
+
 /// What a line says: where its parts stand behind its blanks, nothing where it is skipped, or that it is faulty. Beside it the place of its raw
 /// text among those met before, and one, or 0.
 fn read_parts<'b, T: RawTexts>(
     alloc: Global,
-    form: Form,
-    number: u64,
-    line: &'b [u8],
+    body_line: &BodyLine<'b>,
     like: &T,
     expected: &mut Expected,
     labels: &mut Vec<BorrowedLabel<'b>>,
 ) -> Result<(Option<(usize, LineSpan)>, u32), BodyCause>
-    requires { length line.now < 2 ^ 32 }
-    ensures said { MatchResult result (λ r. line_reading form number line.now ≡ Ok (seen.span_row number line.now r.0))
-        (λ c. CauseIs c (line_reading form number line.now)) }
-    ensures inside { IfOk result (λ r. IfSome r.0 (λ p. (p.0 ≤ length line.now) × seen.IsInside (length line.now - p.0) p.1)) }
-    ensures like { IfOk result (λ r. IfSome r.0 (λ p. IsLike (T.texts like.now) r.1 (take p.1.raw_len (drop p.0 line.now)))) }
+    requires { length body_line.now.bytes.now < 2 ^ 32 }
+    ensures said { MatchResult result
+        (λ r. line_reading body_line.now.form body_line.now.number body_line.now.bytes.now
+        ≡ Ok (seen.span_row body_line.now.number body_line.now.bytes.now r.0))
+        (λ c. CauseIs c (line_reading body_line.now.form body_line.now.number body_line.now.bytes.now)) }
+    ensures inside { IfOk result (λ r. IfSome r.0 (λ p. (p.0 ≤ length body_line.now.bytes.now)
+        × seen.IsInside (length body_line.now.bytes.now - p.0) p.1)) }
+    ensures like { IfOk result (λ r. IfSome r.0
+        (λ p. IsLike (T.texts like.now) r.1 (take p.1.raw_len (drop p.0 body_line.now.bytes.now)))) }
 {
+    let line = body_line.bytes;
     let Some(start) = start_of(line) else {
         return Ok((None, 0));
     };
     if line[start] == b'#' {
         return Ok((None, 0));
     }
+    let form = body_line.form;
     match like_parts(alloc, form, behind(line, start), like, expected, labels) {
         Ok((parts, place)) => Ok((Some((start, parts)), place)),
-        Err(Fault::Faulty) => Err(BodyCause::Line(number)),
+        Err(Fault::Faulty) => Err(BodyCause::Line(body_line.number)),
         Err(Fault::NoMemory) => Err(BodyCause::NoMemory),
     }
 }
@@ -273,15 +285,12 @@ pub(crate) fn spans_of<T: RawTexts>(
     while place < body.len() {
         let rest = behind(body, place);
         let end = line_end(rest);
-        match read_parts(
-            alloc,
+        let body_line = BodyLine {
             form,
             number,
-            &rest[..end],
-            like,
-            &mut expected,
-            &mut labels,
-        ) {
+            bytes: &rest[..end],
+        };
+        match read_parts(alloc, &body_line, like, &mut expected, &mut labels) {
             Ok((parts, found)) => spans.push(number, place, end, parts, found)?,
             Err(cause) => return Err(cause),
         }
