@@ -5,14 +5,14 @@ use Rattle.http_fetch.specs.declared.stages.Stage.{Stage}
 use Rattle.http_fetch.specs.declared.stages.Stage.TheVariants.{Length, Data, Open, Whole, Over}
 use Rattle.http_fetch.specs.Chunks.{ExceedsInChunks}
 use Rattle.http_fetch.specs.Replies.{HasFront}
-use Rattle.http_fetch.specs.Stages.{Same, Leads, Fits}
+use Rattle.http_fetch.specs.Stages.{Same, Leads, Fits, decoding}
 use Rattle.http_fetch.specs.Expected.{Grown, More, MoreData, ExceedsData}
 use Rattle.http_fetch.proofs.FrontLemmas.{fronts}
 
 -- what comes behind u, of what has u in front
 module _ (one other : Stage) (limit : ℕ) (got u x : List ℕ) where
   pub grown-part : ((bytes : List ℕ) → More one (u ++ x) bytes → (rest : List ℕ) × (bytes ≡ u ++ rest) × More other x rest) → (s : ℕ) (c : List ℕ) →
-      Grown one limit got (u ++ x) s c → Grown other limit (got ++ u) x s c
+      Grown one limit got (u ++ x) (s, c) → Grown other limit (got ++ u) x (s, c)
   grown-part f s c w =
       let p = f w.rest w.more in
       let sum : length w.rest ≡ length u + length p.0 = ap length p.1 ∙ length-append u p.0 in
@@ -21,7 +21,7 @@ module _ (one other : Stage) (limit : ℕ) (got u x : List ℕ) where
       record { good = w.good; rest = p.0; more = p.2; within = omega (arith, sum, all, few); all = w.all ∙ ap (λ (r : List ℕ). got ++ r) p.1 ∙ sym (append_assoc got u p.0) }
 
   pub grown-back : length got + length u ≤ limit → ((rest : List ℕ) → More other x rest → More one (u ++ x) (u ++ rest)) → (s : ℕ) (c : List ℕ) →
-      Grown other limit (got ++ u) x s c → Grown one limit got (u ++ x) s c
+      Grown other limit (got ++ u) x (s, c) → Grown one limit got (u ++ x) (s, c)
   grown-back fits f s c w =
       let sum : length (u ++ w.rest) ≡ length u + length w.rest = length-append u w.rest in
       let all : length (got ++ u) ≡ length got + length u = length-append got u in
@@ -30,12 +30,12 @@ module _ (one other : Stage) (limit : ℕ) (got u x : List ℕ) where
 
 -- a step over u, where what follows is put behind it
 abbrev Part : ℕ → Stage → List ℕ → List ℕ → List ℕ → Stage → Type 0
-Part limit one got u x other = Same limit one got (u ++ x) other (got ++ u) x
+Part limit one got u x other = Same limit (decoding one got (u ++ x)) (decoding other (got ++ u) x)
 
-parts-lead : (limit : ℕ) (one other : Stage) (got u v : List ℕ) → Fits other limit (got ++ u) → ((x : List ℕ) → Part limit one got u x other) → Leads limit one got (u ++ v) other (got ++ u) v
+parts-lead : (limit : ℕ) (one other : Stage) (got u v : List ℕ) → Fits other limit (got ++ u) → ((x : List ℕ) → Part limit one got u x other) → Leads limit (decoding one got (u ++ v)) (decoding other (got ++ u) v)
 parts-lead limit one other got u v fits part = record {
   fits = fits;
-  same = λ more. subst (λ (t : List ℕ). Same limit one got t other (got ++ u) (v ++ more)) (sym (append_assoc u v more)) (part (v ++ more));
+  same = λ more. subst (λ (t : List ℕ). Same limit (decoding one got t) (decoding other (got ++ u) (v ++ more))) (sym (append_assoc u v more)) (part (v ++ more));
 }
 
 -- ---- a body of a length
@@ -72,12 +72,12 @@ length-whole limit left got u x all fits = record {
 }
 
 -- the front of a text, and what is behind it
-parted : (limit used : ℕ) (one other : Stage) (got text : List ℕ) → Leads limit one got (take used text ++ drop used text) other (got ++ take used text) (drop used text) →
-    Leads limit one got text other (got ++ take used text) (drop used text)
-parted limit used one other got text l = subst (λ (t : List ℕ). Leads limit one got t other (got ++ take used text) (drop used text)) (take-append-drop used text) l
+parted : (limit used : ℕ) (one other : Stage) (got text : List ℕ) → Leads limit (decoding one got (take used text ++ drop used text)) (decoding other (got ++ take used text) (drop used text)) →
+    Leads limit (decoding one got text) (decoding other (got ++ take used text) (drop used text))
+parted limit used one other got text l = subst (λ (t : List ℕ). Leads limit (decoding one got t) (decoding other (got ++ take used text) (drop used text))) (take-append-drop used text) l
 
 pub length-whole-lead : (limit left used : ℕ) (got text : List ℕ) → used ≡ left → used ≤ length text → length got + left ≤ limit →
-    Leads limit (Length left) got text (Whole 200) (got ++ take used text) (drop used text)
+    Leads limit (decoding (Length left) got text) (decoding (Whole 200) (got ++ take used text) (drop used text))
 length-whole-lead limit left used got text e within fits =
     let u : List ℕ = take used text in
     let all : length u ≡ left = length-take-le used text within ∙ e in
@@ -85,7 +85,7 @@ length-whole-lead limit left used got text e within fits =
     (parts-lead limit (Length left) (Whole 200) got u (drop used text) (omega (arith, length-append got u, all, fits)) (λ x. length-whole limit left got u x all fits))
 
 pub length-more-lead : (limit left used : ℕ) (got text : List ℕ) → used < left → used ≤ length text → length got + left ≤ limit →
-    Leads limit (Length left) got text (Length (left - used)) (got ++ take used text) (drop used text)
+    Leads limit (decoding (Length left) got text) (decoding (Length (left - used)) (got ++ take used text) (drop used text))
 length-more-lead limit left used got text small within fits =
     let u : List ℕ = take used text in
     let len : length u ≡ used = length-take-le used text within in
@@ -147,7 +147,7 @@ module _ (limit left : ℕ) (got u x : List ℕ) (small : length u ≤ left) (fi
   }
 
 pub data-lead : (limit left used : ℕ) (got text : List ℕ) → used ≤ left → used ≤ length text → length got + left ≤ limit →
-    Leads limit (Data left) got text (Data (left - used)) (got ++ take used text) (drop used text)
+    Leads limit (decoding (Data left) got text) (decoding (Data (left - used)) (got ++ take used text) (drop used text))
 data-lead limit left used got text small within fits =
     let u : List ℕ = take used text in
     let len : length u ≡ used = length-take-le used text within in
@@ -173,13 +173,13 @@ open-over limit got u x big = record {
   over_back = λ w. omega (arith, length-append u x, big);
 }
 
-pub open-over-lead : (limit used : ℕ) (got text : List ℕ) → used ≡ length text → limit - length got < used → Leads limit Open got text Over (got ++ take used text) (drop used text)
+pub open-over-lead : (limit used : ℕ) (got text : List ℕ) → used ≡ length text → limit - length got < used → Leads limit (decoding Open got text) (decoding Over (got ++ take used text) (drop used text))
 open-over-lead limit used got text e big =
     let u : List ℕ = take used text in
     let len : length u ≡ used = length-take-le used text (omega (arith, e)) in
     parted limit used Open Over got text (parts-lead limit Open Over got u (drop used text) tt (λ x. open-over limit got u x (omega (arith, len, big))))
 
-pub open-more-lead : (limit used : ℕ) (got text : List ℕ) → used ≡ length text → used ≤ limit - length got → length got ≤ limit → Leads limit Open got text Open (got ++ take used text) (drop used text)
+pub open-more-lead : (limit used : ℕ) (got text : List ℕ) → used ≡ length text → used ≤ limit - length got → length got ≤ limit → Leads limit (decoding Open got text) (decoding Open (got ++ take used text) (drop used text))
 open-more-lead limit used got text e small fits =
     let u : List ℕ = take used text in
     let len : length u ≡ used = length-take-le used text (omega (arith, e)) in

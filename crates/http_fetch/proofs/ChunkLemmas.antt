@@ -8,13 +8,13 @@ use Rattle.http_fetch.specs.declared.stages.Stage.{Stage}
 use Rattle.http_fetch.specs.declared.stages.Stage.TheVariants.{Line, Data, Trailer, Over}
 use Rattle.http_fetch.specs.Chunks.{LineAt, ChunkAt, Parts, joined, IsChunked, ExceedsInChunks, HasTrailers}
 use Rattle.http_fetch.specs.Reading.{NoLine, NoEnd}
-use Rattle.http_fetch.specs.Stages.{Leads}
+use Rattle.http_fetch.specs.Stages.{Leads, decoding}
 use Rattle.http_fetch.specs.Expected.{Grown, More, MoreData, ExceedsData}
 use Rattle.http_fetch.proofs.FrontLemmas.{line-unique, line-append}
 
 -- a reply that only grows goes on where the text does
 pub grown : {one other : Stage} {limit : ℕ} {got text rest : List ℕ} → ((bytes : List ℕ) → More one text bytes → More other rest bytes) → (s : ℕ) (c : List ℕ) →
-    Grown one limit got text s c → Grown other limit got rest s c
+    Grown one limit got text (s, c) → Grown other limit got rest (s, c)
 grown f s c w = record { good = w.good; rest = w.rest; more = f w.rest w.more; within = w.within; all = w.all }
 
 -- ---- chunk lines
@@ -127,7 +127,7 @@ no-exceeds none w = none-by w.parts w.reads w.next none
 
 -- the step over a line
 module _ (text : List ℕ) (l : ChunkLine) (rest : List ℕ) (here : LineAt text l rest) (limit : ℕ) (got : List ℕ) (fits : length got ≤ limit) where
-  line-over : limit - length got < chunk_size l → Leads limit Line got text Over got rest
+  line-over : limit - length got < chunk_size l → Leads limit (decoding Line got text) (decoding Over got rest)
   line-over big = record {
     fits = tt;
     same = λ more. record {
@@ -146,7 +146,7 @@ module _ (text : List ℕ) (l : ChunkLine) (rest : List ℕ) (here : LineAt text
     };
   }
 
-  line-last : chunk_size l ≡ 0 → Leads limit Line got text (Trailer 65536) got rest
+  line-last : chunk_size l ≡ 0 → Leads limit (decoding Line got text) (decoding (Trailer 65536) got rest)
   line-last empty = record {
     fits = (fits, omega arith);
     same = λ more. record {
@@ -160,7 +160,7 @@ module _ (text : List ℕ) (l : ChunkLine) (rest : List ℕ) (here : LineAt text
     };
   }
 
-  line-data : 0 < chunk_size l → chunk_size l ≤ limit - length got → Leads limit Line got text (Data (chunk_size l)) got rest
+  line-data : 0 < chunk_size l → chunk_size l ≤ limit - length got → Leads limit (decoding Line got text) (decoding (Data (chunk_size l)) got rest)
   line-data some small = record {
     fits = omega (arith, fits, small);
     same = λ more. record {
@@ -175,14 +175,14 @@ module _ (text : List ℕ) (l : ChunkLine) (rest : List ℕ) (here : LineAt text
   }
 
   pub line-next : (over zero : Bool) → nat_lt (limit - length got) (chunk_size l) ≡ over → chunk_size l == 0 ≡ zero →
-      Leads limit Line got text (if over then Over else (if zero then Trailer 65536 else Data (chunk_size l))) got rest
+      Leads limit (decoding Line got text) (decoding (if over then Over else (if zero then Trailer 65536 else Data (chunk_size l))) got rest)
   line-next true zero o z = line-over (grind (arith, nat_tests, o))
   line-next false true o z = line-last (grind (arith, nat_tests, z))
   line-next false false o z = line-data (grind (arith, nat_tests, z)) (grind (arith, nat_tests, o))
 
 -- ---- the ends of chunks
 
-pub end-next : (rest : List ℕ) (limit : ℕ) (got : List ℕ) → length got ≤ limit → Leads limit (Data 0) got (13 ∷ 10 ∷ rest) Line got rest
+pub end-next : (rest : List ℕ) (limit : ℕ) (got : List ℕ) → length got ≤ limit → Leads limit (decoding (Data 0) got (13 ∷ 10 ∷ rest)) (decoding Line got rest)
 end-next rest limit got fits = record {
   fits = fits;
   same = λ more. record {

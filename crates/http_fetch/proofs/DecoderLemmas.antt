@@ -11,7 +11,7 @@ use Rattle.http_fetch.specs.declared.stages.Stage.{Stage}
 use Rattle.http_fetch.specs.declared.stages.Stage.TheVariants.{Heads, Length, Line, Data, Trailer, Open, Whole, Over, Never}
 use Rattle.http_fetch.specs.Replies.{Came, IsWhole, IsEnded, WholeAfter, Interims, Reaches, IsBody, framing_of}
 use Rattle.http_fetch.specs.Chunks.{IsChunked, Parts, ChunkAt, Trailers, LineAt}
-use Rattle.http_fetch.specs.Stages.{Same, Leads, Stands, Waits, Fits}
+use Rattle.http_fetch.specs.Stages.{Same, Leads, Stands, Waits, Fits, decoding}
 use Rattle.http_fetch.specs.Steps.{is_done}
 use Rattle.http_fetch.specs.Reading.{NoHead, NoLine}
 use Rattle.http_fetch.specs.Decoders.{StandsFor, MustEnd}
@@ -20,7 +20,7 @@ use Rattle.http_fetch.proofs.PlaceLemmas.{same-refl, same-trans, done-same, Says
 
 -- ---- what may follow
 
-came-same : (limit : ℕ) (b d : List ℕ) → Same limit (Heads 8) [] b (Heads 8) [] d → (r : Reply) → Came b limit r ↔ Came d limit r
+came-same : (limit : ℕ) (b d : List ℕ) → Same limit (decoding (Heads 8) [] b) (decoding (Heads 8) [] d) → (r : Reply) → Came b limit r ↔ Came d limit r
 came-same limit b d x (Body s c) = (x.whole s c, x.whole_back s c)
 came-same limit b d x Oversize = (x.over, x.over_back)
 came-same limit b d x (Quoted s c) = (λ h. h, λ h. h)
@@ -28,7 +28,7 @@ came-same limit b d x Lost = (λ h. h, λ h. h)
 came-same limit b d x Unsent = (λ h. h, λ h. h)
 came-same limit b d x Garbled = (λ h. (λ s c w. h.0 s c (x.whole_back s c w), λ w. h.1 (x.over_back w)), λ h. (λ s c w. h.0 s c (x.whole s c w), λ w. h.1 (x.over w)))
 
-same-sym : {limit : ℕ} {a b : Stage} {ga ta gb tb : List ℕ} → Same limit a ga ta b gb tb → Same limit b gb tb a ga ta
+same-sym : {limit : ℕ} {a b : Stage} {ga ta gb tb : List ℕ} → Same limit (decoding a ga ta) (decoding b gb tb) → Same limit (decoding b gb tb) (decoding a ga ta)
 same-sym x = record { whole = x.whole_back; whole_back = x.whole; over = x.over_back; over_back = x.over }
 
 -- each continuation leaves what came as it is
@@ -89,7 +89,7 @@ body-append (framings.Length n) text bytes more other w = (w.0, (w.1.0 ++ more, 
 body-append framings.Chunks text bytes more other w = chunked-append more w
 body-append framings.ToEnd text bytes more other w = absurd (other refl)
 
-after-append : (code : ℕ) (f : Framing) (text : List ℕ) (limit s : ℕ) (c more : List ℕ) → (code ≢ 200) ⊎ (f ≢ framings.ToEnd) → WholeAfter code f text limit s c → WholeAfter code f (text ++ more) limit s c
+after-append : (code : ℕ) (f : Framing) (text : List ℕ) (limit s : ℕ) (c more : List ℕ) → (code ≢ 200) ⊎ (f ≢ framings.ToEnd) → WholeAfter code f text limit (s, c) → WholeAfter code f (text ++ more) limit (s, c)
 after-append code f text limit s c more ends w = (
   w.0,
   ⊎_elim
@@ -177,13 +177,13 @@ pub stands-new : (limit : ℕ) → Stands limit (Heads 8) [] [] []
 stands-new limit = record { leads = refl; waits = no-head; same = λ more. same-refl limit (Heads 8) [] more }
 
 -- a run over what was pending and a piece
-pub stands-on : (limit : ℕ) (stage next : Stage) (got had pending rest b piece : List ℕ) → Stands limit stage got pending b → Leads limit stage got (pending ++ piece) next had rest → Waits next rest →
+pub stands-on : (limit : ℕ) (stage next : Stage) (got had pending rest b piece : List ℕ) → Stands limit stage got pending b → Leads limit (decoding stage got (pending ++ piece)) (decoding next had rest) → Waits next rest →
     Stands limit next had rest (b ++ piece)
 stands-on limit stage next got had pending rest b piece st l waits = record {
   leads = l.fits;
   waits = waits;
-  same = λ more. subst (λ (t : List ℕ). Same limit (Heads 8) [] t next had (rest ++ more)) (sym (append_assoc b piece more))
-      (same-trans (subst (λ (t : List ℕ). Same limit (Heads 8) [] (b ++ (piece ++ more)) stage got t) (sym (append_assoc pending piece more)) (st.same (piece ++ more))) (l.same more));
+  same = λ more. subst (λ (t : List ℕ). Same limit (decoding (Heads 8) [] t) (decoding next had (rest ++ more))) (sym (append_assoc b piece more))
+      (same-trans (subst (λ (t : List ℕ). Same limit (decoding (Heads 8) [] (b ++ (piece ++ more))) (decoding stage got t)) (sym (append_assoc pending piece more)) (st.same (piece ++ more))) (l.same more));
 }
 
 -- nothing more is looked at
@@ -191,7 +191,7 @@ pub stands-done : (limit : ℕ) (stage : Stage) (got pending b piece : List ℕ)
 stands-done limit stage got pending b piece done st = record {
   leads = st.leads;
   waits = st.waits;
-  same = λ more. subst (λ (t : List ℕ). Same limit (Heads 8) [] t stage got (pending ++ more)) (sym (append_assoc b piece more))
+  same = λ more. subst (λ (t : List ℕ). Same limit (decoding (Heads 8) [] t) (decoding stage got (pending ++ more))) (sym (append_assoc b piece more))
       (same-trans (st.same (piece ++ more)) (done-same stage limit got (pending ++ (piece ++ more)) (pending ++ more) done));
 }
 
@@ -229,9 +229,9 @@ behind-left text front rest n e = (front ++ take n rest, e ∙ ap (λ (r : List 
 
 -- the same of a decoder
 pub stands-for-on : (d : Decoder) (limit : ℕ) (next : Stage) (had rest b piece : List ℕ) → StandsFor d limit b →
-    (Fits d.stage d.limit d.body.items → Leads d.limit d.stage d.body.items (d.pending.items ++ piece) next had rest) → (Fits d.stage d.limit d.body.items → Waits next rest) →
+    (Fits d.stage d.limit d.body.items → Leads d.limit (decoding d.stage d.body.items (d.pending.items ++ piece)) (decoding next had rest)) → (Fits d.stage d.limit d.body.items → Waits next rest) →
     Stands limit next had rest (b ++ piece)
 stands-for-on d limit next had rest b piece st leads waits =
     let fits : Fits d.stage d.limit d.body.items = subst (λ n. Fits d.stage n d.body.items) (sym st.limit_is) st.stands.leads in
     stands-on limit d.stage next d.body.items had d.pending.items rest b piece st.stands
-    (subst (λ n. Leads n d.stage d.body.items (d.pending.items ++ piece) next had rest) st.limit_is (leads fits)) (waits fits)
+    (subst (λ n. Leads n (decoding d.stage d.body.items (d.pending.items ++ piece)) (decoding next had rest)) st.limit_is (leads fits)) (waits fits)

@@ -10,7 +10,7 @@ use Rattle.http_fetch.specs.declared.stages.Stage.{Stage}
 use Rattle.http_fetch.specs.declared.stages.Stage.TheVariants.{Heads, Length, Line, Open, Whole, Over, Never}
 use Rattle.http_fetch.specs.Replies.{HeadAt, Interims, IsInterim, Reaches, IsWhole, IsOver, WholeAfter, OverAfter, framing_of, IsBody}
 use Rattle.http_fetch.specs.Reading.{NoHead}
-use Rattle.http_fetch.specs.Stages.{Leads, WholeFrom, OverFrom, Fits}
+use Rattle.http_fetch.specs.Stages.{Leads, WholeFrom, OverFrom, Fits, decoding}
 use Rattle.http_fetch.specs.Expected.{Grown, More}
 use Rattle.http_fetch.specs.Steps.{after_good}
 use Rattle.http_fetch.proofs.FrontLemmas.{head-unique, head-append}
@@ -64,10 +64,10 @@ reaches-none {n} none r = none-by r.interims r.passed r.head none
 
 -- the places behind a head
 good : {limit : ℕ} {text rest : List ℕ} {h : ResponseHead} (n : ℕ) → HeadAt text h rest → 200 ≤ status_code h → (s : ℕ) (c : List ℕ) →
-    IsWhole n text limit s c → WholeAfter (status_code h) (framing_of h) rest limit s c
+    IsWhole n text limit s c → WholeAfter (status_code h) (framing_of h) rest limit (s, c)
 good {limit} n here final s c w =
     let same = reaches-final here final w.reaches in
-    subst (λ (k : ResponseHead). WholeAfter (status_code k) (framing_of k) _ limit s c) same.0 (subst (λ t. WholeAfter (status_code w.head) (framing_of w.head) t limit s c) same.1 w.whole)
+    subst (λ (k : ResponseHead). WholeAfter (status_code k) (framing_of k) _ limit (s, c)) same.0 (subst (λ t. WholeAfter (status_code w.head) (framing_of w.head) t limit (s, c)) same.1 w.whole)
 
 long : {limit : ℕ} {text rest : List ℕ} {h : ResponseHead} (n : ℕ) → HeadAt text h rest → 200 ≤ status_code h →
     IsOver n text limit → OverAfter (status_code h) (framing_of h) rest limit
@@ -77,7 +77,7 @@ long {limit} n here final w =
 
 -- a head of a low code
 module _ (text : List ℕ) (h : ResponseHead) (rest : List ℕ) (here : HeadAt text h rest) (n limit : ℕ) where
-  low-never : status_code h < 200 → (status_code h < 100) ⊎ (n ≡ 0) → Leads limit (Heads n) [] text Never [] rest
+  low-never : status_code h < 200 → (status_code h < 100) ⊎ (n ≡ 0) → Leads limit (decoding (Heads n) [] text) (decoding Never [] rest)
   low-never low why = record {
     fits = tt;
     same = λ more. record {
@@ -88,7 +88,7 @@ module _ (text : List ℕ) (h : ResponseHead) (rest : List ℕ) (here : HeadAt t
     };
   }
 
-  low-next : IsInterim h → 0 < n → Leads limit (Heads n) [] text (Heads (n - 1)) [] rest
+  low-next : IsInterim h → 0 < n → Leads limit (decoding (Heads n) [] text) (decoding (Heads (n - 1)) [] rest)
   low-next low some = record {
     fits = refl;
     same = λ more. record {
@@ -101,11 +101,11 @@ module _ (text : List ℕ) (h : ResponseHead) (rest : List ℕ) (here : HeadAt t
 
   -- behind the last head the place need only give what follows it
   behind : (next : Stage) → 200 ≤ status_code h → Fits next limit [] →
-      ((more : List ℕ) (s : ℕ) (c : List ℕ) → WholeAfter (status_code h) (framing_of h) (rest ++ more) limit s c → WholeFrom next limit [] (rest ++ more) s c) →
-      ((more : List ℕ) (s : ℕ) (c : List ℕ) → WholeFrom next limit [] (rest ++ more) s c → WholeAfter (status_code h) (framing_of h) (rest ++ more) limit s c) →
+      ((more : List ℕ) (s : ℕ) (c : List ℕ) → WholeAfter (status_code h) (framing_of h) (rest ++ more) limit (s, c) → WholeFrom next limit [] (rest ++ more) (s, c)) →
+      ((more : List ℕ) (s : ℕ) (c : List ℕ) → WholeFrom next limit [] (rest ++ more) (s, c) → WholeAfter (status_code h) (framing_of h) (rest ++ more) limit (s, c)) →
       ((more : List ℕ) → OverAfter (status_code h) (framing_of h) (rest ++ more) limit → OverFrom next limit [] (rest ++ more)) →
       ((more : List ℕ) → OverFrom next limit [] (rest ++ more) → OverAfter (status_code h) (framing_of h) (rest ++ more) limit) →
-      Leads limit (Heads n) [] text next [] rest
+      Leads limit (decoding (Heads n) [] text) (decoding next [] rest)
   behind next final fits there back longer shorter = record {
     fits = fits;
     same = λ more. record {
@@ -119,8 +119,8 @@ module _ (text : List ℕ) (h : ResponseHead) (rest : List ℕ) (here : HeadAt t
 -- what follows a head, and the place behind it
 abbrev Gives : ℕ → Framing → List ℕ → ℕ → Stage → Type 0
 Gives code f text limit next =
-    ((s : ℕ) (c : List ℕ) → WholeAfter code f text limit s c → WholeFrom next limit [] text s c)
-    × ((s : ℕ) (c : List ℕ) → WholeFrom next limit [] text s c → WholeAfter code f text limit s c)
+    ((s : ℕ) (c : List ℕ) → WholeAfter code f text limit (s, c) → WholeFrom next limit [] text (s, c))
+    × ((s : ℕ) (c : List ℕ) → WholeFrom next limit [] text (s, c) → WholeAfter code f text limit (s, c))
     × (OverAfter code f text limit → OverFrom next limit [] text)
     × (OverFrom next limit [] text → OverAfter code f text limit)
 
@@ -160,12 +160,12 @@ gives-none code text limit e = (
   λ w. absurd w,
 )
 
-grown-whole : (stage : Stage) (code : ℕ) (f : Framing) (text : List ℕ) (limit : ℕ) → code ≡ 200 → ((c : List ℕ) → IsBody f text c → More stage text c) → (s : ℕ) (c : List ℕ) → WholeAfter code f text limit s c → Grown stage limit [] text s c
+grown-whole : (stage : Stage) (code : ℕ) (f : Framing) (text : List ℕ) (limit : ℕ) → code ≡ 200 → ((c : List ℕ) → IsBody f text c → More stage text c) → (s : ℕ) (c : List ℕ) → WholeAfter code f text limit (s, c) → Grown stage limit [] text (s, c)
 grown-whole stage code f text limit e there s c w =
     let b = body-of code limit f text c e w.1 in
     record { good = w.0 ∙ e; rest = c; more = there c b.0; within = rw (sub-zero limit) b.1; all = refl }
 
-whole-grown : (stage : Stage) (code : ℕ) (f : Framing) (text : List ℕ) (limit : ℕ) → code ≡ 200 → ((c : List ℕ) → More stage text c → IsBody f text c) → (s : ℕ) (c : List ℕ) → Grown stage limit [] text s c → WholeAfter code f text limit s c
+whole-grown : (stage : Stage) (code : ℕ) (f : Framing) (text : List ℕ) (limit : ℕ) → code ≡ 200 → ((c : List ℕ) → More stage text c → IsBody f text c) → (s : ℕ) (c : List ℕ) → Grown stage limit [] text (s, c) → WholeAfter code f text limit (s, c)
 whole-grown stage code f text limit e back s c w =
     let same : w.rest ≡ c = sym w.all in
     (w.good ∙ sym e, inr (e, back c (subst (More stage text) same w.more), subst (λ (k : List ℕ). length k ≤ limit) same (rw (sub-zero limit) at w.within)))
@@ -203,11 +203,11 @@ no-over none w = reaches-none none w.reaches
 
 -- the step over a head that was found
 module _ (text : List ℕ) (h : ResponseHead) (rest : List ℕ) (here : HeadAt text h rest) (n limit : ℕ) where
-  behind-gives : (next : Stage) → 200 ≤ status_code h → Fits next limit [] → ((more : List ℕ) → Gives (status_code h) (framing_of h) (rest ++ more) limit next) → Leads limit (Heads n) [] text next [] rest
+  behind-gives : (next : Stage) → 200 ≤ status_code h → Fits next limit [] → ((more : List ℕ) → Gives (status_code h) (framing_of h) (rest ++ more) limit next) → Leads limit (decoding (Heads n) [] text) (decoding next [] rest)
   behind-gives next final fits gives = behind text h rest here n limit next final fits (λ more. (gives more).0) (λ more. (gives more).1) (λ more. (gives more).2) (λ more. (gives more).3)
 
   good-length : (size : ℕ) (over zero : Bool) → nat_lt limit size ≡ over → size == 0 ≡ zero → status_code h ≡ 200 → framing_of h ≡ framings.Length size →
-      Leads limit (Heads n) [] text (if over then Over else (if zero then Whole 200 else Length size)) [] rest
+      Leads limit (decoding (Heads n) [] text) (decoding (if over then Over else (if zero then Whole 200 else Length size)) [] rest)
   good-length size true zero o z e f =
       let big : limit < size = grind (arith, nat_tests, o) in
       behind-gives Over (omega (arith, e)) tt (λ more. subst (λ (g : Framing). Gives (status_code h) g (rest ++ more) limit Over) (sym f) (gives-over (status_code h) size (rest ++ more) limit e big))
@@ -219,7 +219,7 @@ module _ (text : List ℕ) (h : ResponseHead) (rest : List ℕ) (here : HeadAt t
       let some : 0 < size = grind (arith, nat_tests, z) in
       behind-gives (Length size) (omega (arith, e)) (some, omega (arith, fits)) (λ more. subst (λ (g : Framing). Gives (status_code h) g (rest ++ more) limit (Length size)) (sym f) (gives-length (status_code h) size (rest ++ more) limit e fits))
 
-  good-next : (f : Framing) → status_code h ≡ 200 → framing_of h ≡ f → Leads limit (Heads n) [] text (after_good f limit) [] rest
+  good-next : (f : Framing) → status_code h ≡ 200 → framing_of h ≡ f → Leads limit (decoding (Heads n) [] text) (decoding (after_good f limit) [] rest)
   good-next framings.Refused e f =
       behind-gives Never (omega (arith, e)) tt (λ more. subst (λ (g : Framing). Gives (status_code h) g (rest ++ more) limit Never) (sym f) (gives-refused (status_code h) (rest ++ more) limit e))
   good-next (framings.Length size) e f = good-length size (nat_lt limit size) (size == 0) refl refl e f
@@ -229,7 +229,7 @@ module _ (text : List ℕ) (h : ResponseHead) (rest : List ℕ) (here : HeadAt t
       behind-gives Open (omega (arith, e)) (omega arith) (λ more. subst (λ (g : Framing). Gives (status_code h) g (rest ++ more) limit Open) (sym f) (gives-open (status_code h) (rest ++ more) limit e))
 
   pub head-next : (a b z g : Bool) → nat_lt (status_code h) 100 ≡ a → nat_lt (status_code h) 200 ≡ b → n == 0 ≡ z → status_code h == 200 ≡ g →
-      Leads limit (Heads n) [] text (if a then Never else (if b then (if z then Never else Heads (n - 1)) else (if g then after_good (framing_of h) limit else Whole (status_code h)))) [] rest
+      Leads limit (decoding (Heads n) [] text) (decoding (if a then Never else (if b then (if z then Never else Heads (n - 1)) else (if g then after_good (framing_of h) limit else Whole (status_code h)))) [] rest)
   head-next true b z g ea eb ez eg = (let low : status_code h < 100 = grind (arith, nat_tests, ea) in low-never text h rest here n limit (omega (arith, low)) (inl low))
   head-next false true true g ea eb ez eg = (let low : status_code h < 200 = grind (arith, nat_tests, eb) in low-never text h rest here n limit low (inr (grind (arith, nat_tests, ez))))
   head-next false true false g ea eb ez eg =

@@ -5,7 +5,7 @@ use Rattle.outside.specs.declared.replies.Reply.TheVariants.{Body, Quoted, Lost,
 use Rattle.http_fetch.specs.declared.stages.Stage.{Stage}
 use Rattle.http_fetch.specs.declared.stages.Stage.TheVariants.{Heads, Length, Line, Data, Trailer, Open, Whole, Over, Never}
 use Rattle.http_fetch.specs.Replies.{Came, IsWhole, IsOver, HasFront}
-use Rattle.http_fetch.specs.Stages.{Same, Leads, Stands, Waits, WholeFrom, OverFrom, Fits}
+use Rattle.http_fetch.specs.Stages.{Same, Leads, Stands, Waits, WholeFrom, OverFrom, Fits, decoding}
 use Rattle.http_fetch.specs.Expected.{MoreData, ExceedsData}
 use Rattle.http_fetch.specs.Steps.{is_done}
 use Rattle.http_fetch.specs.Reading.{NoEnd}
@@ -15,10 +15,10 @@ use Rattle.http_fetch.proofs.TrailerLemmas.{no-trailers}
 
 -- ---- one place after another
 
-pub same-refl : (limit : ℕ) (stage : Stage) (got text : List ℕ) → Same limit stage got text stage got text
+pub same-refl : (limit : ℕ) (stage : Stage) (got text : List ℕ) → Same limit (decoding stage got text) (decoding stage got text)
 same-refl limit stage got text = record { whole = λ s c w. w; whole_back = λ s c w. w; over = λ w. w; over_back = λ w. w }
 
-pub same-trans : {limit : ℕ} {a b c : Stage} {ga ta gb tb gc tc : List ℕ} → Same limit a ga ta b gb tb → Same limit b gb tb c gc tc → Same limit a ga ta c gc tc
+pub same-trans : {limit : ℕ} {a b c : Stage} {ga ta gb tb gc tc : List ℕ} → Same limit (decoding a ga ta) (decoding b gb tb) → Same limit (decoding b gb tb) (decoding c gc tc) → Same limit (decoding a ga ta) (decoding c gc tc)
 same-trans x y = record {
   whole = λ s c w. y.whole s c (x.whole s c w);
   whole_back = λ s c w. x.whole_back s c (y.whole_back s c w);
@@ -26,14 +26,14 @@ same-trans x y = record {
   over_back = λ w. x.over_back (y.over_back w);
 }
 
-pub leads-refl : (limit : ℕ) (stage : Stage) (got text : List ℕ) → Fits stage limit got → Leads limit stage got text stage got text
+pub leads-refl : (limit : ℕ) (stage : Stage) (got text : List ℕ) → Fits stage limit got → Leads limit (decoding stage got text) (decoding stage got text)
 leads-refl limit stage got text fits = record { fits = fits; same = λ more. same-refl limit stage got (text ++ more) }
 
-pub leads-trans : {limit : ℕ} {a b c : Stage} {ga ta gb tb gc tc : List ℕ} → Leads limit a ga ta b gb tb → Leads limit b gb tb c gc tc → Leads limit a ga ta c gc tc
+pub leads-trans : {limit : ℕ} {a b c : Stage} {ga ta gb tb gc tc : List ℕ} → Leads limit (decoding a ga ta) (decoding b gb tb) → Leads limit (decoding b gb tb) (decoding c gc tc) → Leads limit (decoding a ga ta) (decoding c gc tc)
 leads-trans x y = record { fits = y.fits; same = λ more. same-trans (x.same more) (y.same more) }
 
 -- where nothing changes any more, neither does the text
-pub done-same : (stage : Stage) (limit : ℕ) (got text rest : List ℕ) → is_done stage ≡ true → Same limit stage got text stage got rest
+pub done-same : (stage : Stage) (limit : ℕ) (got text rest : List ℕ) → is_done stage ≡ true → Same limit (decoding stage got text) (decoding stage got rest)
 done-same (Whole code) limit got text rest e = record { whole = λ s c w. w; whole_back = λ s c w. w; over = λ w. w; over_back = λ w. w }
 done-same Over limit got text rest e = record { whole = λ s c w. w; whole_back = λ s c w. w; over = λ w. w; over_back = λ w. w }
 done-same Never limit got text rest e = record { whole = λ s c w. w; whole_back = λ s c w. w; over = λ w. w; over_back = λ w. w }
@@ -74,7 +74,7 @@ length-none {left} {text} bytes some none len w =
     let sum : 0 ≡ length bytes + length w.0 = ap length (sym none) ∙ ap length w.1 ∙ length-append bytes w.0 in
     omega (arith, sum, len, some)
 
-pub waits-whole : (stage : Stage) (limit : ℕ) (got text : List ℕ) → Fits stage limit got → Waits stage text → (s : ℕ) (c : List ℕ) → WholeFrom stage limit got text s c → Says stage s × (c ≡ got)
+pub waits-whole : (stage : Stage) (limit : ℕ) (got text : List ℕ) → Fits stage limit got → Waits stage text → (s : ℕ) (c : List ℕ) → WholeFrom stage limit got text (s, c) → Says stage s × (c ≡ got)
 waits-whole (Heads left) limit got text fits waits s c w = absurd (no-whole waits w)
 waits-whole (Length left) limit got text fits waits s c w = absurd (length-none w.rest fits.0 waits w.more.0 w.more.1)
 waits-whole Line limit got text fits waits s c w = absurd (no-chunked waits w.more)
@@ -104,8 +104,8 @@ waits-over Never limit got text fits waits w = w
 
 module _ (limit : ℕ) (stage : Stage) (got pending b : List ℕ) (st : Stands limit stage got pending b) where
   -- with nothing more
-  pub here : Same limit (Heads 8) [] b stage got pending
-  here = subst (λ (t : List ℕ). Same limit (Heads 8) [] t stage got pending) (append-nil b) (subst (λ (t : List ℕ). Same limit (Heads 8) [] (b ++ []) stage got t) (append-nil pending) (st.same []))
+  pub here : Same limit (decoding (Heads 8) [] b) (decoding stage got pending)
+  here = subst (λ (t : List ℕ). Same limit (decoding (Heads 8) [] t) (decoding stage got pending)) (append-nil b) (subst (λ (t : List ℕ). Same limit (decoding (Heads 8) [] (b ++ [])) (decoding stage got t)) (append-nil pending) (st.same []))
 
   pub whole-said : (s : ℕ) (c : List ℕ) → IsWhole 8 b limit s c → Says stage s × (c ≡ got)
   whole-said s c w = waits-whole stage limit got pending st.leads st.waits s c (here.whole s c w)

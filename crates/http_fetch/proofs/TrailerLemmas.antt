@@ -6,7 +6,7 @@ use Rattle.std.proofs.lemmas.List.Folds.{list_all-append}
 use Rattle.httparse.specs.Grammar.{LineEnd, crlf, lf, print_end}
 use Rattle.http_fetch.specs.declared.stages.Stage.TheVariants.{Trailer, Whole}
 use Rattle.http_fetch.specs.Chunks.{HasTrailers, Trailers, trailer_len, is_text, is_blank}
-use Rattle.http_fetch.specs.Stages.{Leads}
+use Rattle.http_fetch.specs.Stages.{Leads, decoding}
 use Rattle.http_fetch.proofs.FrontLemmas.{lines, both}
 use Rattle.http_fetch.proofs.ChunkLemmas.{grown}
 
@@ -105,7 +105,7 @@ module _ (t text rest : List ℕ) (one : list_all is_text t ≡ true) (here : te
   here-more : (more : List ℕ) → text ++ more ≡ t ++ 10 ∷ (rest ++ more)
   here-more more = ap (λ (x : List ℕ). x ++ more) here ∙ append_assoc t (10 ∷ rest) more
 
-  pub trailer-next : is_blank t ≡ false → length t < room → Leads limit (Trailer room) got text (Trailer (room - length t - 1)) got rest
+  pub trailer-next : is_blank t ≡ false → length t < room → Leads limit (decoding (Trailer room) got text) (decoding (Trailer (room - length t - 1)) got rest)
   trailer-next some small = record {
     fits = (fits.0, (let narrow : room ≤ 65536 = fits.1 in omega (arith, narrow)));
     same = λ more. record {
@@ -116,7 +116,7 @@ module _ (t text rest : List ℕ) (one : list_all is_text t ≡ true) (here : te
     };
   }
 
-  pub trailer-last : is_blank t ≡ true → Leads limit (Trailer room) got text (Whole 200) got rest
+  pub trailer-last : is_blank t ≡ true → Leads limit (decoding (Trailer room) got text) (decoding (Whole 200) got rest)
   trailer-last blank = record {
     fits = fits.0;
     same = λ more. record {

@@ -103,7 +103,7 @@ body-within framings.Chunks text c limit x small w =
     omega (arith, k, all, big, small)
 body-within framings.ToEnd text c limit x small w = (let n : length text ≡ length c = ap length x in let big : limit < length text = w in omega (arith, n, big, small))
 
-after-unique : (code : ℕ) (f : Framing) (text : List ℕ) (limit s t : ℕ) (c d : List ℕ) → WholeAfter code f text limit s c → WholeAfter code f text limit t d → (s ≡ t) × (c ≡ d)
+after-unique : (code : ℕ) (f : Framing) (text : List ℕ) (limit s t : ℕ) (c d : List ℕ) → WholeAfter code f text limit (s, c) → WholeAfter code f text limit (t, d) → (s ≡ t) × (c ≡ d)
 after-unique code f text limit s t c d x y = (
   x.0 ∙ sym y.0,
   ⊎_elim
@@ -115,7 +115,7 @@ after-unique code f text limit s t c d x y = (
       (λ (b : (code ≡ 200) × IsBody f text d × (length d ≤ limit)). body-unique f text c d a.1 b.1) y.1) x.1,
 )
 
-after-within : (code : ℕ) (f : Framing) (text : List ℕ) (limit s : ℕ) (c : List ℕ) → WholeAfter code f text limit s c → OverAfter code f text limit → ⊥
+after-within : (code : ℕ) (f : Framing) (text : List ℕ) (limit s : ℕ) (c : List ℕ) → WholeAfter code f text limit (s, c) → OverAfter code f text limit → ⊥
 after-within code f text limit s c x w = ⊎_elim
     (λ (a : (code ≢ 200) × (c ≡ [])). a.0 w.0)
     (λ (a : (code ≡ 200) × IsBody f text c × (length c ≤ limit)). body-within f text c limit a.1 a.2 w.1) x.1
@@ -124,13 +124,13 @@ whole-unique : {n limit s t : ℕ} {b c d : List ℕ} → IsWhole n b limit s c 
 whole-unique {n} {limit} {s} {t} {b} {c} {d} x y =
     let same = reaches-unique x.reaches y.reaches in
     after-unique (status_code y.head) (framing_of y.head) y.rest limit s t c d
-    (subst (λ (h : ResponseHead). WholeAfter (status_code h) (framing_of h) y.rest limit s c) same.0 (subst (λ r. WholeAfter (status_code x.head) (framing_of x.head) r limit s c) same.1 x.whole)) y.whole
+    (subst (λ (h : ResponseHead). WholeAfter (status_code h) (framing_of h) y.rest limit (s, c)) same.0 (subst (λ r. WholeAfter (status_code x.head) (framing_of x.head) r limit (s, c)) same.1 x.whole)) y.whole
 
 whole-within : {n limit s : ℕ} {b c : List ℕ} → IsWhole n b limit s c → IsOver n b limit → ⊥
 whole-within {n} {limit} {s} {b} {c} x w =
     let same = reaches-unique x.reaches w.reaches in
     after-within (status_code w.head) (framing_of w.head) w.rest limit s c
-    (subst (λ (h : ResponseHead). WholeAfter (status_code h) (framing_of h) w.rest limit s c) same.0 (subst (λ r. WholeAfter (status_code x.head) (framing_of x.head) r limit s c) same.1 x.whole)) w.over
+    (subst (λ (h : ResponseHead). WholeAfter (status_code h) (framing_of h) w.rest limit (s, c)) same.0 (subst (λ r. WholeAfter (status_code x.head) (framing_of x.head) r limit (s, c)) same.1 x.whole)) w.over
 
 pub came-one : (limit : ℕ) (b : List ℕ) (r s : Reply) → Came b limit r → Came b limit s → r ≡ s
 came-one limit b (Body s c) (Body t d) x y = (let w = whole-unique x y in ap₂ Body w.0 w.1)

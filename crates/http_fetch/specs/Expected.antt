@@ -48,9 +48,9 @@ Past Over text room = Unit {0}
 Past Never text room = ⊥
 
 -- the text completes the reply of status 200 of which the body has got these bytes
-pub record Grown (stage : Stage) (limit : ℕ) (got text : List ℕ) (status : ℕ) (bytes : List ℕ) : Type 0 where
-  pub good : status ≡ 200
+pub record Grown (stage : Stage) (limit : ℕ) (got text : List ℕ) (gives : ℕ × List ℕ) : Type 0 where
+  pub good : gives.0 ≡ 200
   pub rest : List ℕ
   pub more : More stage text rest
   pub within : length rest ≤ limit - length got
-  pub all : bytes ≡ got ++ rest
+  pub all : gives.1 ≡ got ++ rest

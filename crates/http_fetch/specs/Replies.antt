@@ -59,8 +59,8 @@ abbrev pub framing_of : ResponseHead → Framing
 framing_of h = framing (map name_and_value h.fields)
 
 -- a head of the code, then text, is a whole reply: at 200 a body within the limit, else none
-abbrev pub WholeAfter : ℕ → Framing → List ℕ → ℕ → ℕ → List ℕ → Type 0
-WholeAfter code f text limit status bytes =
+abbrev pub WholeAfter : ℕ → Framing → List ℕ → ℕ → ℕ × List ℕ → Type 0
+WholeAfter code f text limit (status, bytes) =
     (status ≡ code) × (((code ≢ 200) × (bytes ≡ [])) ⊎ ((code ≡ 200) × IsBody f text bytes × (length bytes ≤ limit)))
 
 -- a head of the code, then text, shows a body that is longer than the limit
@@ -72,7 +72,7 @@ pub record IsWhole (n : ℕ) (text : List ℕ) (limit status : ℕ) (bytes : Lis
   pub head : ResponseHead
   pub rest : List ℕ
   pub reaches : Reaches n text head rest
-  pub whole : WholeAfter (status_code head) (framing_of head) rest limit status bytes
+  pub whole : WholeAfter (status_code head) (framing_of head) rest limit (status, bytes)
 
 -- or it shows a body that is longer than the limit
 pub record IsOver (n : ℕ) (text : List ℕ) (limit : ℕ) : Type 0 where
@@ -123,12 +123,12 @@ abbrev pub Http : List ℕ → ℕ → Reply → Type 0
 Http b limit r = (came : Reply) × Came b limit came × Becomes b limit came r
 
 -- a head of the code, then text, is a whole reply that ends before the link may
-abbrev pub EndsAfter : ℕ → Framing → List ℕ → ℕ → ℕ → List ℕ → Type 0
-EndsAfter code f text limit status bytes = WholeAfter code f text limit status bytes × ((code ≢ 200) ⊎ (f ≢ ToEnd))
+abbrev pub EndsAfter : ℕ → Framing → List ℕ → ℕ → ℕ × List ℕ → Type 0
+EndsAfter code f text limit (status, bytes) = WholeAfter code f text limit (status, bytes) × ((code ≢ 200) ⊎ (f ≢ ToEnd))
 
 -- b holds a whole reply, which does not go to the end of the link
 pub record IsEnded (b : List ℕ) (limit status : ℕ) (bytes : List ℕ) : Type 0 where
   pub head : ResponseHead
   pub rest : List ℕ
   pub reaches : Reaches 8 b head rest
-  pub ends : EndsAfter (status_code head) (framing_of head) rest limit status bytes
+  pub ends : EndsAfter (status_code head) (framing_of head) rest limit (status, bytes)

@@ -6,7 +6,7 @@ use Rattle.http_fetch.specs.declared.stages.Step.{Step}
 use Rattle.http_fetch.specs.declared.fields.Framing.{Framing}
 use Rattle.http_fetch.specs.declared.fields.Framing.TheVariants as framings
 use Rattle.http_fetch.specs.Reading.{IsShort}
-use Rattle.http_fetch.specs.Stages.{Fits, Leads, Waits}
+use Rattle.http_fetch.specs.Stages.{Fits, Leads, Waits, decoding}
 
 -- what follows changes nothing
 abbrev pub is_done : Stage → Bool
@@ -55,18 +55,18 @@ abbrev pub after_line : ℕ → ℕ → Stage
 after_line size room = if nat_lt room size then Over else (if size == 0 then Trailer 65536 else Data size)
 
 -- a step over the front of the text leads on, where the body has so many bytes
-pub record Steps (stage : Stage) (limit count : ℕ) (text : List ℕ) (next : Stage) (used : ℕ) : Type 0 where
-  pub some : 0 < used
-  pub within : used ≤ length text
-  pub leads : (got : List ℕ) → length got ≡ count → Fits stage limit got → Leads limit stage got text next got (drop used text)
+pub record Steps (stage : Stage) (limit count : ℕ) (text : List ℕ) (reached : Stage × ℕ) : Type 0 where
+  pub some : 0 < reached.1
+  pub within : reached.1 ≤ length text
+  pub leads : (got : List ℕ) → length got ≡ count → Fits stage limit got → Leads limit (decoding stage got text) (decoding reached.0 got (drop reached.1 text))
 
 -- a step between the bytes of a body leads on, and where there is none the text waits
 abbrev pub LeadsBehind : Stage → ℕ → ℕ → List ℕ → Option Step → Type 0
 LeadsBehind stage limit count text None = (got : List ℕ) → length got ≡ count → Fits stage limit got → Waits stage text × IsShort text
-LeadsBehind stage limit count text (Some s) = Steps stage limit count text s.next s.used
+LeadsBehind stage limit count text (Some s) = Steps stage limit count text (s.next, s.used)
 
 -- a step over bytes of a body leads on
 abbrev pub LeadsInside : Stage → ℕ → ℕ → ℕ → Step → Type 0
 LeadsInside stage limit had count s =
     (got text : List ℕ) → length got ≡ had → length text ≡ count → Fits stage limit got →
-    Leads limit stage got text s.next (got ++ take s.used text) (drop s.used text)
+    Leads limit (decoding stage got text) (decoding s.next (got ++ take s.used text) (drop s.used text))

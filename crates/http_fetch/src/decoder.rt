@@ -5,7 +5,7 @@ ghost use Rattle.http_fetch.specs.Kinds.{StageKind};
 ghost use Rattle.http_fetch.specs.Replies as replies;
 ghost use Rattle.http_fetch.specs.Replies.{Http, converted_reply};
 ghost use Rattle.om_reader.specs.Bodies as spec;
-ghost use Rattle.http_fetch.specs.Stages.{Fits, Leads, Waits};
+ghost use Rattle.http_fetch.specs.Stages.{Fits, Leads, Waits, decoding};
 ghost use Rattle.http_fetch.specs.Steps.{is_done};
 ghost use Rattle.http_fetch.specs.Reading.{IsShort};
 ghost use Rattle.http_fetch.specs.Decoders.{StandsFor, HoldsLittle, SameParts, IsSettled, MustEnd, LeavesOff};
@@ -79,7 +79,7 @@ fn count_of(body: &Vec<u8>) -> u64
 /// Goes over the bytes as far as they reach.
 fn run<'a>(place: Place, limit: u64, body: &mut Vec<u8>, text: &'a [u8]) -> Left<'a>
     requires { vec_len body.old + length text.now ≤ vec_capacity body.old }
-    ensures leads { Fits place.stage limit body.old.items → Leads limit place.stage body.old.items text.now result.stage body.new.items result.rest.now }
+    ensures leads { Fits place.stage limit body.old.items → Leads limit (decoding place.stage body.old.items text.now) (decoding result.stage body.new.items result.rest.now) }
     ensures waits { Fits place.stage limit body.old.items → Waits result.stage result.rest.now }
     ensures short { Fits place.stage limit body.old.items → is_done result.stage ≡ false → IsShort result.rest.now }
     ensures rest { LeavesOff text.now result.rest.now }
@@ -144,7 +144,7 @@ fn advance(
     piece: &[u8],
 ) -> Result<Place, NoMemory>
     ensures leads { IfOk result (λ next. Fits place.stage limit body.old.items →
-        Leads limit place.stage body.old.items (pending.old.items ++ piece.now) next.stage body.new.items pending.new.items) }
+        Leads limit (decoding place.stage body.old.items (pending.old.items ++ piece.now)) (decoding next.stage body.new.items pending.new.items)) }
     ensures waits { IfOk result (λ next. Fits place.stage limit body.old.items → Waits next.stage pending.new.items) }
     ensures short { IfOk result (λ next. Fits place.stage limit body.old.items → is_done next.stage ≡ false → IsShort pending.new.items) }
     ensures kind { IfOk result (λ next. (b : List ℕ) → StageKind place.stage place.kind 8 b (pending.old.items ++ piece.now) →

@@ -112,7 +112,7 @@ item_of {X} xs x y i h = by (three i (length xs))
     by (inr (inl at)) = inr (at, same_Some x y (sym (slice_get_end xs x) ∙ ap (slice_get (xs ++ x ∷ [])) (sym at) ∙ h))
     by (inr (inr gt)) = absurd (none-some y (sym (slice_get_past (xs ++ x ∷ []) i (let l = length_more xs x in omega (arith, l, gt))) ∙ h))
 
-pub gathered_none : (kept : List Placed) (selector : SelectorParts) (t : ℤ) (es : List (List Pair)) (rows : List ViewRow) → rows ≡ [] → IsGatheredTo kept selector t es 0 rows
+pub gathered_none : (kept : List Placed) (selector : SelectorParts) (t : ℤ) (es : List (List Pair)) (rows : List ViewRow) → rows ≡ [] → IsGatheredTo kept selector t (es, 0) rows
 gathered_none kept selector t es rows none = record {
   rising = λ i j r s lt a b. absurd (none-some r (ap (λ (l : List ViewRow). slice_get l i) (sym none) ∙ a));
   each = λ row is. absurd (none-some row (ap (λ (l : List ViewRow). slice_get l is.0) (sym none) ∙ is.1));
@@ -128,13 +128,13 @@ here_or_before i n lt = by (three i n)
     by (inr (inr g)) = absurd (omega arith)
 
 -- one series more
-module _ (kept : List Placed) (rise : Rise kept) (selector : SelectorParts) (t : ℤ) (es : List (List Pair)) (n : ℕ) (rows : List ViewRow) (was : IsGatheredTo kept selector t es n rows)
+module _ (kept : List Placed) (rise : Rise kept) (selector : SelectorParts) (t : ℤ) (es : List (List Pair)) (n : ℕ) (rows : List ViewRow) (was : IsGatheredTo kept selector t (es, n) rows)
     (series : List Pair) (at : slice_get es n ≡ Some series) (below : (i : ℕ) (s : List Pair) → i < n → slice_get es i ≡ Some s → set_cmp s series ≡ Less) where
   its_row : (i : ℕ) (row : ViewRow) → i ≡ n → slice_get es i ≡ Some row.series → row.series ≡ series
   its_row i row here there = sym (same_Some series row.series (sym at ∙ ap (slice_get es) (sym here) ∙ there))
 
-  pub gathered_more : (o : Option ViewRow) → IsSelectedRow kept selector t series o → IsGatheredTo kept selector t es (suc n) (rows ++ listed o)
-  gathered_more None none = subst (IsGatheredTo kept selector t es (suc n)) (sym (append-nil rows)) (record {
+  pub gathered_more : (o : Option ViewRow) → IsSelectedRow kept selector t series o → IsGatheredTo kept selector t (es, suc n) (rows ++ listed o)
+  gathered_more None none = subst (IsGatheredTo kept selector t (es, suc n)) (sym (append-nil rows)) (record {
     rising = was.rising;
     each = λ row is. (let h = was.each row is in (h.0, h.1, (h.2.0, (let lt = h.2.1 in omega arith), h.2.2)));
     all = λ i row lt there s r. by i row there s r (here_or_before i n lt);

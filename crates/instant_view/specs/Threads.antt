@@ -139,17 +139,17 @@ pub record IsGathered (kept : List Placed) (selector : SelectorParts) (t : ℤ) 
   pub all : (row : ViewRow) → selects selector row.series ≡ true → IsKeptRow kept t row → IsAmong rows row
 
 -- the rows of the first n of these series, of which the selected ones have theirs
-pub record IsGatheredTo (kept : List Placed) (selector : SelectorParts) (t : ℤ) (series : List (List Pair)) (n : ℕ) (rows : List ViewRow) : Type 0 where
+pub record IsGatheredTo (kept : List Placed) (selector : SelectorParts) (t : ℤ) (among : List (List Pair) × ℕ) (rows : List ViewRow) : Type 0 where
   pub rising : AreRising rows
   pub each : (row : ViewRow) → IsAmong rows row →
-      (selects selector row.series ≡ true) × IsKeptRow kept t row × ((i : ℕ) × (i < n) × (slice_get series i ≡ Some row.series))
+      (selects selector row.series ≡ true) × IsKeptRow kept t row × ((i : ℕ) × (i < among.1) × (slice_get among.0 i ≡ Some row.series))
   pub all :
-      (i : ℕ) (row : ViewRow) → i < n → slice_get series i ≡ Some row.series → selects selector row.series ≡ true →
+      (i : ℕ) (row : ViewRow) → i < among.1 → slice_get among.0 i ≡ Some row.series → selects selector row.series ≡ true →
       IsKeptRow kept t row → IsAmong rows row
 
 -- the rows of all of these series
 abbrev pub IsGatheredOf : List Placed → SelectorParts → ℤ → List (List Pair) → List ViewRow → Type 0
-IsGatheredOf kept selector t series rows = IsGatheredTo kept selector t series (length series) rows
+IsGatheredOf kept selector t series rows = IsGatheredTo kept selector t (series, length series) rows
 
 -- what may be there, as a list
 abbrev pub listed : Option ViewRow → List ViewRow

@@ -225,7 +225,7 @@ equal_but_number n k es fs h =
 
 -- one event
 alike : (w v : World) (e f : Event) (n k : ℕ) (l p : Life) → AreNumbered 0 w.lives → AreNumbered 0 v.lives → slice_get w.lives n ≡ Some l → slice_get v.lives k ≡ Some p →
-    bare l ≡ bare p → bare_local (local w e n l) ≡ bare_local (local v f k p) → GoAlike w v e f n k
+    bare l ≡ bare p → bare_local (local w e n l) ≡ bare_local (local v f k p) → GoAlike (w, n) (v, k) e f
 alike w v e f n k l p hw hv at_l at_p b q = record {
   lives = ap (option_map bare) (life_at w e n l at_l)
       ∙ (ap Some (after_bare (local w e n l) l ∙ (ap₂ (λ y z. bare (life_after y z)) q b ∙ sym (after_bare (local v f k p) p)))

@@ -113,7 +113,7 @@ meets_all es w n h = meets_by es w n (slice_get w.lives n) h refl
 
 -- two runs
 run_alike : (w v : World) (es fs : List Event) (n k : ℕ) → AreNumbered 0 w.lives → AreNumbered 0 v.lives →
-    option_map bare (first w n es) ≡ option_map bare (first v k fs) → met w n es ≡ met v k fs → RunAlike w v es fs n k
+    option_map bare (first w n es) ≡ option_map bare (first v k fs) → met w n es ≡ met v k fs → RunAlike (w, n) (v, k) es fs
 run_alike w v es fs n k hw hv f m =
     let p = meets_all es w n hw in
     let q = meets_all fs v k hv in

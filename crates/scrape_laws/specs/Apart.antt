@@ -31,17 +31,18 @@ bare_local (Close m) = Close m
 abbrev pub renumbered : ℕ → Entry → Entry
 renumbered n e = record e { life = n }
 
--- an event of one world and one of another go alike for life n and life k: the lives after them are equal but for number and ticket,
+-- an event of one world and one of another go alike for a life of each: the lives after them are equal but for number and ticket,
 -- and the entries given of them are equal but for the number
-pub record GoAlike (w v : World) (e f : Event) (n k : ℕ) : Type 0 where
-  pub lives : option_map bare (slice_get (step w e).lives n) ≡ option_map bare (slice_get (step v f).lives k)
-  pub entries : map (renumbered k) (filter (is_entry_of n) (gives w e)) ≡ filter (is_entry_of k) (gives v f)
+pub record GoAlike (one other : World × ℕ) (e f : Event) : Type 0 where
+  pub lives : option_map bare (slice_get (step one.0 e).lives one.1) ≡ option_map bare (slice_get (step other.0 f).lives other.1)
+  pub entries :
+      map (renumbered other.1) (filter (is_entry_of one.1) (gives one.0 e)) ≡ filter (is_entry_of other.1) (gives other.0 f)
 
 -- where two lives are equal but for number and ticket, and an event is the same to both but for the ticket, it goes alike for them
 unfoldable pub ApartLaw : List Event → Event → Type 0
 ApartLaw journal e = (other : List Event) (f : Event) (n k : ℕ) (l p : Life) →
     slice_get (world_of journal).lives n ≡ Some l → slice_get (world_of other).lives k ≡ Some p → bare l ≡ bare p →
-    bare_local (local (world_of journal) e n l) ≡ bare_local (local (world_of other) f k p) → GoAlike (world_of journal) (world_of other) e f n k
+    bare_local (local (world_of journal) e n l) ≡ bare_local (local (world_of other) f k p) → GoAlike (world_of journal, n) (world_of other, k) e f
 
 -- what an event is to a life, unless that is nothing
 abbrev pub unless_nothing : Local → List Local
@@ -71,16 +72,17 @@ abbrev pub first : World → ℕ → List Event → Option Life
 first w n [] = slice_get w.lives n
 first w n (e ∷ es) = first_of (slice_get w.lives n) (first (step w e) n es)
 
--- some events of one world and some of another go alike for life n and life k: the lives at the end and all entries given of them are equal in the same sense
-pub record RunAlike (w v : World) (es fs : List Event) (n k : ℕ) : Type 0 where
-  pub lives : option_map bare (slice_get (run w es).lives n) ≡ option_map bare (slice_get (run v fs).lives k)
-  pub entries : map (renumbered k) (filter (is_entry_of n) (book_from w es)) ≡ filter (is_entry_of k) (book_from v fs)
+-- some events of one world and some of another go alike for a life of each: the lives at the end and all entries given of them are equal in the same sense
+pub record RunAlike (one other : World × ℕ) (es fs : List Event) : Type 0 where
+  pub lives : option_map bare (slice_get (run one.0 es).lives one.1) ≡ option_map bare (slice_get (run other.0 fs).lives other.1)
+  pub entries :
+      map (renumbered other.1) (filter (is_entry_of one.1) (book_from one.0 es)) ≡ filter (is_entry_of other.1) (book_from other.0 fs)
 
 -- where two lives are equal at first but for number and ticket, and meet the same, all goes alike for them
 unfoldable pub ApartRunsLaw : List Event → List Event → Type 0
 ApartRunsLaw journal other = (es fs : List Event) (n k : ℕ) →
     option_map bare (first (world_of journal) n es) ≡ option_map bare (first (world_of other) k fs) →
-    met (world_of journal) n es ≡ met (world_of other) k fs → RunAlike (world_of journal) (world_of other) es fs n k
+    met (world_of journal) n es ≡ met (world_of other) k fs → RunAlike (world_of journal, n) (world_of other, k) es fs
 
 -- where a reload after a journal, or any other event, is nothing to a life, the life's entries in the book are those without it, given that later on it meets
 -- the same scans and replies, and the same state of its job's target limit

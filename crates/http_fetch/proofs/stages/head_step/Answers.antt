@@ -9,7 +9,7 @@ use Rattle.http_fetch.proofs.stages.head_step.Goals as goal
 
 pub returns-in-Found-clause-leads : goal.returns-in-Found-clause-leads
 returns-in-Found-clause-leads c =
-    subst (λ (n : Stage). Steps (Heads c.args.left) c.args.limit c.args.got c.args.text.now n c.in-Found.len) (sym c.after_head.ensures)
+    subst (λ (n : Stage). Steps (Heads c.args.left) c.args.limit c.args.got c.args.text.now (n, c.in-Found.len)) (sym c.after_head.ensures)
     (head-step c.args.text.now c.in-Found.status c.in-Found.len c.in-Found.framing c.in-Found.kind c.args.limit c.args.left c.args.got c.in-Found.ensures)
 
 pub returns-in-Never-clause-leads : goal.returns-in-Never-clause-leads

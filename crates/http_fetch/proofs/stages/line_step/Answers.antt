@@ -8,7 +8,7 @@ use Rattle.http_fetch.proofs.stages.line_step.Goals as goal
 
 pub returns-in-Found-clause-leads : goal.returns-in-Found-clause-leads
 returns-in-Found-clause-leads c =
-    subst (λ (n : Stage). Steps Line c.args.limit c.args.got c.args.text.now n c.in-Found.len) (sym (c.after_line.ensures ∙ ap (after_line c.in-Found.size) c.saturating_sub.ensures))
+    subst (λ (n : Stage). Steps Line c.args.limit c.args.got c.args.text.now (n, c.in-Found.len)) (sym (c.after_line.ensures ∙ ap (after_line c.in-Found.size) c.saturating_sub.ensures))
     (line-step c.args.text.now c.in-Found.len c.in-Found.size c.args.limit c.args.got c.in-Found.ensures)
 
 pub returns-in-Never-clause-leads : goal.returns-in-Never-clause-leads

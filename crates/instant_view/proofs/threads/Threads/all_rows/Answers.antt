@@ -36,8 +36,8 @@ loop-series-preserved c =
     record {
       same = c.selected_row.ensures.same ∙ c.loop-series.invariant.same;
       gathered =
-          subst (λ n. IsGatheredTo kept c.args.selecting.now t (keys ends) n c.push_row.new.rows.items) (sym (length_more xs (c.in-Some.series, c.in-Some.end)))
-          (subst (IsGatheredTo kept c.args.selecting.now t (keys ends) (suc (length xs))) (sym c.in_ok-push_row.ensures)
+          subst (λ n. IsGatheredTo kept c.args.selecting.now t (keys ends, n) c.push_row.new.rows.items) (sym (length_more xs (c.in-Some.series, c.in-Some.end)))
+          (subst (IsGatheredTo kept c.args.selecting.now t (keys ends, suc (length xs))) (sym c.in_ok-push_row.ensures)
           (gathered_more kept c.requires.rise c.args.selecting.now t (keys ends) (length xs) c.loop-series.rows.items c.loop-series.invariant.gathered
           series key (λ i s lt x. keys_rise (keys ends) gives.5 i (length xs) s series lt x key) c.in_ok-row.row found));
     }
@@ -61,5 +61,5 @@ returns c =
     iter_end deref_pair ends.entries c.loop-series.yielded c.into_iter-series-iterator.result c.loop-series.series-iterator c.next.new.self c.next.result gives.0 c.loop-series.yielded_by
     c.in-None.is c.next.ensures.steps in
     let all : length c.loop-series.yielded ≡ length (keys ends) = end.1 ∙ sym (length-map ends.entries (λ (q : List Pair × ℕ). q.0)) in
-    subst (λ n. IsGatheredTo kept c.args.selecting.now n (keys ends) (length (keys ends)) c.loop-series.rows.items) (to_z-of_z w64 c.args.moment c.ranges.moment)
-    (subst (λ n. IsGatheredTo kept c.args.selecting.now t (keys ends) n c.loop-series.rows.items) all c.loop-series.invariant.gathered)
+    subst (λ n. IsGatheredTo kept c.args.selecting.now n (keys ends, length (keys ends)) c.loop-series.rows.items) (to_z-of_z w64 c.args.moment c.ranges.moment)
+    (subst (λ n. IsGatheredTo kept c.args.selecting.now t (keys ends, n) c.loop-series.rows.items) all c.loop-series.invariant.gathered)

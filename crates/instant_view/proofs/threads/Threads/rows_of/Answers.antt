@@ -29,8 +29,8 @@ loop-series-preserved c =
     record {
       same = c.selected_row.ensures.same ∙ c.loop-series.invariant.same;
       gathered =
-          subst (λ n. IsGatheredTo kept c.args.selecting.now t ks n c.push_row.new.rows.items) (sym (length_more xs c.in-Some.series))
-          (subst (IsGatheredTo kept c.args.selecting.now t ks (suc (length xs))) (sym c.in_ok-push_row.ensures)
+          subst (λ n. IsGatheredTo kept c.args.selecting.now t (ks, n) c.push_row.new.rows.items) (sym (length_more xs c.in-Some.series))
+          (subst (IsGatheredTo kept c.args.selecting.now t (ks, suc (length xs))) (sym c.in_ok-push_row.ensures)
           (gathered_more kept c.requires.rise c.args.selecting.now t ks (length xs) c.loop-series.rows.items c.loop-series.invariant.gathered
           series at.1 (λ i s lt x. keys_rise ks gives.4 i (length xs) s series lt x at.1) c.in_ok-row.row found));
     }
@@ -49,5 +49,5 @@ returns c =
     let end =
     iter_end deref ks c.loop-series.yielded c.into_iter-series-iterator.result c.loop-series.series-iterator c.next.new.self c.next.result gives.0 c.loop-series.yielded_by
     c.in-None.is c.next.ensures.steps in
-    subst (λ n. IsGatheredTo kept c.args.selecting.now n ks (length ks) c.loop-series.rows.items) (to_z-of_z w64 c.args.moment c.ranges.moment)
-    (subst (λ n. IsGatheredTo kept c.args.selecting.now t ks n c.loop-series.rows.items) end.1 c.loop-series.invariant.gathered)
+    subst (λ n. IsGatheredTo kept c.args.selecting.now n (ks, length ks) c.loop-series.rows.items) (to_z-of_z w64 c.args.moment c.ranges.moment)
+    (subst (λ n. IsGatheredTo kept c.args.selecting.now t (ks, n) c.loop-series.rows.items) end.1 c.loop-series.invariant.gathered)

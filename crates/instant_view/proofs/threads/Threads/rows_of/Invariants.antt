@@ -4,7 +4,7 @@ use Rattle.instant_view.proofs.threads.Threads.rows_of.Given as goal
 
 pub record Gathering (l : goal.Live-loop-series) : Type 0 where
   pub same : l.selecting ≡ l.fn.selecting
-  pub gathered : IsGatheredTo l.self.kept.items l.fn.selecting l.moment l.sets.keys (length l.yielded) l.rows.items
+  pub gathered : IsGatheredTo l.self.kept.items l.fn.selecting l.moment (l.sets.keys, length l.yielded) l.rows.items
 
 abbrev pub invariant-loop-series : goal.invariant-loop-series
 invariant-loop-series l = Gathering l
