@@ -1,6 +1,7 @@
 -- What a core keeps beside its journal.
-use Rattle.std.specs.Prelude.{◌≡◌, ℕ, ◌<◌, ◌≤◌, ◌^◌, ◌++◌, false, All, List, length}
+use Rattle.std.specs.Prelude.{◌≡◌, ℕ, ℤ, ◌<◌, ◌≤◌, ◌^◌, ◌++◌, false, All, List, length}
 use Rattle.journal_text.specs.declared.events.Event.{Event}
+use Rattle.journal_text.specs.declared.events.Event.TheVariants.{Finish, Targets}
 use Rattle.journal_text.specs.Events.{JournalView}
 use Rattle.report_samples.specs.declared.entries.Entry.{Entry}
 use Rattle.scrape_machine.specs.Lives.{is_open, IsRightLife}
@@ -8,6 +9,8 @@ use Rattle.scrape_machine.specs.Machine.{World, world, world_of, book_of, gives}
 use Rattle.scrape_machine.specs.Runs.{runs_of}
 use Rattle.scrape_steps.specs.Concerned.{places_where}
 use Rattle.scrape_steps.specs.Endings.{endings_from, waiting, HoldSame}
+use Rattle.scrape_core.specs.declared.changes.TargetsFile.{TargetsFile}
+use Rattle.scrape_core.specs.declared.finishes.FinishedFetch.{FinishedFetch}
 use Rattle.scrape_core.specs.declared.state.State.{State}
 
 -- the world that a state is
@@ -37,6 +40,13 @@ pub record IsKept (es : List Event) (book : List Entry) (s : State) (runs : ℕ)
   pub few : HasFew s
   pub listed : IsListed s
   pub runs_are : runs ≡ runs_of es
+
+-- the event of a finished fetch, and of a file's targets at a moment
+abbrev pub finish_event : FinishedFetch → Event
+finish_event f = Finish f.ticket f.took f.reply.now
+
+abbrev pub update_event : ℤ → TargetsFile → Event
+update_event moment u = Targets moment u.job.now u.file.now u.text.now
 
 -- the entries of an event were appended
 abbrev pub Appends : World → Event → List Entry → List Entry → Type 0

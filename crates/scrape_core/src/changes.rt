@@ -1,7 +1,7 @@
 //! Loads of a configuration and updates of a file's targets.
 ghost use Rattle.std.specs.Prelude.{◌≡◌, ◌≤◌, ◌<◌, ◌+◌, ◌^◌, ◌++◌, [], List, length, map, filter, vec_len, vec_capacity, None, Ok, IfOk, OnOk, OnErr};
 ghost use Rattle.std.specs.List.{range_with_len};
-ghost use Rattle.journal_text.specs.declared.events.Event.TheVariants.{Load, Targets};
+ghost use Rattle.journal_text.specs.declared.events.Event.TheVariants.{Load};
 ghost use Rattle.scrape_machine.specs.Lives as lives_of;
 ghost use Rattle.scrape_machine.specs.Machine as spec;
 ghost use Rattle.scrape_steps.specs.Plans as plan;
@@ -186,33 +186,40 @@ pub fn take_load<L: Ledger>(
     }
 }
 
+/// A text of targets, and the job and the file that it is of.
+#[derive(Clone, Copy)]
+pub struct TargetsFile<'e> {
+    pub job: &'e Name,
+    pub file: &'e Name,
+    pub text: &'e Blob,
+}
+
 /// An update of the targets of a job's file at a moment.
 pub fn take_update<L: Ledger>(
     alloc: Global,
     state: &mut State,
     moment: Moment,
-    job: &Name,
-    file: &Name,
-    text: &Blob,
+    update: &TargetsFile<'_>,
     steps: &mut Steps<L>,
 ) -> Result<Taken, NoMemory>
     requires few { kept.HasFew state.old }
     requires listed { kept.IsListed state.old }
-    ensures answer { IfOk result (λ t. t.answer ≡ spec.answer (kept.live state.old) (Targets moment job.now file.now text.now)) }
-    ensures runs { IfOk result (λ t. t.runs ≡ runs (kept.live state.old) (Targets moment job.now file.now text.now)) }
-    ensures steps { OnOk result (steps.new ≡ steps.old + runs (kept.live state.old) (Targets moment job.now file.now text.now)) }
+    ensures answer { IfOk result (λ t. t.answer ≡ spec.answer (kept.live state.old) (kept.update_event moment update.now)) }
+    ensures runs { IfOk result (λ t. t.runs ≡ runs (kept.live state.old) (kept.update_event moment update.now)) }
+    ensures steps { OnOk result (steps.new ≡ steps.old + runs (kept.live state.old) (kept.update_event moment update.now)) }
     ensures at_least { steps.old ≤ steps.new }
-    ensures at_most { steps.new ≤ steps.old + runs (kept.live state.old) (Targets moment job.now file.now text.now) }
-    ensures state { OnOk result (kept.live state.new ≡ spec.step (kept.live state.old) (Targets moment job.now file.now text.now)) }
+    ensures at_most { steps.new ≤ steps.old + runs (kept.live state.old) (kept.update_event moment update.now) }
+    ensures state { OnOk result (kept.live state.new ≡ spec.step (kept.live state.old) (kept.update_event moment update.now)) }
     ensures few { OnOk result (kept.HasFew state.new) }
     ensures listed { kept.IsListed state.new }
     ensures same { state.new.halted ≡ state.old.halted }
     ensures err { OnErr result (kept.live state.new ≡ kept.live state.old) }
 {
-    match update_of(alloc, &state.jobs, job, file, text.as_slice()) {
-        Ok(update) => {
-            let jobs = jobs_updated(alloc, &state.jobs, &update, steps)?;
-            let runs = listed_by_named(job, &jobs)?;
+    let text = update.text.as_slice();
+    match update_of(alloc, &state.jobs, update.job, update.file, text) {
+        Ok(taken) => {
+            let jobs = jobs_updated(alloc, &state.jobs, &taken, steps)?;
+            let runs = listed_by_named(update.job, &jobs)?;
             let synced = reload(alloc, state, moment, jobs)?;
             let answer = Answer::Updated {
                 closed: synced.closed,

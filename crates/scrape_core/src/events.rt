@@ -6,8 +6,8 @@ ghost use Rattle.scrape_machine.specs.Runs.{runs};
 ghost use Rattle.scrape_core.specs.Kept as kept;
 ghost use Rattle.scrape_core.specs.Records.{is_finish};
 
-use crate::changes::{take_load, take_update};
-use crate::finishes::take_finish;
+use crate::changes::{TargetsFile, take_load, take_update};
+use crate::finishes::{FinishedFetch, take_finish};
 use crate::read_events::{EventParts, ReadEvent};
 use crate::state::State;
 use crate::taken::{Taken, without_runs};
@@ -55,7 +55,10 @@ fn take_other<L: Ledger>(
             job,
             file,
             text,
-        } => take_update(alloc, state, Moment::new(*moment), job, file, text, steps),
+        } => {
+            let update = TargetsFile { job, file, text };
+            take_update(alloc, state, Moment::new(*moment), &update, steps)
+        }
         Event::Tick { moment, life } => {
             let answer = take_tick(alloc, state, book, Moment::new(*moment), *life)?;
             Ok(without_runs(answer))
@@ -102,7 +105,14 @@ fn take_live<L: Ledger>(
             ticket,
             took,
             reply,
-        } => take_finish(alloc, state, book, *ticket, *took, reply, steps),
+        } => {
+            let fetch = FinishedFetch {
+                ticket: *ticket,
+                took: *took,
+                reply,
+            };
+            take_finish(alloc, state, book, &fetch, steps)
+        }
         EventParts::Other(event) => take_other(alloc, state, book, event, steps),
     }
 }

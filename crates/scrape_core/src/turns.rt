@@ -20,8 +20,8 @@ use scrape_steps::acts::{is_open, push_scan, scan};
 use scrape_steps::concerned::{Lives, swept_places};
 use scrape_steps::reloads::names_of;
 use scrape_steps::scans::{
-    count_ends, count_forced, count_starts, entries_of, is_over_in, starts_of, sweep_lives,
-    tick_answer, ticked,
+    NamedJobs, count_ends, count_forced, count_starts, entries_of, is_over_in, starts_of,
+    sweep_lives, tick_answer, ticked,
 };
 use std::alloc::Global;
 
@@ -97,14 +97,11 @@ fn sweep(
     let begun = starts_of(alloc, &names, &state.jobs, moment, &lives)?;
     state.started.reserve(begun.len())?;
     append_swept(alloc, &names, state, places, book, moment)?;
-    sweep_lives(
-        &names,
-        &state.jobs,
-        &mut state.lives,
-        places,
-        &state.started,
-        moment,
-    );
+    let named = NamedJobs {
+        names: &names,
+        jobs: &state.jobs,
+    };
+    sweep_lives(&named, &mut state.lives, places, &state.started, moment);
     push_starts(&mut state.started, begun);
     Ok(answer)
 }

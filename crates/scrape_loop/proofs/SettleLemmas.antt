@@ -101,7 +101,7 @@ knows_after (Bad f scraped left) c old shows e = ap rising (kept_turned false c 
 
 -- the entries go by what was tracked and known before
 pub entries_before : (life : ℕ) (target : List Pair) (has : Bool) (c old : CacheView) (b u : Bool) (extra : Option ExtraCounts) (s : Scrape) (m took : ℤ) → was_sets c.texts ≡ was_sets old.texts → undone c ≡ old →
-    entries_of (life_of life target has c b u) extra s m took ≡ entries_of (life_of life target has old b u) extra s m took
+    entries_of (life_of life target has c (b, u)) extra s m took ≡ entries_of (life_of life target has old (b, u)) extra s m took
 entries_before life target has c old b u extra s m took was e =
     ap₂ (λ (w k : List (List Pair)). entries_of (let l : LifeView = record { life = life; target = target; extra = has; tracked = rising w; known = rising k; cache = old; scraped = b; up = u } in l) extra s m took)
     was (sym (kept_undone c) ∙ ap kept_sets e)

@@ -66,9 +66,9 @@ abbrev pub entries_of : LifeView → Option ExtraCounts → Scrape → ℤ → �
 entries_of l extra s m took =
     sample_entries l s m ++ (stale_entries l s m ++ report_entries l.life l.target m (counts_of l.known extra s took))
 
--- those of a scrape of the life's target by the job's rules and its reply
-abbrev pub entries_by : LifeView → RowRules → List RuleConf → Reply → ℤ → ℤ → List Entry
-entries_by l rules metric reply m took =
+-- those of a scrape of the life's target that started at m, by the job's rules, its reply and how long that took
+abbrev pub entries_by : LifeView → RowRules → List RuleConf → Reply × ℤ → ℤ → List Entry
+entries_by l rules metric (reply, took) m =
     entries_of l (extra_for rules (outcome_for l rules metric reply took) reply) (outcome_for l rules metric reply took) m took
 
 -- what the reports of a scrape that isn't made say

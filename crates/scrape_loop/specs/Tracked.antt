@@ -79,8 +79,8 @@ known_after known (Bad f scraped left) = known
 -- the state of a life by its number, its target's labels, whether it has the extra reports, what is known of raw
 -- texts, whether a scrape of it counted, and whether the last was good: the texts give the sets that its last counted
 -- scrape tracked, and all sets of its last good one
-abbrev pub life_of : ℕ → List Pair → Bool → CacheView → Bool → Bool → LifeView
-life_of life target extra c scraped up =
+abbrev pub life_of : ℕ → List Pair → Bool → CacheView → Bool × Bool → LifeView
+life_of life target extra c (scraped, up) =
     record {
       life = life;
       target = target;

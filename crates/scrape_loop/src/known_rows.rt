@@ -30,6 +30,21 @@ pub struct ScrapeRules<'a> {
     pub target: &'a LabelSet,
 }
 
+/// What the series of a row goes by beside the rules for samples: the settings of the job, and the labels of the target,
+/// borrowed from their set.
+#[derive(Clone, Copy)]
+struct RowTerms<'r, 't, 'l, 'a> {
+    rules: &'r RowRules,
+    target: &'t BorrowedTarget<'l, 'a>,
+}
+
+/// A row, and the place at which its text is looked for first.
+#[derive(Clone, Copy)]
+struct HintedRow<'r, 'b> {
+    row: &'r SampleRow<'b>,
+    hint: usize,
+}
+
 /// What a scrape comes to, and how often the rules for samples were run for it.
 #[derive(Debug, Drop)]
 pub struct Settled {
@@ -41,27 +56,27 @@ pub struct Settled {
 #[tactic(auto, using(crate::proofs::TextLemmas::put_undone))]
 fn put_series<L: Ledger>(
     alloc: Global,
-    rules: &RowRules,
+    terms: &RowTerms<'_, '_, '_, '_>,
     metric: &mut Runner<'_>,
-    target: &BorrowedTarget<'_, '_>,
     row: &SampleRow<'_>,
     cache: &mut SeriesCache,
     steps: &mut Steps<L>,
 ) -> Result<Option<LabelSet>, NoMemory>
     requires fit { IsFit row.now }
-    requires nameless { bears target.now metric_label ≡ false }
+    requires nameless { bears terms.now.target.now metric_label ≡ false }
     requires unknown { look_up row.now.raw cache.old.texts ≡ None }
     requires kept { cache.old.kept ≤ length cache.old.texts }
-    ensures series { IfOk result (λ o. o ≡ row_series rules.now.honor_labels metric.old target.now row.now) }
+    ensures series { IfOk result (λ o. o ≡ row_series terms.now.rules.now.honor_labels metric.old terms.now.target.now row.now) }
     ensures same { metric.new ≡ metric.old }
-    ensures cache { OnOk result (cache.new ≡ spec.with_put row.now.raw (row_series rules.now.honor_labels metric.old target.now row.now) cache.old) }
+    ensures cache { OnOk result (cache.new
+        ≡ spec.with_put row.now.raw (row_series terms.now.rules.now.honor_labels metric.old terms.now.target.now row.now) cache.old) }
     ensures err { OnErr result (cache.new ≡ cache.old) }
     ensures undone { undone cache.new ≡ undone cache.old }
     ensures steps { OnOk result (steps.new ≡ steps.old + 1) }
     ensures at_least { steps.old ≤ steps.new }
     ensures at_most { steps.new ≤ steps.old + 1 }
 {
-    let series = row_set(alloc, rules, metric, target, row, steps)?;
+    let series = row_set(alloc, terms.rules, metric, terms.target, row, steps)?;
     let kept = shared(&series)?;
     cache.put(alloc, row.raw(), kept)?;
     Ok(series)
@@ -71,27 +86,26 @@ fn put_series<L: Ledger>(
 #[tactic(auto, using(crate::proofs::TextLemmas::stamp_undone))]
 fn put_shown<L: Ledger>(
     alloc: Global,
-    rules: &RowRules,
+    terms: &RowTerms<'_, '_, '_, '_>,
     metric: &mut Runner<'_>,
-    target: &BorrowedTarget<'_, '_>,
     row: &SampleRow<'_>,
     cache: &mut SeriesCache,
     steps: &mut Steps<L>,
 ) -> Result<Option<LabelSet>, NoMemory>
     requires fit { IsFit row.now }
-    requires nameless { bears target.now metric_label ≡ false }
+    requires nameless { bears terms.now.target.now metric_label ≡ false }
     requires unknown { look_up row.now.raw cache.old.texts ≡ None }
     requires kept { cache.old.kept ≤ length cache.old.texts }
-    ensures series { IfOk result (λ o. o ≡ row_series rules.now.honor_labels metric.old target.now row.now) }
+    ensures series { IfOk result (λ o. o ≡ row_series terms.now.rules.now.honor_labels metric.old terms.now.target.now row.now) }
     ensures same { metric.new ≡ metric.old }
-    ensures cache { OnOk result (cache.new ≡ spec.shown_row rules.now metric.old target.now cache.old row.now) }
+    ensures cache { OnOk result (cache.new ≡ spec.shown_row terms.now.rules.now metric.old terms.now.target.now cache.old row.now) }
     ensures undone { undone cache.new ≡ undone cache.old }
     ensures steps { OnOk result (steps.new ≡ steps.old + 1) }
     ensures at_least { steps.old ≤ steps.new }
     ensures at_most { steps.new ≤ steps.old + 1 }
 {
-    let series = put_series(alloc, rules, metric, target, row, cache, steps)?;
-    cache.stamp(row.raw(), is_tracked(rules, row));
+    let series = put_series(alloc, terms, metric, row, cache, steps)?;
+    cache.stamp(row.raw(), is_tracked(terms.rules, row));
     Ok(series)
 }
 
@@ -99,28 +113,29 @@ fn put_shown<L: Ledger>(
 /// isn't known.
 fn show_row<L: Ledger>(
     alloc: Global,
-    rules: &RowRules,
+    terms: &RowTerms<'_, '_, '_, '_>,
     metric: &mut Runner<'_>,
-    target: &BorrowedTarget<'_, '_>,
-    row: &SampleRow<'_>,
-    hint: usize,
+    hinted: &HintedRow<'_, '_>,
     cache: &mut SeriesCache,
     steps: &mut Steps<L>,
 ) -> Result<Option<LabelSet>, NoMemory>
-    requires fit { IsFit row.now }
-    requires nameless { bears target.now metric_label ≡ false }
-    requires right { IfSome (find row.now.raw cache.old.texts) (λ k. k.set ≡ row_series rules.now.honor_labels metric.old target.now row.now) }
-    ensures series { IfOk result (λ o. o ≡ row_series rules.now.honor_labels metric.old target.now row.now) }
+    requires fit { IsFit hinted.now.row.now }
+    requires nameless { bears terms.now.target.now metric_label ≡ false }
+    requires right { IfSome (find hinted.now.row.now.raw cache.old.texts) (λ k. k.set
+        ≡ row_series terms.now.rules.now.honor_labels metric.old terms.now.target.now hinted.now.row.now) }
+    ensures series { IfOk result (λ o. o ≡ row_series terms.now.rules.now.honor_labels metric.old terms.now.target.now hinted.now.row.now) }
     ensures same { metric.new ≡ metric.old }
-    ensures cache { OnOk result (cache.new ≡ spec.shown_row rules.now metric.old target.now cache.old row.now) }
+    ensures cache { OnOk result (cache.new ≡ spec.shown_row terms.now.rules.now metric.old terms.now.target.now cache.old hinted.now.row.now) }
     ensures undone { undone cache.new ≡ undone cache.old }
     ensures steps { OnOk result (steps.new + length cache.old.texts ≡ steps.old + length cache.new.texts) }
     ensures at_least { steps.old ≤ steps.new }
-    ensures at_most { steps.new + length cache.old.texts ≤ steps.old + length (spec.shown_row rules.now metric.old target.now cache.old row.now).texts }
+    ensures at_most { steps.new + length cache.old.texts ≤ steps.old
+        + length (spec.shown_row terms.now.rules.now metric.old terms.now.target.now cache.old hinted.now.row.now).texts }
 {
-    match cache.show(row.raw(), hint, is_tracked(rules, row))? {
+    let row = hinted.row;
+    match cache.show(row.raw(), hinted.hint, is_tracked(terms.rules, row))? {
         Some(series) => Ok(series),
-        None => put_shown(alloc, rules, metric, target, row, cache, steps),
+        None => put_shown(alloc, terms, metric, row, cache, steps),
     }
 }
 
@@ -161,18 +176,15 @@ fn sift_known<L: Ledger>(
     let mut sifted = Sifted::new(alloc);
     for place in 0..body.len() {
         let row = body.row(place);
-        let hint = hint_at(places, place);
-        let rules = terms.rules;
-        let series = show_row(
-            alloc,
-            rules,
-            &mut runner,
-            &borrowed,
-            &row,
-            hint,
-            cache,
-            steps,
-        )?;
+        let row_terms = RowTerms {
+            rules: terms.rules,
+            target: &borrowed,
+        };
+        let hinted = HintedRow {
+            row: &row,
+            hint: hint_at(places, place),
+        };
+        let series = show_row(alloc, &row_terms, &mut runner, &hinted, cache, steps)?;
         let number = place as u64;
         sifted.take(alloc, terms.rules, number, &row, series)?;
     }
@@ -273,7 +285,8 @@ pub fn shown_rows<L: Ledger>(
     ensures was { OnOk result (was_sets cache.new.texts ≡ was_sets cache.old.texts) }
     ensures undone { undone cache.new ≡ cache.old }
     ensures err { OnErr result (cache.new ≡ cache.old) }
-    ensures steps { OnOk result (steps.new + length cache.old.texts ≡ steps.old + length (spec.texts_shown terms.now reply.now took cache.old).texts) }
+    ensures steps { OnOk result (steps.new + length cache.old.texts ≡ steps.old
+        + length (spec.texts_shown terms.now reply.now took cache.old).texts) }
     ensures runs { IfOk result (λ s. s.runs ≡ length (spec.texts_shown terms.now reply.now took cache.old).texts - length cache.old.texts) }
     ensures at_least { steps.old ≤ steps.new }
     ensures at_most { steps.new + length cache.old.texts ≤ steps.old + length (spec.texts_shown terms.now reply.now took cache.old).texts }

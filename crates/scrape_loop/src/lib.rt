@@ -22,4 +22,5 @@ mod target_labels;
 
 pub use health::Health;
 pub use life_state::{Counted, LifeState};
+pub use past::Timing;
 pub use read_reply::ReadReply;

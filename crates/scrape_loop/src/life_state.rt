@@ -16,7 +16,7 @@ ghost use Rattle.series_cache.specs.Sets.{IsRising};
 use crate::health::Health;
 use crate::known_rows::{ScrapeRules, Settled, shown_rows};
 use crate::last_texts::{LastTexts, form_after};
-use crate::past::Past;
+use crate::past::{Past, Timing};
 use crate::read_reply::ReadReply;
 use crate::scrape_parts::{extra_in, fault_in, size_in};
 use crate::target_labels::TargetLabels;
@@ -24,7 +24,7 @@ use appender_book::Book;
 use label_set::{Form, LabelSet, NoMemory, Steps};
 use outside::Reply;
 use relabel::Rules;
-use report_samples::{Closing, EntryList, ExtraCounts};
+use report_samples::{Closing, EntryList};
 use sample_rows::{RowRules, Scrape, ScrapeFault};
 use series_cache::SeriesCache;
 use std::alloc::Global;
@@ -59,7 +59,7 @@ impl Model for LifeState {
 
     ghost Value = { LifeView };
 
-    ghost view = { λ s. life_of s.past.life s.past.target s.past.extra s.cache s.past.scraped s.past.up };
+    ghost view = { λ s. life_of s.past.life s.past.target s.past.extra s.cache (s.past.scraped, s.past.up) };
 
     ghost invariant = { λ s. IsAtRest s.cache × AreRaw s.form s.cache };
 }
@@ -72,33 +72,6 @@ fn seed(cache: &mut SeriesCache, alloc: Global, hasher: DefaultHasher)
     if cache.is_empty() {
         *cache = SeriesCache::hashed(alloc, hasher);
     }
-}
-
-/// Appends the entries of a scrape that started at a moment and took so many milliseconds, where the cache shows its
-/// sets; the extra reports where it is given what they say.
-fn append(
-    alloc: Global,
-    past: &Past,
-    cache: &SeriesCache,
-    scrape: Scrape,
-    extra: Option<ExtraCounts>,
-    moment: i64,
-    took: i64,
-    book: &mut Book,
-) -> Result<(), NoMemory>
-    requires shows { Shows cache.now scrape }
-    requires took { pos 0 ≤ℤ took }
-    requires timeout { IfSome extra (λ e. pos 0 ≤ℤ e.timeout) }
-    ensures entries { OnOk result (book.new.entries ≡ book.old.entries
-        ++ entries_of (spec.life_of past.now.life past.now.target past.now.extra cache.now past.now.scraped past.now.up)
-        extra scrape moment took) }
-    ensures spare { OnOk result (book.old.spare ≤ book.new.spare + length (entries_of
-        (spec.life_of past.now.life past.now.target past.now.extra cache.now past.now.scraped past.now.up)
-        extra scrape moment took)) }
-    ensures err { OnErr result (book.new ≡ book.old) }
-{
-    let entries = past.entries_of(alloc, cache, scrape, extra, moment, took)?;
-    book.append_all(entries)
 }
 
 impl LifeState {
@@ -249,9 +222,9 @@ impl LifeState {
         requires right { AreRight rules.now.honor_labels metric.now self.old.target self.old.cache.texts }
         ensures fault { IfOk result (λ c. c.fault ≡ spec.fault_of (spec.outcome_for self.old rules.now metric.now reply.now took)) }
         ensures runs { IfOk result (λ c. c.runs ≡ spec.runs_for self.old rules.now metric.now reply.now took) }
-        ensures entries { OnOk result (book.new.entries ≡ book.old.entries ++ entries_by self.old rules.now metric.now reply.now moment took) }
+        ensures entries { OnOk result (book.new.entries ≡ book.old.entries ++ entries_by self.old rules.now metric.now (reply.now, took) moment) }
         ensures state { OnOk result (self.new ≡ spec.after_reply self.old rules.now metric.now reply.now took) }
-        ensures spare { OnOk result (book.old.spare ≤ book.new.spare + length (entries_by self.old rules.now metric.now reply.now moment took)) }
+        ensures spare { OnOk result (book.old.spare ≤ book.new.spare + length (entries_by self.old rules.now metric.now (reply.now, took) moment)) }
         ensures err_state { OnErr result (self.new ≡ self.old) }
         ensures err_book { OnErr result (book.new ≡ book.old) }
         ensures steps { OnOk result (steps.new ≡ steps.old + spec.runs_for self.old rules.now metric.now reply.now took) }
@@ -279,16 +252,11 @@ impl LifeState {
         let fault = fault_in(&scrape);
         let good = fault.is_none();
         let extra = extra_in(rules, size_in(&scrape, reply.size()));
-        match append(
-            alloc,
-            &self.past,
-            &self.cache,
-            scrape,
-            extra,
-            moment,
-            took,
-            book,
-        ) {
+        let timing = Timing { moment, took };
+        match self
+            .past
+            .append(alloc, &self.cache, scrape, extra, timing, book)
+        {
             Err(e) => {
                 self.cache.undo();
                 Err(e)
@@ -327,8 +295,9 @@ impl LifeState {
             left: 0,
         };
         let extra = extra_in(rules, 0);
+        let timing = Timing { moment, took: 0 };
         self.past
-            .entries_of(alloc, &self.cache, scrape, extra, moment, 0)
+            .entries_of(alloc, &self.cache, scrape, extra, timing)
     }
 
     /// Makes a forced scrape the last counted one: it tracks nothing, and what the last good scrape showed stays known. It takes no memory.

@@ -12,7 +12,7 @@ use label_set::{NoMemory, Steps};
 use life_roll::InFlight;
 use sample_rows::RowRules;
 use scrape_config::Job;
-use scrape_loop::{Counted, ReadReply};
+use scrape_loop::{Counted, ReadReply, Timing};
 use scrape_machine::lives::{Life, StartedScrape, TicketState};
 use std::alloc::Global;
 use std::sync::ledger::Ledger;
@@ -97,24 +97,24 @@ pub fn rules_of(job: &Job) -> RowRules
 pub fn count<L: Ledger>(
     alloc: Global,
     life: &mut Life,
-    moment: i64,
+    timing: Timing,
     reply: &ReadReply,
-    took: i64,
     book: &mut Book,
     steps: &mut Steps<L>,
 ) -> Result<Counted, NoMemory>
-    requires took { IsMoment took }
+    requires took { IsMoment timing.took }
     requires right { lives_of.IsRightLife life.old }
-    ensures fault { IfOk result (λ c. c.fault ≡ fault_of (lives_of.outcome_for life.old took reply.now)) }
-    ensures runs { IfOk result (λ c. c.runs ≡ scrape_runs took reply.now life.old) }
-    ensures life { OnOk result (life.new ≡ lives_of.counted life.old took reply.now) }
-    ensures book { OnOk result (book.new.entries ≡ book.old.entries ++ lives_of.counted_entries life.old took reply.now moment) }
+    ensures fault { IfOk result (λ c. c.fault ≡ fault_of (lives_of.outcome_for life.old timing.took reply.now)) }
+    ensures runs { IfOk result (λ c. c.runs ≡ scrape_runs timing.took reply.now life.old) }
+    ensures life { OnOk result (life.new ≡ lives_of.counted life.old timing.took reply.now) }
+    ensures book { OnOk result (book.new.entries ≡ book.old.entries ++ lives_of.counted_entries life.old timing.took reply.now timing.moment) }
     ensures err_life { OnErr result (life.new ≡ life.old) }
     ensures err_book { OnErr result (book.new.entries ≡ book.old.entries) }
-    ensures steps { OnOk result (steps.new ≡ steps.old + scrape_runs took reply.now life.old) }
+    ensures steps { OnOk result (steps.new ≡ steps.old + scrape_runs timing.took reply.now life.old) }
     ensures at_least { steps.old ≤ steps.new }
-    ensures at_most { steps.new ≤ steps.old + scrape_runs took reply.now life.old }
+    ensures at_most { steps.new ≤ steps.old + scrape_runs timing.took reply.now life.old }
 {
+    let Timing { moment, took } = timing;
     let rules = rules_of(life.settings.job());
     let metric = &life.settings.job().metric_rules;
     let counted = life

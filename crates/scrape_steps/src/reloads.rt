@@ -287,6 +287,13 @@ fn is_held(held: &Seats, place: Option<usize>, target: &Target) -> Result<bool, 
     }
 }
 
+/// The targets of which a life is held, and the place of a job.
+#[derive(Clone, Copy)]
+struct HeldTargets<'s> {
+    seats: &'s Seats,
+    place: Option<usize>,
+}
+
 /// Adds the lives of targets of a job that begin at a moment: those of which no life is held.
 fn push_born(
     alloc: Global,
@@ -294,16 +301,15 @@ fn push_born(
     moment: Moment,
     first: u64,
     job: &InForce,
-    held: &Seats,
-    place: Option<usize>,
+    held: &HeldTargets<'_>,
 ) -> Result<(), NoMemory>
     requires { first < 2 ^ 32 }
     ensures { OnOk result (lives.new.items ≡ lives.old.items
         ++ spec.born_all (number moment) (first + length lives.old.items) job.now
-        (filter (λ (t : Target). not (plan.is_seated held.now t.identity place)) job.now.kept)) }
+        (filter (λ (t : Target). not (plan.is_seated held.now.seats.now t.identity held.now.place)) job.now.kept)) }
 {
     for target in job.kept.as_slice() {
-        if !is_held(held, place, target)? {
+        if !is_held(held.seats, held.place, target)? {
             let number = first + lives.len() as u64;
             let life = born(alloc, moment, number, job, target)?;
             lives.reserve(1)?;
@@ -328,7 +334,8 @@ pub fn births_of(
     let mut lives = Vec::new(alloc);
     for job in news {
         let place = names.place(&job.job.job().conf.job_name);
-        push_born(alloc, &mut lives, moment, first, job, held, place)?;
+        let held = HeldTargets { seats: held, place };
+        push_born(alloc, &mut lives, moment, first, job, &held)?;
     }
     Ok(lives)
 }

@@ -97,18 +97,18 @@ pub fn count_ends(moment: Moment, lives: &Lives<'_>) -> usize
     count
 }
 
+/// Adds the scrape of a life that starts at a moment, if one does, by whether it is over the target limit of its job.
 fn push_start(
-    names: &JobNames,
-    jobs: &[InForce],
     begun: &mut Vec<StartedScrape>,
+    over: bool,
     moment: Moment,
     life: &Life,
     place: u64,
 ) -> Result<(), NoMemory>
-    requires { names.now ≡ map spec.name_of jobs.now }
-    ensures { OnOk result (begun.new.items ≡ begun.old.items ++ spec.start_of jobs.now (number moment) place life.now) }
+    ensures { OnOk result (begun.new.items
+        ≡ begun.old.items ++ spec.started_by (lives_of.starts (number moment) over life.now) place life.now) }
 {
-    if starts_in(names, jobs, moment, life) {
+    if starts(moment, over, life) {
         let settings = life.settings.share()?;
         begun.reserve(1)?;
         begun.push_reserved(StartedScrape {
@@ -134,7 +134,9 @@ pub fn starts_of(
     let mut begun = Vec::new(alloc);
     for index in 0..lives.count() {
         let place = lives.place(index) as u64;
-        push_start(names, jobs, &mut begun, moment, lives.at(index), place)?;
+        let life = lives.at(index);
+        let over = is_over(names, jobs, life);
+        push_start(&mut begun, over, moment, life, place)?;
     }
     Ok(begun)
 }
@@ -160,23 +162,29 @@ pub fn entries_of(
     Ok(entries)
 }
 
+/// The jobs in force, and their names.
+#[derive(Clone, Copy)]
+pub struct NamedJobs<'n, 'j> {
+    pub names: &'n JobNames,
+    pub jobs: &'j [InForce],
+}
+
 /// Scans each life that a sweep concerns, by their places.
 pub fn sweep_lives(
-    names: &JobNames,
-    jobs: &[InForce],
+    named: &NamedJobs<'_, '_>,
     lives: &mut [Life],
     places: &[usize],
     started: &[StartedScrape],
     moment: Moment,
 )
-    requires names { names.now ≡ map spec.name_of jobs.now }
+    requires names { named.now.names.now ≡ map spec.name_of named.now.jobs.now }
     requires places { places.now ≡ concerned.places_where (concerned.concerns (Some moment)) 0 lives.old }
-    ensures { lives.new ≡ spec.lives_from (spec.world jobs.now lives.old started.now) (Sweep moment) 0 lives.old }
+    ensures { lives.new ≡ spec.lives_from (spec.world named.now.jobs.now lives.old started.now) (Sweep moment) 0 lives.old }
 {
     let mut ticket = started.len() as u64;
     for place in places {
         let life = life_at(lives, *place);
-        let over = is_over(names, jobs, life);
+        let over = is_over(named.names, named.jobs, life);
         let one = starts(moment, over, life);
         scan_at(lives, *place, moment, ticket, over);
         if one {
@@ -223,14 +231,6 @@ pub fn ticked(
     ensures { IfOk result (λ v. v.items ≡ spec.started_by (lives_of.starts (number moment) over life.now) place life.now) }
 {
     let mut begun = Vec::new(alloc);
-    if starts(moment, over, life) {
-        let settings = life.settings.share()?;
-        begun.reserve(1)?;
-        begun.push_reserved(StartedScrape {
-            life: place,
-            settings,
-            finished: false,
-        });
-    }
+    push_start(&mut begun, over, moment, life, place)?;
     Ok(begun)
 }

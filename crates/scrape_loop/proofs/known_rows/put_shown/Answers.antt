@@ -10,4 +10,4 @@ use Rattle.scrape_loop.proofs.known_rows.put_shown.Goals as goal
 pub stamp-requires : goal.stamp-requires
 stamp-requires g c =
     subst₂ (λ (raw : List ℕ) (v : CacheView). IsSome (look_up raw v.texts)) (sym c.raw.ensures) (sym c.in_ok-series.ensures.cache)
-    (put_known c.args.row.now.raw (fresh (row_series c.args.rules.now.honor_labels c.args.metric.now c.args.target.now c.args.row.now)) c.args.cache.now.texts)
+    (put_known c.args.row.now.raw (fresh (row_series c.args.terms.now.rules.now.honor_labels c.args.metric.now c.args.terms.now.target.now c.args.row.now)) c.args.cache.now.texts)

@@ -8,4 +8,4 @@ use Rattle.scrape_steps.proofs.reloads.push_born.Given as goal
 
 abbrev pub invariant-loop-target : goal.invariant-loop-target
 invariant-loop-target l =
-    l.lives.items ≡ l.fn.lives.items ++ born_all (number l.moment) (l.first + length l.fn.lives.items) l.job (filter (λ (t : Target). not (is_seated l.held t.identity l.place)) (take l.target-index l.job.kept))
+    l.lives.items ≡ l.fn.lives.items ++ born_all (number l.moment) (l.first + length l.fn.lives.items) l.job (filter (λ (t : Target). not (is_seated l.held.seats.now t.identity l.held.place)) (take l.target-index l.job.kept))

@@ -1,8 +1,9 @@
-use Rattle.std.proofs.Common.{◌<◌, ◌++◌, ◌∙◌, List, length, append-nil, sym, ap, ap₂, arith}
+use Rattle.std.proofs.Common.{Bool, ◌<◌, ◌++◌, ◌∙◌, List, length, append-nil, sym, ap, ap₂, arith}
 use Rattle.std.proofs.lemmas.List.{drop_all}
 use Rattle.journal_text.specs.Lines.{number}
 use Rattle.scrape_machine.specs.declared.lives.StartedScrape.{StartedScrape}
-use Rattle.scrape_machine.specs.Machine.{starts_from}
+use Rattle.scrape_machine.specs.Lives.{starts}
+use Rattle.scrape_machine.specs.Machine.{started_by, starts_from}
 use Rattle.scrape_steps.specs.Concerned.{concerns, concerned, places}
 use Rattle.scrape_steps.proofs.ConcernedLemmas.{apart_closed, closed_starts, starts_at, starts_next, starts_where, length-places}
 use Rattle.scrape_steps.proofs.scans.starts_of.Goals as goal
@@ -21,8 +22,11 @@ loop-index-preserved c =
     let v = c.args.lives.now in
     let lt : c.loop-index.index < length (concerned v) = omega (arith, c.loop-index-test.true, c.count-index-end.ensures) in
     let there : c.loop-index.index < length (places v) = omega (arith, lt, length-places (concerns v.moment) 0 v.all) in
-    starts_next c.args.jobs.now m (places v) (concerned v) c.loop-index.index c.place-place.result c.at.result.now (starts_from c.args.jobs.now m 0 v.all) c.loop-index.begun.items c.push_start.new.begun.items
-    there lt c.place-place.ensures c.at.ensures c.loop-index.invariant c.in_ok-push_start.ensures
+    starts_next c.args.jobs.now m (places v) (concerned v) c.loop-index.index c.place-place.result c.at-life.result.now (starts_from c.args.jobs.now m 0 v.all) c.loop-index.begun.items c.push_start.new.begun.items
+    there lt c.place-place.ensures c.at-life.ensures c.loop-index.invariant
+    (c.in_ok-push_start.ensures
+    ∙ ap (λ (over : Bool). c.loop-index.begun.items ++ started_by (starts m over c.at-life.result.now) c.place-place.result c.at-life.result.now)
+    c.is_over-over.ensures)
 
 pub returns : goal.returns
 returns c =

@@ -13,7 +13,7 @@ use Rattle.scrape_steps.proofs.scans.sweep_lives.Goals as goal
 pub loop-place-init : goal.loop-place-init
 loop-place-init c =
     let ls = c.args.lives.now in
-    let js = c.args.jobs.now in
+    let js = c.args.named.now.jobs.now in
     let m = c.args.moment in
     record {
       few = omega arith;
@@ -40,7 +40,7 @@ scan_at-requires c =
 pub loop-place-preserved : goal.loop-place-preserved
 loop-place-preserved c =
     let m = c.args.moment in
-    let js = c.args.jobs.now in
+    let js = c.args.named.now.jobs.now in
     let ps = c.args.places.now in
     let i = c.loop-place.place-index in
     let p = get_or ps i 0 in
@@ -73,6 +73,6 @@ loop-place-preserved c =
 
 pub returns : goal.returns
 returns c =
-    ap (λ ps. swept_at c.args.jobs.now c.args.moment c.loop-place.ticket ps c.loop-place.lives)
+    ap (λ ps. swept_at c.args.named.now.jobs.now c.args.moment c.loop-place.ticket ps c.loop-place.lives)
     (sym (drop_all c.loop-place.place-index c.args.places.now (omega (arith, c.loop-place-test.false))))
     ∙ c.loop-place.invariant.lives

@@ -8,5 +8,5 @@ abbrev pub invariant-loop-place : goal.invariant-loop-place
 invariant-loop-place l = record {
   few : l.ticket ≤ length l.started + l.place-index;
   long : length l.lives ≡ length l.initial.lives;
-  lives : swept_at l.jobs l.moment l.ticket (drop l.place-index l.places) l.lives ≡ lives_from (world l.jobs l.initial.lives l.started) (Sweep l.moment) 0 l.initial.lives;
+  lives : swept_at l.named.jobs.now l.moment l.ticket (drop l.place-index l.places) l.lives ≡ lives_from (world l.named.jobs.now l.initial.lives l.started) (Sweep l.moment) 0 l.initial.lives;
 }

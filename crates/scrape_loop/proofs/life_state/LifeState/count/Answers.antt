@@ -50,7 +50,7 @@ invariant_of-self-in-Ok g c =
     )
 
 entries : (g : _) (c : goal.After-turn g) →
-    entries_of (life_of c.self.inside.past.life c.self.inside.past.target c.self.inside.past.extra c.shown_rows.new.cache c.self.inside.past.scraped c.self.inside.past.up) c.extra_in-extra.result c.in_ok-scrape.field-0.scrape (to_z w64 (of_z w64 c.args.moment))
+    entries_of (life_of c.self.inside.past.life c.self.inside.past.target c.self.inside.past.extra c.shown_rows.new.cache (c.self.inside.past.scraped, c.self.inside.past.up)) c.extra_in-extra.result c.in_ok-scrape.field-0.scrape (to_z w64 (of_z w64 c.args.moment))
     (to_z w64 (of_z w64 c.args.took))
     ≡ entries_of c.args.self.now (extra_for c.args.rules.now (outcome_for c.args.self.now c.args.rules.now c.args.metric.now c.args.reply.now c.args.took) c.args.reply.now) (outcome_for c.args.self.now c.args.rules.now c.args.metric.now c.args.reply.now c.args.took) c.args.moment c.args.took
 entries g c =
@@ -63,7 +63,7 @@ entries g c =
     to_z-of_z w64 c.size_in.result fits ∙ c.size_in.ensures ∙ ap (size_of s.field-0.scrape) c.size.ensures.value in
     let extra : c.extra_in-extra.result ≡ extra_for c.args.rules.now s.field-0.scrape c.args.reply.now =
     c.extra_in-extra.ensures.value ∙ ap (extra_of c.args.rules.now) size in
-    ap (λ (e : Option ExtraCounts). entries_of (life_of p.life p.target p.extra c.shown_rows.new.cache p.scraped p.up) e s.field-0.scrape (to_z w64 (of_z w64 c.args.moment)) (to_z w64 (of_z w64 c.args.took))) extra
+    ap (λ (e : Option ExtraCounts). entries_of (life_of p.life p.target p.extra c.shown_rows.new.cache (p.scraped, p.up)) e s.field-0.scrape (to_z w64 (of_z w64 c.args.moment)) (to_z w64 (of_z w64 c.args.took))) extra
     ∙ reply_entries p.life p.target c.set-target.result.now p.extra p.scraped p.up c.self.inside.cache c.seed.new.cache c.shown_rows.new.cache c.args.rules.now c.args.metric.now c.args.reply.now
     c.args.took (to_z w64 (of_z w64 c.args.took)) s.field-0.scrape c.args.self.now c.self.view_is c.set-target.ensures.value c.seed.ensures.same took s.ensures.outcome s.ensures.undone c.args.moment
     (to_z w64 (of_z w64 c.args.moment)) moment s.ensures.was
