@@ -14,13 +14,13 @@ use Rattle.outside.specs.Sizes.{most_text_bytes}
 use Rattle.scrape_core.specs.Records.{IsWhole}
 use Rattle.scrape_machine.specs.Machine.{book_of}
 use Rattle.run_lock.specs.Callers.{BeginsWith}
-use Rattle.station.specs.Control.{RecordsCaller}
+use Rattle.station.specs.Control.{RecordsCaller, caller_use}
 use Rattle.station.specs.Crews.{AllRecorded, RecordsSweeps}
 use Rattle.station.specs.Ends.{ShelfWent, SinkWent, SourceWent, EndsSo}
 use Rattle.station.specs.declared.ends.RunEnd.{RunEnd}
 use Rattle.station.specs.declared.ends.RunEnd.TheVariants as run
 use Rattle.station.proofs.EndLemmas.{shelf_same, sink_same, source_same}
-use Rattle.live_run.specs.Runs.{Ended, Finishes, IsRunOf, IsTaken, IsUnbegun, IsUnstarted, Touched, Wanted, WroteFront, WroteNothing, WrittenSo}
+use Rattle.live_run.specs.Runs.{Ended, Finishes, IsRunOf, IsTaken, IsUnbegun, IsUnstarted, Touched, Wanted, WroteFront, WroteNothing, WrittenSo, outputs}
 use Rattle.live_run.specs.declared.asked.LiveEnd.{LiveEnd}
 use Rattle.live_run.specs.declared.asked.LiveEnd.TheVariants.{Done, ControlFault, ControlLong, Absent, TooLong, Config, ReadFault, WriteFault, NoMemory}
 
@@ -34,7 +34,7 @@ pub record Known (end : RunEnd) (w : Wanted) (t : Touched) (es : List Event) (se
   pub short : length text ≤ most_text_bytes
   pub taken : IsTaken text
   pub begins : end ≢ run.NoMemory → BeginsWith (Load moment text ∷ []) es
-  pub caller : RecordsCaller (Load moment text ∷ []) end t.shelf t.control es seats t.err
+  pub caller : RecordsCaller (Load moment text ∷ []) end (caller_use t.shelf t.control t.err) es seats
   pub whole : end ≢ run.NoMemory → IsWhole es
   pub each : end ≢ run.NoMemory → length seats ≡ length es
   pub known : end ≢ run.NoMemory → All (λ q. q < 2 + length t.fetchers.before) seats
@@ -70,7 +70,7 @@ module _ (w : Wanted) (t : Touched) (es : List Event) (seats : List ℕ) where
       (done : Took (journal_text Two es) t.trail → Took (printed w.kept (book_of es)) t.out → Ended end w t)
       (cut : WroteFront w.kept es t.trail t.out → Ended WriteFault w t)
       (none : IsUntouched t.trail → IsUntouched t.out → Ended NoMemory w t) where
-    written : (e : LiveEnd) → WrittenSo end e w.kept es t.trail t.out → Ended e w t
+    written : (e : LiveEnd) → WrittenSo end e w.kept es (outputs t.trail t.out) → Ended e w t
     written WriteFault h = cut h
     written NoMemory h = none h.0 h.1
     written Done h = subst (λ (x : LiveEnd). Ended x w t) (sym h.0) (done h.1 h.2)
@@ -88,7 +88,7 @@ module _ (w : Wanted) (t : Touched) (es : List Event) (seats : List ℕ) where
     cut : (end : RunEnd) → IsRunOf end w t es → WroteFront w.kept es t.trail t.out → Ended WriteFault w t
     cut end r f = record { writes = inl (record { end = end; journal = es; run = r; front = f }); began = tt; stopped = tt; shelf = shelf; err = err; control = control }
 
-  pub ended : (end : RunEnd) (e : LiveEnd) → Known end w t es seats → Finishes end w.kept es e t.trail t.out → Ended e w t
+  pub ended : (end : RunEnd) (e : LiveEnd) → Known end w t es seats → Finishes end w.kept es e (outputs t.trail t.out) → Ended e w t
   ended run.NoMemory e k h = subst (λ (x : LiveEnd). Ended x w t) (sym h.0) (none k.shelf k.err k.control h.1 h.2)
   ended run.WriteFault e k h =
       subst (λ (x : LiveEnd). Ended x w t) (sym h.0)
@@ -153,7 +153,7 @@ reading_is (negsuc n) small = absurd small
 
 -- a run that is over did not end as one that never began
 written_begun : (end e : LiveEnd) (kept : Bool) (es : List Event) (trail out : Use SinkSeen) →
-    (IsUnbegun end → ⊥) → WrittenSo end e kept es trail out → IsUnbegun e → ⊥
+    (IsUnbegun end → ⊥) → WrittenSo end e kept es (outputs trail out) → IsUnbegun e → ⊥
 written_begun end Done kept es trail out never h u = u
 written_begun end ControlFault kept es trail out never h u = u
 written_begun end ControlLong kept es trail out never h u = u
@@ -164,7 +164,7 @@ written_begun end ReadFault kept es trail out never h u = never (subst IsUnbegun
 written_begun end WriteFault kept es trail out never h u = u
 written_begun end NoMemory kept es trail out never h u = u
 
-pub begun : (end : RunEnd) (e : LiveEnd) (kept : Bool) (es : List Event) (trail out : Use SinkSeen) → Finishes end kept es e trail out → IsUnbegun e → ⊥
+pub begun : (end : RunEnd) (e : LiveEnd) (kept : Bool) (es : List Event) (trail out : Use SinkSeen) → Finishes end kept es e (outputs trail out) → IsUnbegun e → ⊥
 begun run.NoMemory e kept es trail out h u = subst IsUnbegun h.0 u
 begun run.WriteFault e kept es trail out h u = subst IsUnbegun h.0 u
 begun run.Done e kept es trail out h u = written_begun Done e kept es trail out (λ x. x) h u

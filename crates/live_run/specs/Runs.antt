@@ -17,7 +17,7 @@ use Rattle.book_text.specs.Texts.{printed}
 use Rattle.scrape_core.specs.Records.{IsWhole}
 use Rattle.scrape_machine.specs.Machine.{book_of}
 use Rattle.run_lock.specs.Callers.{BeginsWith}
-use Rattle.station.specs.Control.{RecordsCaller}
+use Rattle.station.specs.Control.{CallerUse, RecordsCaller, caller_use}
 use Rattle.station.specs.Crews.{AllRecorded, RecordsSweeps}
 use Rattle.station.specs.Ends.{ShelfWent, SinkWent, SourceWent, EndsSo}
 use Rattle.station.specs.declared.ends.RunEnd.{RunEnd}
@@ -72,6 +72,14 @@ pub record Wanted : Type 0 where
 abbrev pub wanted : List ℕ → ℕ → Bool → Wanted
 wanted file turns kept = record { file = file; turns = turns; kept = kept }
 
+-- the sinks that the texts of its journal and of its book go to, before and after
+pub record Outputs : Type 0 where
+  pub trail : Use SinkSeen
+  pub out : Use SinkSeen
+
+abbrev pub outputs : Use SinkSeen → Use SinkSeen → Outputs
+outputs trail out = record { trail = trail; out = out }
+
 -- what it made of the objects that it borrowed, and of those that it was given
 pub record Touched : Type 0 where
   pub shelf : Use ShelfSeen
@@ -82,9 +90,10 @@ pub record Touched : Type 0 where
   pub clock : Use ClockSeen
   pub fetchers : Use (List FetchSeen)
 
-abbrev pub touched : Use ShelfSeen → Use SinkSeen → Use SinkSeen → Use SinkSeen → Use SourceSeen → Use ClockSeen → Use (List FetchSeen) → Touched
-touched shelf out err trail control clock fetchers =
-    record { shelf = shelf; out = out; err = err; trail = trail; control = control; clock = clock; fetchers = fetchers }
+-- the same, from the objects that its caller used, the sinks that its texts went to, its clock and its fetchers
+abbrev pub touched : CallerUse → Outputs → Use ClockSeen → Use (List FetchSeen) → Touched
+touched u o clock fetchers =
+    record { shelf = u.shelf; out = o.out; err = u.err; trail = o.trail; control = u.control; clock = clock; fetchers = fetchers }
 
 -- the journal of a run: it begins with the load of the file as it is, at the first reading of the clock; each started scrape has its one finish; and
 -- for some seats of its events, each one of this run, the ticker brought so many sweeps, at the readings that follow, the workers finishes of what
@@ -104,7 +113,7 @@ pub record IsRunOf (end : RunEnd) (w : Wanted) (t : Touched) (es : List Event) :
   pub known : All (λ q. q < 2 + length t.fetchers.before) seats
   pub sweeps : RecordsSweeps w.turns es seats later t.clock.after
   pub workers : AllRecorded 0 es seats t.fetchers.before t.fetchers.after
-  pub caller : RecordsCaller (Load moment text ∷ []) end t.shelf t.control es seats t.err
+  pub caller : RecordsCaller (Load moment text ∷ []) end (caller_use t.shelf t.control t.err) es seats
 
 -- the text of that journal went to the trail, and then that of its book to the output
 pub record Wrote (end : RunEnd) (w : Wanted) (t : Touched) : Type 0 where
@@ -149,17 +158,17 @@ written_end run.WriteFault = WriteFault
 written_end run.NoMemory = NoMemory
 
 -- what is written of a run that is over, and how that ends
-abbrev pub WrittenSo : LiveEnd → LiveEnd → Bool → List Event → Use SinkSeen → Use SinkSeen → Type 0
-WrittenSo end WriteFault kept es trail out = WroteFront kept es trail out
-WrittenSo end NoMemory kept es trail out = IsUntouched trail × IsUntouched out
-WrittenSo end e kept es trail out = (e ≡ end) × Took (journal_text Two es) trail × Took (printed kept (book_of es)) out
+abbrev pub WrittenSo : LiveEnd → LiveEnd → Bool → List Event → Outputs → Type 0
+WrittenSo end WriteFault kept es o = WroteFront kept es o.trail o.out
+WrittenSo end NoMemory kept es o = IsUntouched o.trail × IsUntouched o.out
+WrittenSo end e kept es o = (e ≡ end) × Took (journal_text Two es) o.trail × Took (printed kept (book_of es)) o.out
 
-abbrev pub Finishes : RunEnd → Bool → List Event → LiveEnd → Use SinkSeen → Use SinkSeen → Type 0
-Finishes run.NoMemory kept es e trail out = (e ≡ NoMemory) × IsUntouched trail × IsUntouched out
-Finishes run.WriteFault kept es e trail out = (e ≡ WriteFault) × IsUntouched trail × IsUntouched out
-Finishes run.Done kept es e trail out = WrittenSo Done e kept es trail out
-Finishes run.ReadFault kept es e trail out = WrittenSo ControlFault e kept es trail out
-Finishes run.TooLong kept es e trail out = WrittenSo ControlLong e kept es trail out
+abbrev pub Finishes : RunEnd → Bool → List Event → LiveEnd → Outputs → Type 0
+Finishes run.NoMemory kept es e o = (e ≡ NoMemory) × IsUntouched o.trail × IsUntouched o.out
+Finishes run.WriteFault kept es e o = (e ≡ WriteFault) × IsUntouched o.trail × IsUntouched o.out
+Finishes run.Done kept es e o = WrittenSo Done e kept es o
+Finishes run.ReadFault kept es e o = WrittenSo ControlFault e kept es o
+Finishes run.TooLong kept es e o = WrittenSo ControlLong e kept es o
 
 -- and why it did not begin: nothing but the shelf was touched then
 abbrev pub Began : LiveEnd → Wanted → Touched → Type 0

@@ -2,7 +2,8 @@
 ghost use Rattle.std.specs.Prelude.{◌≡◌, ◌≢◌, ◌<◌, ◌≤◌, ◌^◌, map, length, is_some, vec_len, Some, IfSome, IsTrue};
 ghost use Rattle.outside.specs.Objects.{used};
 ghost use Rattle.live_run.specs.Runs as spec;
-ghost use Rattle.live_run.specs.Runs.{touched, wanted, Ended, IsReadOnce, IsUnbegun};
+ghost use Rattle.live_run.specs.Runs.{outputs, touched, wanted, Ended, IsReadOnce, IsUnbegun};
+ghost use Rattle.station.specs.Control.{caller_use};
 
 use crate::asked::{Asked, LiveEnd, Lived};
 use crate::first_load::first_load;
@@ -53,7 +54,8 @@ fn finish_run<R: Sink, O: Sink>(
     trail: &mut R,
     out: &mut O,
 ) -> LiveEnd
-    ensures { spec.Finishes end kept core.now result (used (R.seen trail.old) (R.seen trail.new)) (used (O.seen out.old) (O.seen out.new)) }
+    ensures { spec.Finishes end kept core.now result
+        (outputs (used (R.seen trail.old) (R.seen trail.new)) (used (O.seen out.old) (O.seen out.new))) }
 {
     match end {
         RunEnd::NoMemory => LiveEnd::NoMemory,
@@ -101,9 +103,8 @@ pub fn run_live<
     ensures back { IsTrue (is_some result.control) × IsTrue (is_some result.clock) × (vec_len result.fetchers ≡ vec_len fetchers) }
     ensures ended { IfSome result.clock (λ k. IfSome result.control (λ c. Ended result.end
         (wanted asked.entry.file.now asked.entry.turns asked.entry.kept)
-        (touched (used (S.seen shelf.old) (S.seen shelf.new)) (used (O.seen out.old) (O.seen out.new))
-        (used (E.seen err.old) (E.seen err.new)) (used (R.seen trail.old) (R.seen trail.new))
-        (used (C.seen control) (C.seen c)) (used (K.seen clock) (K.seen k))
+        (touched (caller_use (used (S.seen shelf.old) (S.seen shelf.new)) (used (C.seen control) (C.seen c)) (used (E.seen err.old) (E.seen err.new)))
+        (outputs (used (R.seen trail.old) (R.seen trail.new)) (used (O.seen out.old) (O.seen out.new))) (used (K.seen clock) (K.seen k))
         (used (map F.seen fetchers.items) (map F.seen result.fetchers.items))))) }
     ensures unbegun { IsUnbegun result.end →
         (result.control ≡ Some control) × IfSome result.clock (λ k. IsReadOnce (used (K.seen clock) (K.seen k))) × (result.fetchers ≡ fetchers) }

@@ -12,7 +12,8 @@ ghost use Rattle.command_words.specs.Askings as askings;
 ghost use Rattle.command_words.specs.Words.{order_in};
 ghost use Rattle.command_words.specs.declared.words.Order.TheVariants.{Run};
 ghost use Rattle.command_words.specs.declared.words.Order.TheVariants as orders;
-ghost use Rattle.live_run.specs.Runs.{IsReadOnce, touched};
+ghost use Rattle.live_run.specs.Runs.{IsReadOnce, outputs, touched};
+ghost use Rattle.station.specs.Control.{caller_use};
 ghost use Rattle.scrape_commands.specs.Cuts.{CutLaw, IsCutOf};
 ghost use Rattle.scrape_commands.specs.Ends.{call};
 ghost use Rattle.scrape_commands.specs.Laws.{EndedStill};
@@ -102,8 +103,8 @@ fn tool_live<
 ) -> Finished<C, K, F>
     requires fetchers { (0 < vec_len fetchers) × (vec_len fetchers ≤ 1000) }
     ensures live { IfSome result.clock (λ k. IfSome result.control (λ c. EndedLive result.status live.now
-        (touched (used (S.seen shelf.old) (S.seen shelf.new)) (used (O.seen out.old) (O.seen out.new)) (used (E.seen err.old) (E.seen err.new))
-        (used (R.seen trail.old) (R.seen trail.new)) (used (C.seen control) (C.seen c)) (used (K.seen clock) (K.seen k))
+        (touched (caller_use (used (S.seen shelf.old) (S.seen shelf.new)) (used (C.seen control) (C.seen c)) (used (E.seen err.old) (E.seen err.new)))
+        (outputs (used (R.seen trail.old) (R.seen trail.new)) (used (O.seen out.old) (O.seen out.new))) (used (K.seen clock) (K.seen k))
         (used (map F.seen fetchers.items) (map F.seen result.fetchers.items)))
         ((c ≡ control) × IsReadOnce (used (K.seen clock) (K.seen k)) × (result.fetchers ≡ fetchers)))) }
     ensures back { IsTrue (is_some result.control) × IsTrue (is_some result.clock) × (vec_len result.fetchers ≡ vec_len fetchers) }
@@ -205,8 +206,8 @@ pub fn tool<
         × (result.clock ≡ Some clock) × (result.fetchers ≡ fetchers) }
     ensures live { (r : Running) → order_in (map string_bytes words.now) ≡ Some (Run r) →
         IfSome result.clock (λ k. IfSome result.control (λ c. EndedLive result.status r
-        (touched (used (S.seen shelf.old) (S.seen shelf.new)) (used (O.seen out.old) (O.seen out.new)) (used (E.seen err.old) (E.seen err.new))
-        (used (R.seen trail.old) (R.seen trail.new)) (used (C.seen control) (C.seen c)) (used (K.seen clock) (K.seen k))
+        (touched (caller_use (used (S.seen shelf.old) (S.seen shelf.new)) (used (C.seen control) (C.seen c)) (used (E.seen err.old) (E.seen err.new)))
+        (outputs (used (R.seen trail.old) (R.seen trail.new)) (used (O.seen out.old) (O.seen out.new))) (used (K.seen clock) (K.seen k))
         (used (map F.seen fetchers.items) (map F.seen result.fetchers.items)))
         ((c ≡ control) × IsReadOnce (used (K.seen clock) (K.seen k)) × (result.fetchers ≡ fetchers)))) }
     ensures back { IsTrue (is_some result.control) × IsTrue (is_some result.clock) × (vec_len result.fetchers ≡ vec_len fetchers) }

@@ -11,6 +11,7 @@ use Rattle.command_words.specs.Askings.{Serving}
 use Rattle.command_words.specs.Words.{limit_of}
 use Rattle.command_words.specs.declared.words.Command.TheVariants.{Replay}
 use Rattle.scrape_commands.specs.Scripts.{IsFaultOf, IsScriptOf}
+use Rattle.status_server.specs.Reloads.{basis}
 use Rattle.status_server.specs.Serving as server
 use Rattle.status_server.specs.Serving.{IsServedWhole, Serves}
 use Rattle.status_server.specs.Steps.{site}
@@ -118,7 +119,7 @@ pub record AnswersAll (s : Serving) (t : Touched) : Type 0 where
   pub journal : List Event
   pub replayed : IsReplayed s.script t.shelf.before journal
   pub after : List Event
-  pub answered : IfSome t.control.before.left (λ had. IsServedWhole journal (site t.shelf.before s.file) had t.out after)
+  pub answered : IfSome t.control.before.left (λ had. IsServedWhole (basis journal (site t.shelf.before s.file)) had t.out after)
   pub trail : Took (journal_text Two after) t.trail
 
 -- the end where the journal is written, by that of the connection

@@ -13,7 +13,7 @@ use Rattle.run_lock.specs.Callers.{jobs_after, jobs_known}
 use Rattle.run_lock.specs.declared.tasks.ControlOrder.{ControlOrder}
 use Rattle.run_lock.proofs.CallerLemmas.{jobs_join}
 use Rattle.run_lock.specs.declared.marks.Entry.{Entry}
-use Rattle.station.specs.Control.{Did, did, both, line_did, lines_did, rereads, control_lines, given_lines, caller_did, Fits, Came, HasOrdered, HasOrderedSome, StoppedIn, HasDone, IsFrontOf, DoesSo, LastDoes, HasRead, piece_did, last_did, ControlDid, CallerDid}
+use Rattle.station.specs.Control.{Did, did, both, line_did, lines_did, rereads, control_lines, given_lines, caller_did, Fits, Came, HasOrdered, HasOrderedSome, StoppedIn, HasDone, IsFrontOf, DoesSo, LastDoes, HasRead, piece_did, last_did, ControlDid, CallerDid, caller_use}
 use Rattle.station.specs.InputLines.{is_feed, all_but_last, last_of, ended_lines, open_line, unless_empty, all_lines}
 use Rattle.station.specs.declared.reader.Reader.{Reader}
 use Rattle.station.specs.declared.ends.RunEnd.{RunEnd}
@@ -107,9 +107,9 @@ read_none r s same =
       before_is = ap (λ (x : Reader). x.before) same ∙ sym (ap (λ ls. r.before + length ls) (ap ended_lines line ∙ none_ended r.line.items r.unfed) ∙ omega arith);
     }
 
-pub piece_none : (files : List StoredFile) (jobs : List InForce) (r : Reader) (v w : List Entry) (a b : SinkSeen) → w ≡ v → b ≡ a → HasDone (piece_did files jobs r []) v w (used a b)
+pub piece_none : (files : List StoredFile) (jobs : List InForce) (r : Reader) (v w : List Entry) (a b : SinkSeen) → w ≡ v → b ≡ a → HasDone (piece_did files jobs r []) (used v w) (used a b)
 piece_none files jobs r v w a b same still =
-    subst (λ ls. HasDone (lines_did files jobs (r.before + 1) ls) v w (used a b)) (sym (ap ended_lines (append-nil r.line.items) ∙ none_ended r.line.items r.unfed)) (done_none v w a b same still)
+    subst (λ ls. HasDone (lines_did files jobs (r.before + 1) ls) (used v w) (used a b)) (sym (ap ended_lines (append-nil r.line.items) ∙ none_ended r.line.items r.unfed)) (done_none v w a b same still)
 
 -- the lines that end with further bytes
 pub more_ended : (r s : Reader) (xs ys : List ℕ) → HasRead xs r s → ended_lines (r.line.items ++ (xs ++ ys)) ≡ ended_lines (r.line.items ++ xs) ++ ended_lines (s.line.items ++ ys)
@@ -122,8 +122,8 @@ read_both r s t xs ys one next = record {
   before_is = omega (arith, next.before_is, one.before_is, length-append (ended_lines (r.line.items ++ xs)) (ended_lines (s.line.items ++ ys)), ap (λ (ls : List (List ℕ)). length ls) (more_ended r s xs ys one));
 }
 
-pub piece_both : {A : Type 0} (d : Result A Stop) (files : List StoredFile) (start : List Event) (r s : Reader) (xs ys : List ℕ) (v w u : List Entry) (a b c : SinkSeen) → HasRead xs r s → HasDone (piece_did files (jobs_known start v) r xs) v w (used a b)
-    → DoesSo d (piece_did files (jobs_known start w) s ys) w u (used b c) → DoesSo d (piece_did files (jobs_known start v) r (xs ++ ys)) v u (used a c)
+pub piece_both : {A : Type 0} (d : Result A Stop) (files : List StoredFile) (start : List Event) (r s : Reader) (xs ys : List ℕ) (v w u : List Entry) (a b c : SinkSeen) → HasRead xs r s → HasDone (piece_did files (jobs_known start v) r xs) (used v w) (used a b)
+    → DoesSo d (piece_did files (jobs_known start w) s ys) (used w u) (used b c) → DoesSo d (piece_did files (jobs_known start v) r (xs ++ ys)) (used v u) (used a c)
 piece_both d files start r s xs ys v w u a b c had one next =
     let jobs = jobs_known start v in
     let first = ended_lines (r.line.items ++ xs) in
@@ -131,8 +131,8 @@ piece_both d files start r s xs ys v w u a b c had one next =
     let x = lines_did files jobs (r.before + 1) first in
     let at : s.before + 1 ≡ (r.before + 1) + length first = omega (arith, had.before_is) in
     let y = lines_did files (jobs_after jobs x.orders) ((r.before + 1) + length first) rest in
-    let second : DoesSo d y w u (used b c) = subst (λ (e : Did). DoesSo d e w u (used b c)) (ap₂ (λ js n. lines_did files js n rest) (known_after start x.orders v w one.orders) at) next in
-    subst (λ (e : Did). DoesSo d e v u (used a c)) (sym (ap (lines_did files jobs (r.before + 1)) (more_ended r s xs ys had) ∙ lines_join files jobs (r.before + 1) first rest)) (does_then d x y v w u a b c one second)
+    let second : DoesSo d y (used w u) (used b c) = subst (λ (e : Did). DoesSo d e (used w u) (used b c)) (ap₂ (λ js n. lines_did files js n rest) (known_after start x.orders v w one.orders) at) next in
+    subst (λ (e : Did). DoesSo d e (used v u) (used a c)) (sym (ap (lines_did files jobs (r.before + 1)) (more_ended r s xs ys had) ∙ lines_join files jobs (r.before + 1) first rest)) (does_then d x y v w u a b c one second)
 
 -- a front of the lines, and what was done with the lines of a front of a piece where something stopped it
 pub lines_front : (files : List StoredFile) (jobs : List InForce) (n : ℕ) (xs ys : List (List ℕ)) → IsFrontOf (lines_did files jobs n xs) (lines_did files jobs n (xs ++ ys))
@@ -141,7 +141,7 @@ lines_front files jobs n xs ys =
     subst (λ (d : Did). IsFrontOf x d) (sym (lines_join files jobs n xs ys)) (front_first x (lines_did files (jobs_after jobs x.orders) (n + length xs) ys))
 
 pub piece_longer : {A : Type 0} (d : Result A Stop) (files : List StoredFile) (jobs : List InForce) (r : Reader) (xs ys : List ℕ) (v w : List Entry) (err : Use SinkSeen) → is_err d ≡ true
-    → DoesSo d (piece_did files jobs r xs) v w err → DoesSo d (piece_did files jobs r (xs ++ ys)) v w err
+    → DoesSo d (piece_did files jobs r xs) (used v w) err → DoesSo d (piece_did files jobs r (xs ++ ys)) (used v w) err
 piece_longer (Ok x) files jobs r xs ys v w err fails h = absurd (cc)
 piece_longer (Err s) files jobs r xs ys v w err fails h =
     let first = r.line.items ++ xs in
@@ -155,10 +155,10 @@ other_read r s b not line same =
     let unfed : IsOpen (r.line.items ++ b ∷ []) = All-push (λ x. is_feed x ≡ false) r.line.items b r.unfed not in
     record { line = line ∙ sym (all_open (r.line.items ++ b ∷ []) unfed); before_is = same ∙ sym (ap (λ ls. r.before + length ls) (none_ended (r.line.items ++ b ∷ []) unfed) ∙ omega arith) }
 
-pub other_did : (files : List StoredFile) (jobs : List InForce) (r : Reader) (b : ℕ) (v w : List Entry) (e f : SinkSeen) → is_feed b ≡ false → w ≡ v → f ≡ e → HasDone (piece_did files jobs r (b ∷ [])) v w (used e f)
+pub other_did : (files : List StoredFile) (jobs : List InForce) (r : Reader) (b : ℕ) (v w : List Entry) (e f : SinkSeen) → is_feed b ≡ false → w ≡ v → f ≡ e → HasDone (piece_did files jobs r (b ∷ [])) (used v w) (used e f)
 other_did files jobs r b v w e f not same still =
     let unfed : IsOpen (r.line.items ++ b ∷ []) = All-push (λ x. is_feed x ≡ false) r.line.items b r.unfed not in
-    subst (λ ls. HasDone (lines_did files jobs (r.before + 1) ls) v w (used e f)) (sym (none_ended (r.line.items ++ b ∷ []) unfed)) (done_none v w e f same still)
+    subst (λ ls. HasDone (lines_did files jobs (r.before + 1) ls) (used v w) (used e f)) (sym (none_ended (r.line.items ++ b ∷ []) unfed)) (done_none v w e f same still)
 
 pub feed_read : (r s : Reader) (b : ℕ) → is_feed b ≡ true → s.line.items ≡ [] → s.before ≡ r.before + 1 → HasRead (b ∷ []) r s
 feed_read r s b is line more = record {
@@ -166,33 +166,33 @@ feed_read r s b is line more = record {
   before_is = more ∙ sym (ap (λ ls. r.before + length ls) (feed_ends r.line.items b r.unfed is));
 }
 
-pub feed_did : {A : Type 0} (d : Result A Stop) (files : List StoredFile) (jobs : List InForce) (r : Reader) (b : ℕ) (v w : List Entry) (u : Use SinkSeen) → is_feed b ≡ true → DoesSo d (line_did files jobs (r.before + 1) r.line.items) v w u
-    → DoesSo d (piece_did files jobs r (b ∷ [])) v w u
+pub feed_did : {A : Type 0} (d : Result A Stop) (files : List StoredFile) (jobs : List InForce) (r : Reader) (b : ℕ) (v w : List Entry) (u : Use SinkSeen) → is_feed b ≡ true → DoesSo d (line_did files jobs (r.before + 1) r.line.items) (used v w) u
+    → DoesSo d (piece_did files jobs r (b ∷ [])) (used v w) u
 feed_did d files jobs r b v w u is done =
-    subst (λ (e : Did). DoesSo d e v w u) (sym (ap (lines_did files jobs (r.before + 1)) (feed_ends r.line.items b r.unfed is) ∙ both_none (line_did files jobs (r.before + 1) r.line.items))) done
+    subst (λ (e : Did). DoesSo d e (used v w) u) (sym (ap (lines_did files jobs (r.before + 1)) (feed_ends r.line.items b r.unfed is) ∙ both_none (line_did files jobs (r.before + 1) r.line.items))) done
 
 -- an unfed line at the end
-pub last_none : (files : List StoredFile) (jobs : List InForce) (r : Reader) (v w : List Entry) (a b : SinkSeen) → length r.line.items ≡ 0 → w ≡ v → b ≡ a → HasDone (last_did files jobs r) v w (used a b)
-last_none files jobs r v w a b none same still = subst (λ ls. HasDone (lines_did files jobs (r.before + 1) ls) v w (used a b)) (sym (of r.line.items none)) (done_none v w a b same still)
+pub last_none : (files : List StoredFile) (jobs : List InForce) (r : Reader) (v w : List Entry) (a b : SinkSeen) → length r.line.items ≡ 0 → w ≡ v → b ≡ a → HasDone (last_did files jobs r) (used v w) (used a b)
+last_none files jobs r v w a b none same still = subst (λ ls. HasDone (lines_did files jobs (r.before + 1) ls) (used v w) (used a b)) (sym (of r.line.items none)) (done_none v w a b same still)
   where
     of : (line : List ℕ) → length line ≡ 0 → unless_empty line ≡ []
     of [] h = refl
     of (x ∷ line) h = absurd (omega (arith, h))
 
-pub last_one : {A : Type 0} (d : Result A Stop) (files : List StoredFile) (jobs : List InForce) (r : Reader) (v w : List Entry) (u : Use SinkSeen) → length r.line.items ≢ 0 → DoesSo d (line_did files jobs (r.before + 1) r.line.items) v w u
-    → DoesSo d (last_did files jobs r) v w u
+pub last_one : {A : Type 0} (d : Result A Stop) (files : List StoredFile) (jobs : List InForce) (r : Reader) (v w : List Entry) (u : Use SinkSeen) → length r.line.items ≢ 0 → DoesSo d (line_did files jobs (r.before + 1) r.line.items) (used v w) u
+    → DoesSo d (last_did files jobs r) (used v w) u
 last_one d files jobs r v w u some done =
-    subst (λ (e : Did). DoesSo d e v w u) (sym (ap (lines_did files jobs (r.before + 1)) (of r.line.items some) ∙ both_none (line_did files jobs (r.before + 1) r.line.items))) done
+    subst (λ (e : Did). DoesSo d e (used v w) u) (sym (ap (lines_did files jobs (r.before + 1)) (of r.line.items some) ∙ both_none (line_did files jobs (r.before + 1) r.line.items))) done
   where
     of : (line : List ℕ) → length line ≢ 0 → unless_empty line ≡ line ∷ []
     of [] h = absurd (h refl)
     of (x ∷ line) h = refl
 
 -- how the loop ends with the last line
-pub last_ended : (d : Result (Unit {0}) Stop) (end : RunEnd) (x : Did) (v w : List Entry) (err : Use SinkSeen) → end ≡ last_end d → DoesSo d x v w err → LastDoes end x v w err
-last_ended d end x v w err is h = subst (λ (e : RunEnd). LastDoes e x v w err) (sym is) (of d h)
+pub last_ended : (d : Result (Unit {0}) Stop) (end : RunEnd) (x : Did) (v w : List Entry) (err : Use SinkSeen) → end ≡ last_end d → DoesSo d x (used v w) err → LastDoes end x (used v w) err
+last_ended d end x v w err is h = subst (λ (e : RunEnd). LastDoes e x (used v w) err) (sym is) (of d h)
   where
-    of : (d : Result (Unit {0}) Stop) → DoesSo d x v w err → LastDoes (last_end d) x v w err
+    of : (d : Result (Unit {0}) Stop) → DoesSo d x (used v w) err → LastDoes (last_end d) x (used v w) err
     of (Ok t) h = h
     of (Err s) h = last_stops s x v w err h
 
@@ -215,19 +215,19 @@ fits_later NoMemory a b after x whole given d same h = tt
 module _ (start : List Event) (control : Use SourceSeen) (v w u : List Entry) where
   -- the listed files were read, and then control
   pub caller_end : (end : RunEnd) (a b after : ShelfSeen) (d e f : SinkSeen) → b.files ≡ a.files → b.faults ≡ a.faults → e ≡ d
-      → IfSome a.files (λ files. HasOrdered (rereads files (jobs_known start v)) v w) → ControlDid start end (used b after) control w u (used e f) → CallerDid start end (used a after) control v u (used d f)
+      → IfSome a.files (λ files. HasOrdered (rereads files (jobs_known start v)) v w) → ControlDid start end (caller_use (used b after) control (used e f)) (used w u) → CallerDid start end (caller_use (used a after) control (used d f)) (used v u)
   caller_end end a b after d e f same faults still read done more = of a.files b.files same read (done more)
     where
       one : (files : List StoredFile) (bytes : List ℕ) → HasOrdered (rereads files (jobs_known start v)) v w
-          → Came end (used b after) (lines_did files (jobs_known start w) 1 (control_lines bytes)) (lines_did files (jobs_known start w) 1 (given_lines control bytes)) w u (used e f)
-          → Came end (used a after) (caller_did files (jobs_known start v) (control_lines bytes)) (caller_did files (jobs_known start v) (given_lines control bytes)) v u (used d f)
+          → Came end (caller_use (used b after) control (used e f)) (lines_did files (jobs_known start w) 1 (control_lines bytes)) (lines_did files (jobs_known start w) 1 (given_lines control bytes)) (used w u)
+          → Came end (caller_use (used a after) control (used d f)) (caller_did files (jobs_known start v) (control_lines bytes)) (caller_did files (jobs_known start v) (given_lines control bytes)) (used v u)
       one files bytes read was =
           let os = rereads files (jobs_known start v) in
           let jobs = jobs_after (jobs_known start v) os in
           let whole = lines_did files jobs 1 (control_lines bytes) in
           let given = lines_did files jobs 1 (given_lines control bytes) in
-          let came : Came end (used b after) whole given w u (used e f) =
-          subst (λ js. Came end (used b after) (lines_did files js 1 (control_lines bytes)) (lines_did files js 1 (given_lines control bytes)) w u (used e f)) (known_after start os v w read) was in
+          let came : Came end (caller_use (used b after) control (used e f)) whole given (used w u) =
+          subst (λ js. Came end (caller_use (used b after) control (used e f)) (lines_did files js 1 (control_lines bytes)) (lines_did files js 1 (given_lines control bytes)) (used w u)) (known_after start os v w read) was in
           record {
             what = both (did os []) came.what;
             fits = fits_later end a b after (did os []) whole given came.what faults came.fits;
@@ -235,16 +235,16 @@ module _ (start : List Event) (control : Use SourceSeen) (v w u : List Entry) wh
           }
 
       of : (x y : Option (List StoredFile)) → y ≡ x → IfSome x (λ files. HasOrdered (rereads files (jobs_known start v)) v w)
-          → IfSome y (λ files. IfSome control.before.left (λ bytes. Came end (used b after) (lines_did files (jobs_known start w) 1 (control_lines bytes)) (lines_did files (jobs_known start w) 1 (given_lines control bytes)) w u (used e f)))
-          → IfSome x (λ files. IfSome control.before.left (λ bytes. Came end (used a after) (caller_did files (jobs_known start v) (control_lines bytes)) (caller_did files (jobs_known start v) (given_lines control bytes)) v u (used d f)))
+          → IfSome y (λ files. IfSome control.before.left (λ bytes. Came end (caller_use (used b after) control (used e f)) (lines_did files (jobs_known start w) 1 (control_lines bytes)) (lines_did files (jobs_known start w) 1 (given_lines control bytes)) (used w u)))
+          → IfSome x (λ files. IfSome control.before.left (λ bytes. Came end (caller_use (used a after) control (used d f)) (caller_did files (jobs_known start v) (control_lines bytes)) (caller_did files (jobs_known start v) (given_lines control bytes)) (used v u)))
       of None y is r h = tt
       of (Some files) y is r h =
           if_some control.before.left (λ bytes. one files bytes r)
-          (subst (λ o. IfSome o (λ files. IfSome control.before.left (λ bytes. Came end (used b after) (lines_did files (jobs_known start w) 1 (control_lines bytes)) (lines_did files (jobs_known start w) 1 (given_lines control bytes)) w u (used e f)))) is h)
+          (subst (λ o. IfSome o (λ files. IfSome control.before.left (λ bytes. Came end (caller_use (used b after) control (used e f)) (lines_did files (jobs_known start w) 1 (control_lines bytes)) (lines_did files (jobs_known start w) 1 (given_lines control bytes)) (used w u)))) is h)
 
   -- the reading of the listed files was stopped
   some_listed : (a b : ShelfSeen) (d e : SinkSeen) (files : List StoredFile) (lines : List (List ℕ)) (given : Did) → e ≡ d → Rose a.faults b.faults → HasOrderedSome (rereads files (jobs_known start v)) v w
-      → Came ReadFault (used a b) (caller_did files (jobs_known start v) lines) given v w (used d e)
+      → Came ReadFault (caller_use (used a b) control (used d e)) (caller_did files (jobs_known start v) lines) given (used v w)
   some_listed a b d e files lines given still rose h =
       let rest = lines_did files (jobs_after (jobs_known start v) (rereads files (jobs_known start v))) 1 lines in
       record {
@@ -254,10 +254,10 @@ module _ (start : List Event) (control : Use SourceSeen) (v w u : List Entry) wh
       }
 
   pub stopped_did : (s : Stop) (end : RunEnd) (a b : ShelfSeen) (d e : SinkSeen) → end ≡ end_of s → e ≡ d → FileStop s (used a b) → IfSome a.files (λ files. StoppedIn s (rereads files (jobs_known start v)) v w)
-      → CallerDid start end (used a b) control v w (used d e)
-  stopped_did s end a b d e is still stops h = subst (λ (x : RunEnd). CallerDid start x (used a b) control v w (used d e)) (sym is) (of s stops h)
+      → CallerDid start end (caller_use (used a b) control (used d e)) (used v w)
+  stopped_did s end a b d e is still stops h = subst (λ (x : RunEnd). CallerDid start x (caller_use (used a b) control (used d e)) (used v w)) (sym is) (of s stops h)
     where
-      of : (s : Stop) → FileStop s (used a b) → IfSome a.files (λ files. StoppedIn s (rereads files (jobs_known start v)) v w) → CallerDid start (end_of s) (used a b) control v w (used d e)
+      of : (s : Stop) → FileStop s (used a b) → IfSome a.files (λ files. StoppedIn s (rereads files (jobs_known start v)) v w) → CallerDid start (end_of s) (caller_use (used a b) control (used d e)) (used v w)
       of stop.ReadFault rose h more =
           if_some a.files (λ files had. if_every control.before.left (λ bytes. some_listed a b d e files (control_lines bytes) (caller_did files (jobs_known start v) (given_lines control bytes)) still rose had)) h
       of stop.WriteFault rose h more = absurd rose
@@ -275,8 +275,8 @@ at_more eaten bytes r s at read = record {
 }
 
 -- after further lines, however far these came
-lines_more : (Q R : Did → Type 0) (files : List StoredFile) (start : List Event) (n m : ℕ) (xs ys : List (List ℕ)) (v w : List Entry) (err : Use SinkSeen) → m ≡ n + length xs → HasDone (lines_did files (jobs_known start v) n xs) v w err
-    → Q (lines_did files (jobs_known start w) m ys) → ((x y : Did) → HasDone x v w err → Q y → R (both x y)) → R (lines_did files (jobs_known start v) n (xs ++ ys))
+lines_more : (Q R : Did → Type 0) (files : List StoredFile) (start : List Event) (n m : ℕ) (xs ys : List (List ℕ)) (v w : List Entry) (err : Use SinkSeen) → m ≡ n + length xs → HasDone (lines_did files (jobs_known start v) n xs) (used v w) err
+    → Q (lines_did files (jobs_known start w) m ys) → ((x y : Did) → HasDone x (used v w) err → Q y → R (both x y)) → R (lines_did files (jobs_known start v) n (xs ++ ys))
 lines_more Q R files start n m xs ys v w err at one next join =
     let jobs = jobs_known start v in
     let x = lines_did files jobs n xs in
@@ -284,27 +284,27 @@ lines_more Q R files start n m xs ys v w err at one next join =
     let second : Q y = subst Q (ap₂ (λ js k. lines_did files js k ys) (known_after start x.orders v w one.orders) at) next in
     subst R (sym (lines_join files jobs n xs ys)) (join x y one second)
 
-pub eaten_more : {A : Type 0} (d : Result A Stop) (files : List StoredFile) (start : List Event) (eaten bytes : List ℕ) (r : Reader) (v w u : List Entry) (a b c : SinkSeen) → IsAt eaten r → HasDone (lines_did files (jobs_known start v) 1 (ended_lines eaten)) v w (used a b)
-    → DoesSo d (piece_did files (jobs_known start w) r bytes) w u (used b c) → DoesSo d (lines_did files (jobs_known start v) 1 (ended_lines (eaten ++ bytes))) v u (used a c)
+pub eaten_more : {A : Type 0} (d : Result A Stop) (files : List StoredFile) (start : List Event) (eaten bytes : List ℕ) (r : Reader) (v w u : List Entry) (a b c : SinkSeen) → IsAt eaten r → HasDone (lines_did files (jobs_known start v) 1 (ended_lines eaten)) (used v w) (used a b)
+    → DoesSo d (piece_did files (jobs_known start w) r bytes) (used w u) (used b c) → DoesSo d (lines_did files (jobs_known start v) 1 (ended_lines (eaten ++ bytes))) (used v u) (used a c)
 eaten_more d files start eaten bytes r v w u a b c at one next =
-    subst (λ ls. DoesSo d (lines_did files (jobs_known start v) 1 ls) v u (used a c)) (sym (ended_join eaten bytes))
-    (lines_more (λ (e : Did). DoesSo d e w u (used b c)) (λ (e : Did). DoesSo d e v u (used a c)) files start 1 (r.before + 1) (ended_lines eaten) (ended_lines (open_line eaten ++ bytes)) v w (used a b) (omega (arith, at.before_is)) one
-    (subst (λ l. DoesSo d (lines_did files (jobs_known start w) (r.before + 1) (ended_lines (l ++ bytes))) w u (used b c)) at.line next)
+    subst (λ ls. DoesSo d (lines_did files (jobs_known start v) 1 ls) (used v u) (used a c)) (sym (ended_join eaten bytes))
+    (lines_more (λ (e : Did). DoesSo d e (used w u) (used b c)) (λ (e : Did). DoesSo d e (used v u) (used a c)) files start 1 (r.before + 1) (ended_lines eaten) (ended_lines (open_line eaten ++ bytes)) v w (used a b) (omega (arith, at.before_is)) one
+    (subst (λ l. DoesSo d (lines_did files (jobs_known start w) (r.before + 1) (ended_lines (l ++ bytes))) (used w u) (used b c)) at.line next)
     (λ x y h k. does_then d x y v w u a b c h k))
 
-last_then : (end : RunEnd) (x y : Did) (v w u : List Entry) (a b c : SinkSeen) → HasDone x v w (used a b) → LastDoes end y w u (used b c) → LastDoes end (both x y) v u (used a c)
+last_then : (end : RunEnd) (x y : Did) (v w u : List Entry) (a b c : SinkSeen) → HasDone x (used v w) (used a b) → LastDoes end y (used w u) (used b c) → LastDoes end (both x y) (used v u) (used a c)
 last_then Done x y v w u a b c one next = done_both x y v w u a b c one next
 last_then ReadFault x y v w u a b c one next = begun_then x y v w u a b c one next
 last_then WriteFault x y v w u a b c one next = begun_then x y v w u a b c one next
 last_then TooLong x y v w u a b c one next = begun_then x y v w u a b c one next
 last_then NoMemory x y v w u a b c one next = tt
 
-pub eaten_all : (end : RunEnd) (files : List StoredFile) (start : List Event) (eaten : List ℕ) (r : Reader) (v w u : List Entry) (a b c : SinkSeen) → IsAt eaten r → HasDone (lines_did files (jobs_known start v) 1 (ended_lines eaten)) v w (used a b)
-    → LastDoes end (last_did files (jobs_known start w) r) w u (used b c) → LastDoes end (lines_did files (jobs_known start v) 1 (all_lines eaten)) v u (used a c)
+pub eaten_all : (end : RunEnd) (files : List StoredFile) (start : List Event) (eaten : List ℕ) (r : Reader) (v w u : List Entry) (a b c : SinkSeen) → IsAt eaten r → HasDone (lines_did files (jobs_known start v) 1 (ended_lines eaten)) (used v w) (used a b)
+    → LastDoes end (last_did files (jobs_known start w) r) (used w u) (used b c) → LastDoes end (lines_did files (jobs_known start v) 1 (all_lines eaten)) (used v u) (used a c)
 eaten_all end files start eaten r v w u a b c at one next =
-    lines_more (λ (e : Did). LastDoes end e w u (used b c)) (λ (e : Did). LastDoes end e v u (used a c)) files start 1 (r.before + 1) (ended_lines eaten) (unless_empty (open_line eaten)) v w (used a b) (omega (arith, at.before_is)) one
-    (subst (λ l. LastDoes end (lines_did files (jobs_known start w) (r.before + 1) (unless_empty l)) w u (used b c)) at.line next)
+    lines_more (λ (e : Did). LastDoes end e (used w u) (used b c)) (λ (e : Did). LastDoes end e (used v u) (used a c)) files start 1 (r.before + 1) (ended_lines eaten) (unless_empty (open_line eaten)) v w (used a b) (omega (arith, at.before_is)) one
+    (subst (λ l. LastDoes end (lines_did files (jobs_known start w) (r.before + 1) (unless_empty l)) (used w u) (used b c)) at.line next)
     (λ x y h k. last_then end x y v w u a b c h k)
 
-pub eaten_none : (files : List StoredFile) (start : List Event) (v w : List Entry) (a b : SinkSeen) → w ≡ v → b ≡ a → HasDone (lines_did files (jobs_known start v) 1 (ended_lines [])) v w (used a b)
+pub eaten_none : (files : List StoredFile) (start : List Event) (v w : List Entry) (a b : SinkSeen) → w ≡ v → b ≡ a → HasDone (lines_did files (jobs_known start v) 1 (ended_lines [])) (used v w) (used a b)
 eaten_none files start v w a b same still = done_none v w a b same still

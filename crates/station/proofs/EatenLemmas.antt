@@ -10,7 +10,7 @@ use Rattle.outside.specs.Sources.{SourceSeen, Gives, IsAtEnd}
 use Rattle.outside.specs.declared.objects.StoredFile.{StoredFile}
 use Rattle.run_lock.specs.Callers.{jobs_known}
 use Rattle.run_lock.specs.declared.marks.Entry.{Entry}
-use Rattle.station.specs.Control.{Did, lines_did, control_lines, given_lines, last_did, piece_did, most_control_bytes, HasDone, HasBegun, HasRead, IsFrontOf, DoesSo, LastDoes, Came, ControlDid}
+use Rattle.station.specs.Control.{Did, lines_did, control_lines, given_lines, last_did, piece_did, most_control_bytes, HasDone, HasBegun, HasRead, IsFrontOf, DoesSo, LastDoes, Came, ControlDid, caller_use}
 use Rattle.station.specs.Ends.{LastEnds, LineStops, end_after}
 use Rattle.station.specs.InputLines.{all_lines, ended_lines, open_line, unless_empty}
 use Rattle.station.specs.declared.ends.RunEnd.{RunEnd}
@@ -28,7 +28,7 @@ pub record HasEaten (files : Option (List StoredFile)) (start : List Event) (giv
   pub count : length eaten ≡ given
   pub at : IsAt eaten r
   pub gives : Gives eaten left now
-  pub done : IfSome files (λ (fs : List StoredFile). HasDone (lines_did fs (jobs_known start v) 1 (ended_lines eaten)) v w err)
+  pub done : IfSome files (λ (fs : List StoredFile). HasDone (lines_did fs (jobs_known start v) 1 (ended_lines eaten)) (used v w) err)
 
 some_is : {A : Type 0} (a b : A) → Some a ≡ Some b → a ≡ b
 some_is a b h = cc
@@ -57,7 +57,7 @@ eaten_first files start left v e r line none = record {
 
 -- a further piece
 pub eaten_next : (files : Option (List StoredFile)) (start : List Event) (n m : ℕ) (r s : Reader) (left mid now : Option (List ℕ)) (v w u : List Entry) (a b c : SinkSeen) (bytes : List ℕ) → HasEaten files start n r left mid v w (used a b) → Gives bytes mid now
-    → HasRead bytes r s → m ≡ n + length bytes → IfSome files (λ (fs : List StoredFile). HasDone (piece_did fs (jobs_known start w) r bytes) w u (used b c)) → HasEaten files start m s left now v u (used a c)
+    → HasRead bytes r s → m ≡ n + length bytes → IfSome files (λ (fs : List StoredFile). HasDone (piece_did fs (jobs_known start w) r bytes) (used w u) (used b c)) → HasEaten files start m s left now v u (used a c)
 eaten_next files start n m r s left mid now v w u a b c bytes was gives read count done = record {
   eaten = was.eaten ++ bytes;
   count = length-append was.eaten bytes ∙ omega (arith, was.count, count);
@@ -105,12 +105,12 @@ front_of_all files start v xs ys bytes le is =
 
 -- control failed to give: what was done is what the lines come to that it gave
 pub eaten_failed : (start : List Event) (n : ℕ) (r : Reader) (mid : Option (List ℕ)) (v w : List Entry) (err : Use SinkSeen) (s : Use ShelfSeen) (c : Use SourceSeen) → HasEaten s.before.files start n r c.before.left mid v w err
-    → c.after.given ≡ c.before.given + n → n ≤ most_control_bytes → ControlDid start ReadFault s c v w err
+    → c.after.given ≡ c.before.given + n → n ≤ most_control_bytes → ControlDid start ReadFault (caller_use s c err) (used v w)
 eaten_failed start n r mid v w err s c was gave le more =
     if_map s.before.files (λ files one. if_map c.before.left (λ bytes is. came files bytes is one) (gives_front was.eaten c.before.left mid was.gives)) was.done
   where
-    came : (files : List StoredFile) (bytes : List ℕ) → (rest : List ℕ) × (bytes ≡ was.eaten ++ rest) → HasDone (doing files start v (ended_lines was.eaten)) v w err
-        → Came ReadFault s (doing files start v (control_lines bytes)) (doing files start v (given_lines c bytes)) v w err
+    came : (files : List StoredFile) (bytes : List ℕ) → (rest : List ℕ) × (bytes ≡ was.eaten ++ rest) → HasDone (doing files start v (ended_lines was.eaten)) (used v w) err
+        → Came ReadFault (caller_use s c err) (doing files start v (control_lines bytes)) (doing files start v (given_lines c bytes)) (used v w)
     came files bytes is one =
         let many : c.after.given - c.before.given ≡ length was.eaten = omega (arith, gave, was.count) in
         let given : given_lines c bytes ≡ ended_lines was.eaten = ap ended_lines (ap₂ (λ k zs. take k zs) many is.1 ∙ take-append_seam was.eaten is.0) in
@@ -134,12 +134,12 @@ lines_of_few bytes le =
     let no : nat_lt most_control_bytes (length bytes) ≡ false = grind (arith, nat_tests) in
     ap (λ (b : Bool). if b then ended_lines (take most_control_bytes bytes) else all_lines bytes) no
 
-last_came : (end : RunEnd) (s : Use ShelfSeen) (whole given : Did) (v u : List Entry) (err : Use SinkSeen) → end ≢ NoMemory → (end ≡ ReadFault → Rose s.before.faults s.after.faults) → end ≢ TooLong → LastDoes end whole v u err → Came end s whole given v u err
-last_came Done s whole given v u err more rose short h = record { what = whole; fits = refl; done = h }
-last_came ReadFault s whole given v u err more rose short h = record { what = h.part; fits = (h.front, λ calm. absurd (calm (rose refl))); done = h.done }
-last_came WriteFault s whole given v u err more rose short h = record { what = h.part; fits = h.front; done = h.done }
-last_came TooLong s whole given v u err more rose short h = absurd (short refl)
-last_came NoMemory s whole given v u err more rose short h = absurd (more refl)
+last_came : (end : RunEnd) (s : Use ShelfSeen) (c : Use SourceSeen) (whole given : Did) (v u : List Entry) (err : Use SinkSeen) → end ≢ NoMemory → (end ≡ ReadFault → Rose s.before.faults s.after.faults) → end ≢ TooLong → LastDoes end whole (used v u) err → Came end (caller_use s c err) whole given (used v u)
+last_came Done s c whole given v u err more rose short h = record { what = whole; fits = refl; done = h }
+last_came ReadFault s c whole given v u err more rose short h = record { what = h.part; fits = (h.front, λ calm. absurd (calm (rose refl))); done = h.done }
+last_came WriteFault s c whole given v u err more rose short h = record { what = h.part; fits = h.front; done = h.done }
+last_came TooLong s c whole given v u err more rose short h = absurd (short refl)
+last_came NoMemory s c whole given v u err more rose short h = absurd (more refl)
 
 last_rose : (end : RunEnd) (t : Use ShelfSeen) (e : Use SinkSeen) → LastEnds end t e → end ≡ ReadFault → Rose t.before.faults t.after.faults
 last_rose Done t e ends is = absurd (cc)
@@ -156,20 +156,20 @@ last_short TooLong t e ends = λ is. ends
 last_short NoMemory t e ends = λ is. absurd (cc)
 
 pub eaten_done : (end : RunEnd) (start : List Event) (n : ℕ) (r : Reader) (mid : Option (List ℕ)) (v w u : List Entry) (a b d : SinkSeen) (s t : Use ShelfSeen) (e : Use SinkSeen) (c : Use SourceSeen) → HasEaten s.before.files start n r c.before.left mid v w (used a b)
-    → n ≤ most_control_bytes → IsAtEnd mid → t.before.faults ≡ s.before.faults → t.after ≡ s.after → LastEnds end t e → IfSome s.before.files (λ (fs : List StoredFile). LastDoes end (last_did fs (jobs_known start w) r) w u (used b d))
-    → ControlDid start end s c v u (used a d)
+    → n ≤ most_control_bytes → IsAtEnd mid → t.before.faults ≡ s.before.faults → t.after ≡ s.after → LastEnds end t e → IfSome s.before.files (λ (fs : List StoredFile). LastDoes end (last_did fs (jobs_known start w) r) (used w u) (used b d))
+    → ControlDid start end (caller_use s c (used a d)) (used v u)
 eaten_done end start n r mid v w u a b d s t e c was le ended same still ends last more =
     if_both s.before.files
     (λ files one next. if_map c.before.left (λ bytes is. of files bytes is (eaten_all end files start was.eaten r v w u a b d was.at one next)) (all_eaten was.eaten c.before.left mid was.gives ended))
     was.done last
   where
-    of : (files : List StoredFile) (bytes : List ℕ) → bytes ≡ was.eaten → LastDoes end (doing files start v (all_lines was.eaten)) v u (used a d) → Came end s (doing files start v (control_lines bytes)) (doing files start v (given_lines c bytes)) v u (used a d)
+    of : (files : List StoredFile) (bytes : List ℕ) → bytes ≡ was.eaten → LastDoes end (doing files start v (all_lines was.eaten)) (used v u) (used a d) → Came end (caller_use s c (used a d)) (doing files start v (control_lines bytes)) (doing files start v (given_lines c bytes)) (used v u)
     of files bytes is h =
         let all : control_lines bytes ≡ all_lines was.eaten = ap control_lines is ∙ lines_of_few was.eaten (omega (arith, was.count, le)) in
-        last_came end s (doing files start v (control_lines bytes)) (doing files start v (given_lines c bytes)) v u (used a d) more
+        last_came end s c (doing files start v (control_lines bytes)) (doing files start v (given_lines c bytes)) v u (used a d) more
         (λ fault. rose_after s.before.faults t.before.faults s.after.faults same (subst (λ (x : ShelfSeen). Rose t.before.faults x.faults) still (last_rose end t e ends fault)))
         (last_short end t e ends)
-        (subst (λ ls. LastDoes end (doing files start v ls) v u (used a d)) (sym all) h)
+        (subst (λ ls. LastDoes end (doing files start v ls) (used v u) (used a d)) (sym all) h)
 
 -- a piece of the last read was kept, and a line of it was stopped, or the input gave more than may be
 lines_of_many : (xs ys bytes : List ℕ) → length xs ≡ most_control_bytes → 0 < length ys → bytes ≡ xs ++ ys → control_lines bytes ≡ ended_lines xs
@@ -181,7 +181,7 @@ lines_of_many xs ys bytes many some is =
 module _ (start : List Event) (n : ℕ) (r : Reader) (mid now : Option (List ℕ)) (v w u : List Entry) (a b d : SinkSeen) (s t : Use ShelfSeen) (e : Use SinkSeen) (c : Use SourceSeen) (bytes more : List ℕ) where
   pub eaten_piece : (done : Result (Unit {0}) Stop) (long : Bool) (end : RunEnd) → HasEaten s.before.files start n r c.before.left mid v w (used a b) → Gives (bytes ++ more) mid now → n + length bytes ≤ most_control_bytes
       → (long ≡ true → (n + length bytes ≡ most_control_bytes) × (0 < length more)) → t.before.faults ≡ s.before.faults → t.after ≡ s.after → LineStops done t e → end_after done long ≡ Some end
-      → IfSome s.before.files (λ (fs : List StoredFile). DoesSo done (piece_did fs (jobs_known start w) r bytes) w u (used b d)) → ControlDid start end s c v u (used a d)
+      → IfSome s.before.files (λ (fs : List StoredFile). DoesSo done (piece_did fs (jobs_known start w) r bytes) (used w u) (used b d)) → ControlDid start end (caller_use s c (used a d)) (used v u)
   eaten_piece done long end was gives le full same still stops is did more' =
       if_both s.before.files
       (λ files one next. if_map c.before.left (λ had split. at files had split done long full is stops (eaten_more done files start was.eaten bytes r v w u a b d was.at one next))
@@ -197,26 +197,26 @@ module _ (start : List Event) (n : ℕ) (r : Reader) (mid now : Option (List ℕ
       rose : Rose t.before.faults t.after.faults → Rose s.before.faults s.after.faults
       rose h = rose_after s.before.faults t.before.faults s.after.faults same (subst (λ (x : ShelfSeen). Rose t.before.faults x.faults) still h)
 
-      ends : (x : RunEnd) (files : List StoredFile) (had : List ℕ) → x ≡ end → Came x s (doing files start v (control_lines had)) (doing files start v (given_lines c had)) v u (used a d)
-          → Came end s (doing files start v (control_lines had)) (doing files start v (given_lines c had)) v u (used a d)
-      ends x files had is h = subst (λ (y : RunEnd). Came y s (doing files start v (control_lines had)) (doing files start v (given_lines c had)) v u (used a d)) is h
+      ends : (x : RunEnd) (files : List StoredFile) (had : List ℕ) → x ≡ end → Came x (caller_use s c (used a d)) (doing files start v (control_lines had)) (doing files start v (given_lines c had)) (used v u)
+          → Came end (caller_use s c (used a d)) (doing files start v (control_lines had)) (doing files start v (given_lines c had)) (used v u)
+      ends x files had is h = subst (λ (y : RunEnd). Came y (caller_use s c (used a d)) (doing files start v (control_lines had)) (doing files start v (given_lines c had)) (used v u)) is h
 
-      part : (files : List StoredFile) (had rest : List ℕ) → had ≡ xs ++ rest → HasBegun (doing files start v (ended_lines xs)) v u (used a d) → HasBegun (doing files start v (control_lines had)) v u (used a d)
+      part : (files : List StoredFile) (had rest : List ℕ) → had ≡ xs ++ rest → HasBegun (doing files start v (ended_lines xs)) (used v u) (used a d) → HasBegun (doing files start v (control_lines had)) (used v u) (used a d)
       part files had rest whole h = begun_longer (doing files start v (ended_lines xs)) (doing files start v (control_lines had)) v u (used a d) (front_of_all files start v xs rest had few whole) h
 
       split_at : (had : List ℕ) → (rest : List ℕ) × (had ≡ (was.eaten ++ (bytes ++ more)) ++ rest) → (rest : List ℕ) × (had ≡ xs ++ (more ++ rest))
       split_at had h = (h.0, h.1 ∙ (ap (λ zs. zs ++ h.0) (sym (append_assoc was.eaten bytes more)) ∙ append_assoc xs more h.0))
 
       at : (files : List StoredFile) (had : List ℕ) → (rest : List ℕ) × (had ≡ (was.eaten ++ (bytes ++ more)) ++ rest) → (done : Result (Unit {0}) Stop) (long : Bool) → (long ≡ true → (n + length bytes ≡ most_control_bytes) × (0 < length more))
-          → end_after done long ≡ Some end → LineStops done t e → DoesSo done (doing files start v (ended_lines xs)) v u (used a d)
-          → Came end s (doing files start v (control_lines had)) (doing files start v (given_lines c had)) v u (used a d)
+          → end_after done long ≡ Some end → LineStops done t e → DoesSo done (doing files start v (ended_lines xs)) (used v u) (used a d)
+          → Came end (caller_use s c (used a d)) (doing files start v (control_lines had)) (doing files start v (given_lines c had)) (used v u)
       at files had split (Ok x) true full is stops h =
           let all = doing files start v (control_lines had) in
           let p = split_at had split in
           let f = full refl in
           let lines = lines_of_many xs (more ++ p.0) had (omega (arith, length-append was.eaten bytes, was.count, f.0)) (omega (arith, f.1, length-append more p.0)) p.1 in
           ends TooLong files had (some_is TooLong end is)
-          (record { what = all; fits = (front_self all, λ calm. refl); done = subst (λ ls. HasDone (doing files start v ls) v u (used a d)) (sym lines) h })
+          (record { what = all; fits = (front_self all, λ calm. refl); done = subst (λ ls. HasDone (doing files start v ls) (used v u) (used a d)) (sym lines) h })
       at files had split (Ok x) false full is stops h = absurd (cc)
       at files had split (Err stop.ReadFault) true full is stops h =
           let p = part files had (more ++ (split_at had split).0) (split_at had split).1 h in

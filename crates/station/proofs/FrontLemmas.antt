@@ -82,10 +82,10 @@ adds_nothing a b same = of a.bytes refl
     of None is = tt
     of (Some had) is = ap (λ (s : SinkSeen). s.bytes) same ∙ (is ∙ ap Some (sym (append-nil had)))
 
-pub done_none : (v w : List Entry) (a b : SinkSeen) → w ≡ v → b ≡ a → HasDone (did [] []) v w (used a b)
+pub done_none : (v w : List Entry) (a b : SinkSeen) → w ≡ v → b ≡ a → HasDone (did [] []) (used v w) (used a b)
 done_none v w a b same still = record { orders = ordered_none v w same; said = adds_nothing a b still }
 
-pub done_both : (x y : Did) (v w u : List Entry) (a b c : SinkSeen) → HasDone x v w (used a b) → HasDone y w u (used b c) → HasDone (both x y) v u (used a c)
+pub done_both : (x y : Did) (v w u : List Entry) (a b c : SinkSeen) → HasDone x (used v w) (used a b) → HasDone y (used w u) (used b c) → HasDone (both x y) (used v u) (used a c)
 done_both x y v w u a b c one next = record {
   orders = ordered_then x.orders y.orders v w u one.orders next.orders;
   said = adds_then x.said y.said a b c one.said next.said;
@@ -118,26 +118,26 @@ front_then x y z one next = record {
 pub front_first : (x y : Did) → IsFrontOf x (both x y)
 front_first x y = record { rest = y; orders = refl; said = refl }
 
-pub begun_then : (x y : Did) (v w u : List Entry) (a b c : SinkSeen) → HasDone x v w (used a b) → HasBegun y w u (used b c) → HasBegun (both x y) v u (used a c)
+pub begun_then : (x y : Did) (v w u : List Entry) (a b c : SinkSeen) → HasDone x (used v w) (used a b) → HasBegun y (used w u) (used b c) → HasBegun (both x y) (used v u) (used a c)
 begun_then x y v w u a b c one h = record { part = both x h.part; front = front_both x h.part y h.front; done = done_both x h.part v w u a b c one h.done }
 
-pub begun_longer : (d e : Did) (v w : List Entry) (err : Use SinkSeen) → IsFrontOf d e → HasBegun d v w err → HasBegun e v w err
+pub begun_longer : (d e : Did) (v w : List Entry) (err : Use SinkSeen) → IsFrontOf d e → HasBegun d (used v w) err → HasBegun e (used v w) err
 begun_longer d e v w err front h = record { part = h.part; front = front_then h.part d e h.front front; done = h.done }
 
 -- the same where something stopped it
-pub does_then : {A : Type 0} (r : Result A Stop) (x y : Did) (v w u : List Entry) (a b c : SinkSeen) → HasDone x v w (used a b) → DoesSo r y w u (used b c) → DoesSo r (both x y) v u (used a c)
+pub does_then : {A : Type 0} (r : Result A Stop) (x y : Did) (v w u : List Entry) (a b c : SinkSeen) → HasDone x (used v w) (used a b) → DoesSo r y (used w u) (used b c) → DoesSo r (both x y) (used v u) (used a c)
 does_then (Ok t) x y v w u a b c one next = done_both x y v w u a b c one next
 does_then (Err stop.ReadFault) x y v w u a b c one next = begun_then x y v w u a b c one next
 does_then (Err stop.WriteFault) x y v w u a b c one next = begun_then x y v w u a b c one next
 does_then (Err stop.NoMemory) x y v w u a b c one next = tt
 
-pub stop_longer : (s : Stop) (d e : Did) (v w : List Entry) (err : Use SinkSeen) → IsFrontOf d e → StoppedDoing s d v w err → StoppedDoing s e v w err
+pub stop_longer : (s : Stop) (d e : Did) (v w : List Entry) (err : Use SinkSeen) → IsFrontOf d e → StoppedDoing s d (used v w) err → StoppedDoing s e (used v w) err
 stop_longer stop.ReadFault d e v w err front h = begun_longer d e v w err front h
 stop_longer stop.WriteFault d e v w err front h = begun_longer d e v w err front h
 stop_longer stop.NoMemory d e v w err front h = tt
 
 -- a loop that ends with a stop, at its last line
-pub last_stops : (s : Stop) (d : Did) (v w : List Entry) (err : Use SinkSeen) → StoppedDoing s d v w err → LastDoes (end_of s) d v w err
+pub last_stops : (s : Stop) (d : Did) (v w : List Entry) (err : Use SinkSeen) → StoppedDoing s d (used v w) err → LastDoes (end_of s) d (used v w) err
 last_stops stop.ReadFault d v w err h = h
 last_stops stop.WriteFault d v w err h = h
 last_stops stop.NoMemory d v w err h = tt

@@ -77,7 +77,7 @@ pub orders_ok : {A : Type 0} {os : List ControlOrder} {v w : List Entry} (r : Re
 orders_ok (Ok x) is h = h
 orders_ok (Err e) is h = absurd (cc)
 
-pub does_ok : {A : Type 0} {d : Did} {v w : List Entry} {err : Use SinkSeen} (r : Result A Stop) → is_err r ≡ false → DoesSo r d v w err → HasDone d v w err
+pub does_ok : {A : Type 0} {d : Did} {own : Use (List Entry)} {err : Use SinkSeen} (r : Result A Stop) → is_err r ≡ false → DoesSo r d own err → HasDone d own err
 does_ok (Ok x) is h = h
 does_ok (Err e) is h = absurd (cc)
 
@@ -167,11 +167,11 @@ pub all_reread : {A : Type 0} (d : Result A Stop) (o : Option (List StoredFile))
 all_reread d o jobs v w ls ms is turned h = if_map o (λ files has. subst (λ xs. Orders d (updates_in files xs) v w) (ap reverse turned ∙ (reverse-reverse ls ∙ is)) has) h
 
 -- a line, and what is said of it
-pub line_quiet : (files : List StoredFile) (jobs : List InForce) (n : ℕ) (line : List ℕ) (v w : List Entry) (a b : SinkSeen) → b ≡ a → Does (Ok None) (line_does files jobs line) v w → HasDone (line_did files jobs n line) v w (used a b)
+pub line_quiet : (files : List StoredFile) (jobs : List InForce) (n : ℕ) (line : List ℕ) (v w : List Entry) (a b : SinkSeen) → b ≡ a → Does (Ok None) (line_does files jobs line) v w → HasDone (line_did files jobs n line) (used v w) (used a b)
 line_quiet files jobs n line v w a b still h = record { orders = h.0; said = subst (λ o. Adds (said_of n o) (used a b)) h.1 (adds_nothing a b still) }
 
 pub line_said : (d : Result (Unit {0}) Stop) (files : List StoredFile) (jobs : List InForce) (n : ℕ) (line : List ℕ) (r : Refusal) (v w : List Entry) (a b : SinkSeen) → Does (Ok (Some r)) (line_does files jobs line) v w → SaidStops d (used a b) → Says d (message n r) (used a b)
-    → DoesSo d (line_did files jobs n line) v w (used a b)
+    → DoesSo d (line_did files jobs n line) (used v w) (used a b)
 line_said (Ok x) files jobs n line r v w a b h stops said = record { orders = h.0; said = subst (λ o. Adds (said_of n o) (used a b)) h.1 said }
 line_said (Err stop.ReadFault) files jobs n line r v w a b h stops said = absurd stops
 line_said (Err stop.WriteFault) files jobs n line r v w a b h stops said =
@@ -183,14 +183,14 @@ line_said (Err stop.WriteFault) files jobs n line r v w a b h stops said =
     }
 line_said (Err stop.NoMemory) files jobs n line r v w a b h stops said = tt
 
-some_line : (files : List StoredFile) (jobs : List InForce) (n : ℕ) (line : List ℕ) (v w : List Entry) (a b : SinkSeen) → b ≡ a → HasOrderedSome (line_does files jobs line).orders v w → HasBegun (line_did files jobs n line) v w (used a b)
+some_line : (files : List StoredFile) (jobs : List InForce) (n : ℕ) (line : List ℕ) (v w : List Entry) (a b : SinkSeen) → b ≡ a → HasOrderedSome (line_does files jobs line).orders v w → HasBegun (line_did files jobs n line) (used v w) (used a b)
 some_line files jobs n line v w a b still h = record {
   part = did h.front [];
   front = record { rest = did h.more (said_of n (line_does files jobs line).why); orders = h.whole; said = refl };
   done = record { orders = h.has; said = adds_nothing a b still };
 }
 
-pub line_stopped : (s : Stop) (files : List StoredFile) (jobs : List InForce) (n : ℕ) (line : List ℕ) (v w : List Entry) (a b : SinkSeen) → b ≡ a → StoppedIn s (line_does files jobs line).orders v w → StoppedDoing s (line_did files jobs n line) v w (used a b)
+pub line_stopped : (s : Stop) (files : List StoredFile) (jobs : List InForce) (n : ℕ) (line : List ℕ) (v w : List Entry) (a b : SinkSeen) → b ≡ a → StoppedIn s (line_does files jobs line).orders v w → StoppedDoing s (line_did files jobs n line) (used v w) (used a b)
 line_stopped stop.ReadFault files jobs n line v w a b still h = some_line files jobs n line v w a b still h
 line_stopped stop.WriteFault files jobs n line v w a b still h = some_line files jobs n line v w a b still h
 line_stopped stop.NoMemory files jobs n line v w a b still h = tt

@@ -17,7 +17,7 @@ use Rattle.run_lock.specs.Callers.{jobs_after, jobs_known, ordered, orders_in}
 use Rattle.run_lock.specs.Entries.{entry, entries_from, entries_of, events_in, own_by, seats_in, begun_with, Adds}
 use Rattle.run_lock.proofs.EntryLemmas.{begun_brought, begun_events, own_else, own_here, seat_events}
 use Rattle.scrape_machine.specs.Machine.{world_of}
-use Rattle.station.specs.Control.{Did, Ordered, entry_for, event_for, behind_for, HasDone, Came, Recorded, RecordsControl, CallerDid, RecordsCaller, caller_did, control_lines, given_lines}
+use Rattle.station.specs.Control.{Did, Ordered, entry_for, event_for, behind_for, HasDone, Came, Fits, RecordsControl, CallerDid, RecordsCaller, caller_did, caller_use, control_lines, given_lines}
 use Rattle.station.specs.Crews.{Behind, behind_of, IsBehind, IsByCaller}
 use Rattle.station.specs.Ends.{run_end}
 use Rattle.station.specs.declared.ends.RunEnd.{RunEnd}
@@ -126,7 +126,7 @@ carried_behind (x ∷ xs) halted [] h = absurd h
 carried_behind (x ∷ xs) halted (b ∷ bs) h = ap₂ (λ (c : Behind) (cs : List Behind). c ∷ cs) h.0 (carried_behind xs halted bs h.1)
 
 -- what the caller's events tell of what it did
-pub records_done : (start es : List Event) (seats : List ℕ) (v w : List Entry) (d : Did) (err : Use SinkSeen) → v ≡ begun_with start → IsByCaller es seats w → HasDone d v w err → RecordsControl start es seats d err
+pub records_done : (start es : List Event) (seats : List ℕ) (v w : List Entry) (d : Did) (err : Use SinkSeen) → v ≡ begun_with start → IsByCaller es seats w → HasDone d (used v w) err → RecordsControl start es seats d err
 records_done start es seats v w d err first of done =
     let carried = done.orders.carried in
     let halt = entry 0 (Brought of.halted (Halt (pos of.halted))) in
@@ -149,20 +149,21 @@ if_some (Some x) f h = f x h
 
 pub tells_over : {S E : Type 0} (seen : S → ShelfSeen) (held : E → SinkSeen) (whole : Bool) (end result : RunEnd) (a : ShelfSeen) (b : SinkSeen) (s s' : S) (e e' : E) (control : Use SourceSeen) (start es : List Event) (seats : List ℕ) (v w : List Entry)
     → result ≡ run_end whole end → s' ≡ s → e' ≡ e → v ≡ begun_with start → (whole ≡ true → IsByCaller es seats w)
-    → CallerDid start end (used a (seen s)) control v w (used b (held e)) → RecordsCaller start result (used a (seen s')) control es seats (used b (held e'))
+    → CallerDid start end (caller_use (used a (seen s)) control (used b (held e))) (used v w) → RecordsCaller start result (caller_use (used a (seen s')) control (used b (held e'))) es seats
 tells_over {S} {E} seen held whole end result a b s s' e e' control start es seats v w is shelf err first brought done =
-    subst (λ (t : RunEnd × S × E). RecordsCaller start t.0 (used a (seen t.1)) control es seats (used b (held t.2))) (λ i. (sym is i, sym shelf i, sym err i)) (of whole brought)
+    subst (λ (t : RunEnd × S × E). RecordsCaller start t.0 (caller_use (used a (seen t.1)) control (used b (held t.2))) es seats) (λ i. (sym is i, sym shelf i, sym err i)) (of whole brought)
   where
     jobs : jobs_known start v ≡ (world_of start).jobs
     jobs = ap (jobs_after (world_of start).jobs) (ap ordered first ∙ ap orders_in (begun_brought start))
 
     tells : (files : List StoredFile) (bytes : List ℕ) → IsByCaller es seats w
-        → Came end (used a (seen s)) (caller_did files (jobs_known start v) (control_lines bytes)) (caller_did files (jobs_known start v) (given_lines control bytes)) v w (used b (held e))
-        → Recorded end (used a (seen s)) (caller_did files (world_of start).jobs (control_lines bytes)) (caller_did files (world_of start).jobs (given_lines control bytes)) start es seats (used b (held e))
+        → Came end (caller_use (used a (seen s)) control (used b (held e))) (caller_did files (jobs_known start v) (control_lines bytes)) (caller_did files (jobs_known start v) (given_lines control bytes)) (used v w)
+        → (what : Did) × Fits end (used a (seen s)) (caller_did files (world_of start).jobs (control_lines bytes)) (caller_did files (world_of start).jobs (given_lines control bytes)) what
+        × RecordsControl start es seats what (used b (held e))
     tells files bytes of was =
-        let came = subst (λ js. Came end (used a (seen s)) (caller_did files js (control_lines bytes)) (caller_did files js (given_lines control bytes)) v w (used b (held e))) jobs was in
-        record { what = came.what; fits = came.fits; records = records_done start es seats v w came.what (used b (held e)) first of came.done }
+        let came = subst (λ js. Came end (caller_use (used a (seen s)) control (used b (held e))) (caller_did files js (control_lines bytes)) (caller_did files js (given_lines control bytes)) (used v w)) jobs was in
+        (came.what, came.fits, records_done start es seats v w came.what (used b (held e)) first of came.done)
 
-    of : (x : Bool) → (x ≡ true → IsByCaller es seats w) → RecordsCaller start (run_end x end) (used a (seen s)) control es seats (used b (held e))
+    of : (x : Bool) → (x ≡ true → IsByCaller es seats w) → RecordsCaller start (run_end x end) (caller_use (used a (seen s)) control (used b (held e))) es seats
     of true own more = if_some a.files (λ files h. if_some control.before.left (λ bytes g. tells files bytes (own refl) g) h) (done more)
     of false own more = absurd (more refl)

@@ -159,9 +159,9 @@ abbrev pub Does : Result (Option Refusal) Stop → Doing → List Entry → List
 Does (Ok why) d v w = HasOrdered d.orders v w × (why ≡ d.why)
 Does (Err s) d v w = StoppedIn s d.orders v w
 
--- what the caller did and said
-pub record HasDone (d : Did) (v w : List Entry) (err : Use SinkSeen) : Type 0 where
-  pub orders : HasOrdered d.orders v w
+-- what the caller did and said, by its entries and the error output, each before and after
+pub record HasDone (d : Did) (own : Use (List Entry)) (err : Use SinkSeen) : Type 0 where
+  pub orders : HasOrdered d.orders own.before own.after
   pub said : Adds d.said err
 
 -- a front of something done: of its orders, and of what it says
@@ -170,18 +170,18 @@ pub record IsFrontOf (x d : Did) : Type 0 where
   pub orders : d.orders ≡ x.orders ++ rest.orders
   pub said : d.said ≡ x.said ++ rest.said
 
-pub record HasBegun (d : Did) (v w : List Entry) (err : Use SinkSeen) : Type 0 where
+pub record HasBegun (d : Did) (own : Use (List Entry)) (err : Use SinkSeen) : Type 0 where
   pub part : Did
   pub front : IsFrontOf part d
-  pub done : HasDone part v w err
+  pub done : HasDone part own err
 
-abbrev pub StoppedDoing : Stop → Did → List Entry → List Entry → Use SinkSeen → Type 0
-StoppedDoing stop.NoMemory d v w err = Unit {0}
-StoppedDoing s d v w err = HasBegun d v w err
+abbrev pub StoppedDoing : Stop → Did → Use (List Entry) → Use SinkSeen → Type 0
+StoppedDoing stop.NoMemory d own err = Unit {0}
+StoppedDoing s d own err = HasBegun d own err
 
-abbrev pub DoesSo : {A : Type 0} → Result A Stop → Did → List Entry → List Entry → Use SinkSeen → Type 0
-DoesSo (Ok x) d v w err = HasDone d v w err
-DoesSo (Err s) d v w err = StoppedDoing s d v w err
+abbrev pub DoesSo : {A : Type 0} → Result A Stop → Did → Use (List Entry) → Use SinkSeen → Type 0
+DoesSo (Ok x) d own err = HasDone d own err
+DoesSo (Err s) d own err = StoppedDoing s d own err
 
 -- what a message adds: a front of it, where writing it failed
 abbrev pub Says : {A : Type 0} → Result A Stop → List ℕ → Use SinkSeen → Type 0
@@ -202,10 +202,10 @@ abbrev pub last_did : List StoredFile → List InForce → Reader → Did
 last_did files jobs r = lines_did files jobs (r.before + 1) (unless_empty r.line.items)
 
 -- how a loop ends with the last line
-abbrev pub LastDoes : RunEnd → Did → List Entry → List Entry → Use SinkSeen → Type 0
-LastDoes Done d v w err = HasDone d v w err
-LastDoes NoMemory d v w err = Unit {0}
-LastDoes e d v w err = HasBegun d v w err
+abbrev pub LastDoes : RunEnd → Did → Use (List Entry) → Use SinkSeen → Type 0
+LastDoes Done d own err = HasDone d own err
+LastDoes NoMemory d own err = Unit {0}
+LastDoes e d own err = HasBegun d own err
 
 -- the lines of the control input: all, or those that end within its first MiB where it has more
 abbrev pub control_lines : List ℕ → List (List ℕ)
@@ -214,6 +214,15 @@ control_lines bytes = if nat_lt most_control_bytes (length bytes) then ended_lin
 -- the lines that ended within what it gave
 abbrev pub given_lines : Use SourceSeen → List ℕ → List (List ℕ)
 given_lines control bytes = ended_lines (take (control.after.given - control.before.given) bytes)
+
+-- the objects of the caller before and after
+pub record CallerUse : Type 0 where
+  pub shelf : Use ShelfSeen
+  pub control : Use SourceSeen
+  pub err : Use SinkSeen
+
+abbrev pub caller_use : Use ShelfSeen → Use SourceSeen → Use SinkSeen → CallerUse
+caller_use shelf control err = record { shelf = shelf; control = control; err = err }
 
 -- what was done by the end, where all lines come to `whole`, and those that control gave to `given`: all of it where nothing failed; a front where the
 -- shelf or the sink failed; and where control alone failed, what its lines come to
@@ -229,25 +238,25 @@ abbrev pub caller_did : List StoredFile → List InForce → List (List ℕ) →
 caller_did files jobs lines = both (did (rereads files jobs) []) (lines_did files (jobs_after jobs (rereads files jobs)) 1 lines)
 
 -- what it came to by its end
-pub record Came (end : RunEnd) (shelf : Use ShelfSeen) (whole given : Did) (v w : List Entry) (err : Use SinkSeen) : Type 0 where
+pub record Came (end : RunEnd) (u : CallerUse) (whole given : Did) (own : Use (List Entry)) : Type 0 where
   pub what : Did
-  pub fits : Fits end shelf whole given what
-  pub done : HasDone what v w err
+  pub fits : Fits end u.shelf whole given what
+  pub done : HasDone what own u.err
 
 -- where memory didn't run out, it is known what files the shelf has, and what control has
-abbrev pub WhereKnown : RunEnd → Use ShelfSeen → Use SourceSeen → (List StoredFile → List ℕ → Type 0) → Type 0
-WhereKnown end shelf control P = end ≢ NoMemory → IfSome shelf.before.files (λ files. IfSome control.before.left (P files))
+abbrev pub WhereKnown : RunEnd → CallerUse → (List StoredFile → List ℕ → Type 0) → Type 0
+WhereKnown end u P = end ≢ NoMemory → IfSome u.shelf.before.files (λ files. IfSome u.control.before.left (P files))
 
 -- what the reading of control did, and what the caller did in all
-abbrev pub ControlDid : List Event → RunEnd → Use ShelfSeen → Use SourceSeen → List Entry → List Entry → Use SinkSeen → Type 0
-ControlDid start end shelf control v w err = WhereKnown end shelf control (λ files bytes.
-    let doing = lines_did files (jobs_known start v) 1 in
-    Came end shelf (doing (control_lines bytes)) (doing (given_lines control bytes)) v w err)
+abbrev pub ControlDid : List Event → RunEnd → CallerUse → Use (List Entry) → Type 0
+ControlDid start end u own = WhereKnown end u (λ files bytes.
+    let doing = lines_did files (jobs_known start own.before) 1 in
+    Came end u (doing (control_lines bytes)) (doing (given_lines u.control bytes)) own)
 
-abbrev pub CallerDid : List Event → RunEnd → Use ShelfSeen → Use SourceSeen → List Entry → List Entry → Use SinkSeen → Type 0
-CallerDid start end shelf control v w err = WhereKnown end shelf control (λ files bytes.
-    let doing = caller_did files (jobs_known start v) in
-    Came end shelf (doing (control_lines bytes)) (doing (given_lines control bytes)) v w err)
+abbrev pub CallerDid : List Event → RunEnd → CallerUse → Use (List Entry) → Type 0
+CallerDid start end u own = WhereKnown end u (λ files bytes.
+    let doing = caller_did files (jobs_known start own.before) in
+    Came end u (doing (control_lines bytes)) (doing (given_lines u.control bytes)) own)
 
 -- an event that the caller brought, behind the last moment
 abbrev pub event_for : Ordered → Event
@@ -266,12 +275,8 @@ pub record RecordsControl (start es : List Event) (seats : List ℕ) (d : Did) (
   pub moments : drop (length start) (behind_of 0 0 es seats) ≡ map behind_for carried ++ record { last = halted; event = Halt (pos halted) } ∷ []
   pub said : Adds d.said err
 
-pub record Recorded (end : RunEnd) (shelf : Use ShelfSeen) (whole given : Did) (start es : List Event) (seats : List ℕ) (err : Use SinkSeen) : Type 0 where
-  pub what : Did
-  pub fits : Fits end shelf whole given what
-  pub records : RecordsControl start es seats what err
-
-abbrev pub RecordsCaller : List Event → RunEnd → Use ShelfSeen → Use SourceSeen → List Event → List ℕ → Use SinkSeen → Type 0
-RecordsCaller start end shelf control es seats err = WhereKnown end shelf control (λ files bytes.
+abbrev pub RecordsCaller : List Event → RunEnd → CallerUse → List Event → List ℕ → Type 0
+RecordsCaller start end u es seats = WhereKnown end u (λ files bytes.
     let doing = caller_did files (world_of start).jobs in
-    Recorded end shelf (doing (control_lines bytes)) (doing (given_lines control bytes)) start es seats err)
+    (what : Did) × Fits end u.shelf (doing (control_lines bytes)) (doing (given_lines u.control bytes)) what
+    × RecordsControl start es seats what u.err)

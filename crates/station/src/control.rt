@@ -5,7 +5,7 @@ ghost use Rattle.run_lock.specs.Callers.{jobs_known};
 ghost use Rattle.run_lock.specs.Seats.{IsOwn};
 ghost use Rattle.turn_lock.specs.Passes.{own_of};
 ghost use Rattle.station.specs.Control as control;
-ghost use Rattle.station.specs.Control.{CallerDid, ControlDid, DoesSo, HasRead, LastDoes};
+ghost use Rattle.station.specs.Control.{CallerDid, ControlDid, DoesSo, HasRead, LastDoes, caller_use};
 ghost use Rattle.station.specs.Ends as spec;
 ghost use Rattle.station.specs.Ends.{ShelfWent, SinkWent, SourceWent, EndsSo, LineStops, LastEnds};
 
@@ -42,7 +42,7 @@ fn do_byte<'r, L: Ledger, B: Asked, R: Wait, S: Shelf, E: Sink>(
     ensures read { OnOk result (HasRead (byte ∷ []) reader.old reader.new) }
     ensures did { IfSome (S.seen shelf.old).files (λ files.
         DoesSo result (control.piece_did files (jobs_known B.start (own_of seat.old.pass)) reader.old (byte ∷ []))
-        (own_of seat.old.pass) (own_of seat.new.pass) (used (E.seen err.old) (E.seen err.new))) }
+        (used (own_of seat.old.pass) (own_of seat.new.pass)) (used (E.seen err.old) (E.seen err.new))) }
 {
     if byte != b'\n' {
         return match reader.line.push(byte) {
@@ -79,7 +79,7 @@ fn do_piece<'r, L: Ledger, B: Asked, R: Wait, S: Shelf, E: Sink>(
     ensures read { OnOk result (HasRead piece.now reader.old reader.new) }
     ensures did { IfSome (S.seen shelf.old).files (λ files.
         DoesSo result (control.piece_did files (jobs_known B.start (own_of seat.old.pass)) reader.old piece.now)
-        (own_of seat.old.pass) (own_of seat.new.pass) (used (E.seen err.old) (E.seen err.new))) }
+        (used (own_of seat.old.pass) (own_of seat.new.pass)) (used (E.seen err.old) (E.seen err.new))) }
 {
     for byte in piece {
         let done = do_byte(seat, shelf, err, reader, *byte);
@@ -139,7 +139,7 @@ fn do_last<'r, L: Ledger, B: Asked, R: Wait, S: Shelf, E: Sink>(
     ensures ends { LastEnds result (used (S.seen shelf.old) (S.seen shelf.new)) (used (E.seen err.old) (E.seen err.new)) }
     ensures did { IfSome (S.seen shelf.old).files (λ files.
         LastDoes result (control.last_did files (jobs_known B.start (own_of seat.old.pass)) reader.now)
-        (own_of seat.old.pass) (own_of seat.new.pass) (used (E.seen err.old) (E.seen err.new))) }
+        (used (own_of seat.old.pass) (own_of seat.new.pass)) (used (E.seen err.old) (E.seen err.new))) }
 {
     if reader.line.is_empty() {
         return RunEnd::Done;
@@ -167,9 +167,9 @@ fn read_control<'r, L: Ledger, B: Asked, R: Wait, S: Shelf, E: Sink, C: Source>(
     ensures control { SourceWent (used (C.seen control.old) (C.seen control.new)) }
     ensures ends { EndsSo result (used (S.seen shelf.old) (S.seen shelf.new))
         (used (E.seen err.old) (E.seen err.new)) (used (C.seen control.old) (C.seen control.new)) }
-    ensures did { ControlDid B.start result (used (S.seen shelf.old) (S.seen shelf.new))
-        (used (C.seen control.old) (C.seen control.new))
-        (own_of seat.old.pass) (own_of seat.new.pass) (used (E.seen err.old) (E.seen err.new)) }
+    ensures did { ControlDid B.start result (caller_use (used (S.seen shelf.old) (S.seen shelf.new))
+        (used (C.seen control.old) (C.seen control.new)) (used (E.seen err.old) (E.seen err.new)))
+        (used (own_of seat.old.pass) (own_of seat.new.pass)) }
 {
     let rt = seat.rt;
     let Ok(mut room) = Vec::from_elem(seat.alloc, 0u8, ROOM) else {
@@ -212,9 +212,9 @@ fn read_all<'r, L: Ledger, B: Asked, R: Wait, S: Shelf, E: Sink, C: Source>(
     ensures control { SourceWent (used (C.seen control.old) (C.seen control.new)) }
     ensures ends { EndsSo result (used (S.seen shelf.old) (S.seen shelf.new))
         (used (E.seen err.old) (E.seen err.new)) (used (C.seen control.old) (C.seen control.new)) }
-    ensures did { CallerDid B.start result (used (S.seen shelf.old) (S.seen shelf.new))
-        (used (C.seen control.old) (C.seen control.new))
-        (own_of seat.old.pass) (own_of seat.new.pass) (used (E.seen err.old) (E.seen err.new)) }
+    ensures did { CallerDid B.start result (caller_use (used (S.seen shelf.old) (S.seen shelf.new))
+        (used (C.seen control.old) (C.seen control.new)) (used (E.seen err.old) (E.seen err.new)))
+        (used (own_of seat.old.pass) (own_of seat.new.pass)) }
 {
     let done = read_listed(seat, shelf);
     match done {
@@ -238,9 +238,9 @@ pub fn take_commands<'r, L: Ledger, B: Asked, R: Wait, S: Shelf, E: Sink, C: Sou
     ensures control { SourceWent (used (C.seen control.old) (C.seen control.new)) }
     ensures ends { EndsSo result (used (S.seen shelf.old) (S.seen shelf.new))
         (used (E.seen err.old) (E.seen err.new)) (used (C.seen control.old) (C.seen control.new)) }
-    ensures did { CallerDid B.start result (used (S.seen shelf.old) (S.seen shelf.new))
-        (used (C.seen control.old) (C.seen control.new))
-        (own_of seat.old.pass) (own_of seat.new.pass) (used (E.seen err.old) (E.seen err.new)) }
+    ensures did { CallerDid B.start result (caller_use (used (S.seen shelf.old) (S.seen shelf.new))
+        (used (C.seen control.old) (C.seen control.new)) (used (E.seen err.old) (E.seen err.new)))
+        (used (own_of seat.old.pass) (own_of seat.new.pass)) }
 {
     let end = read_all(seat, shelf, err, control);
     if end != RunEnd::NoMemory {

@@ -275,7 +275,7 @@ pub fn do_line<'r, L: Ledger, B: Asked, R: Wait, S: Shelf, E: Sink>(
     ensures stops { LineStops result (used (S.seen shelf.old) (S.seen shelf.new)) (used (E.seen err.old) (E.seen err.new)) }
     ensures did { IfSome (S.seen shelf.old).files (λ files.
         DoesSo result (spec.line_did files (jobs_known B.start (own_of seat.old.pass)) number line.now)
-        (own_of seat.old.pass) (own_of seat.new.pass) (used (E.seen err.old) (E.seen err.new))) }
+        (used (own_of seat.old.pass) (own_of seat.new.pass)) (used (E.seen err.old) (E.seen err.new))) }
 {
     let done = do_command(seat, shelf, line);
     match done {

@@ -6,7 +6,7 @@ ghost use Rattle.run_lock.specs.Callers.{BeginsWith};
 ghost use Rattle.run_lock.specs.Entries.{begun_with, seats_in};
 ghost use Rattle.run_lock.specs.Seats.{AreFresh, AreOwn, IsOwn};
 ghost use Rattle.scrape_core.specs.Records.{IsFresh, IsWhole};
-ghost use Rattle.station.specs.Control.{RecordsCaller};
+ghost use Rattle.station.specs.Control.{RecordsCaller, caller_use};
 ghost use Rattle.station.specs.Crews.{AllFinished, AllRecorded, AllHaveOwn, FirstEnded, HasTicked, IsByCaller, RecordsSweeps, behind_of, behinds_in};
 ghost use Rattle.station.specs.Ends as spec;
 ghost use Rattle.station.specs.Ends.{ShelfWent, SinkWent, SourceWent, EndsSo};
@@ -199,8 +199,8 @@ fn run_with<
     ensures ends { IfSome result.control (λ c. EndsSo result.end (used (S.seen shelf.old) (S.seen shelf.new))
         (used (E.seen err.old) (E.seen err.new)) (used (C.seen control) (C.seen c))) }
     ensures begins { BeginsWith core result.core }
-    ensures caller { IfSome result.control (λ c. RecordsCaller core result.end (used (S.seen shelf.old) (S.seen shelf.new))
-        (used (C.seen control) (C.seen c)) result.core result.seats (used (E.seen err.old) (E.seen err.new))) }
+    ensures caller { IfSome result.control (λ c. RecordsCaller core result.end (caller_use (used (S.seen shelf.old) (S.seen shelf.new))
+        (used (C.seen control) (C.seen c)) (used (E.seen err.old) (E.seen err.new))) result.core result.seats) }
 {
     let Opened {
         lock,
@@ -329,8 +329,8 @@ pub fn run_station<
     ensures ends { IfSome result.control (λ c. EndsSo result.end (used (S.seen shelf.old) (S.seen shelf.new))
         (used (E.seen err.old) (E.seen err.new)) (used (C.seen control) (C.seen c))) }
     ensures begins { BeginsWith core result.core }
-    ensures caller { IfSome result.control (λ c. RecordsCaller core result.end (used (S.seen shelf.old) (S.seen shelf.new))
-        (used (C.seen control) (C.seen c)) result.core result.seats (used (E.seen err.old) (E.seen err.new))) }
+    ensures caller { IfSome result.control (λ c. RecordsCaller core result.end (caller_use (used (S.seen shelf.old) (S.seen shelf.new))
+        (used (C.seen control) (C.seen c)) (used (E.seen err.old) (E.seen err.new))) result.core result.seats) }
 {
     run_with::<Brand, Brand, W, S, E, C, K, F>(
         rt,

@@ -67,7 +67,7 @@ impl<'r, 's, 'e, L: Ledger, B: Asked, R: Wait, S: Shelf, E: Sink, C: Source> Sid
     ghost use Rattle.std.specs.Prelude.{◌≡◌, []};
     ghost use Rattle.outside.specs.Objects.{used};
     ghost use Rattle.run_lock.specs.Seats.{IsOwn};
-    ghost use Rattle.station.specs.Control.{CallerDid};
+    ghost use Rattle.station.specs.Control.{CallerDid, caller_use};
     ghost use Rattle.station.specs.Ends.{ShelfWent, SinkWent, SourceWent, EndsSo};
     ghost use Rattle.turn_lock.specs.Passes.{own_of};
 
@@ -78,8 +78,8 @@ impl<'r, 's, 'e, L: Ledger, B: Asked, R: Wait, S: Shelf, E: Sink, C: Source> Sid
         × SourceWent (used (C.seen c.control) (C.seen r.2.control))
         × EndsSo r.2.end (used (S.seen c.shelf.now) (S.seen r.0.now)) (used (E.seen c.err.now) (E.seen r.1.now)) (used (C.seen c.control) (C.seen r.2.control))
         × IsOwn c.seat.lock.now 0 r.2.pass
-        × CallerDid B.start r.2.end (used (S.seen c.shelf.now) (S.seen r.0.now)) (used (C.seen c.control) (C.seen r.2.control))
-        (own_of c.seat.pass) (own_of r.2.pass) (used (E.seen c.err.now) (E.seen r.1.now)) };
+        × CallerDid B.start r.2.end (caller_use (used (S.seen c.shelf.now) (S.seen r.0.now)) (used (C.seen c.control) (C.seen r.2.control))
+        (used (E.seen c.err.now) (E.seen r.1.now))) (used (own_of c.seat.pass) (own_of r.2.pass)) };
 
     fn run(self) -> (&'s mut S, &'e mut E, Called<L, B, C>) {
         let Caller {

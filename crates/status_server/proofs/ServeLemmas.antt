@@ -6,7 +6,8 @@ use Rattle.journal_text.specs.declared.events.Event.{Event}
 use Rattle.outside.specs.Objects.{ShelfSeen, SinkSeen, used, Took, Rose}
 use Rattle.outside.specs.Sources.{SourceSeen, FailedToGive, Gave, Gives, IsAtEnd}
 use Rattle.request_heads.specs.Fronts.{IsTorn}
-use Rattle.status_server.specs.Connections.{Answered, AreFirst, IsBegun, IsClosed}
+use Rattle.status_server.specs.Connections.{Answered, AreFirst, IsBegun, IsClosed, outcome}
+use Rattle.status_server.specs.Reloads.{basis}
 use Rattle.status_server.specs.Serving.{HasGiven, IsSound, Serves, Touched, end_of, touched}
 use Rattle.status_server.specs.Steps.{Ended, Reached, ShelfBy, ShelfStays, StopsIn, site}
 use Rattle.status_server.specs.declared.connections.Stop.{Stop}
@@ -27,7 +28,7 @@ pub record Has (es : List Event) (file : List ℕ) (given : ℕ) (waiting : List
   pub gave : HasGiven bytes t.source
   pub count : length bytes ≡ given
   pub few : given ≤ 1048576
-  pub answered : Answered es (site t.shelf.before file) bytes replies waiting loads
+  pub answered : Answered (basis es (site t.shelf.before file)) bytes waiting (outcome replies loads)
   pub torn : (waiting ≡ []) ⊎ IsTorn waiting
   pub put : Took replies t.sink
   pub journal : core ≡ es ++ loads
@@ -53,7 +54,7 @@ has-none es file waiting s c o e = record {
   gave = given-none c;
   count = refl;
   few = omega arith;
-  answered = subst (λ w. Answered es (site s file) [] [] w []) (sym e) (answered-none es (site s file) []);
+  answered = subst (λ w. Answered (basis es (site s file)) [] w (outcome [] [])) (sym e) (answered-none es (site s file) []);
   torn = inl e;
   put = took-none o o refl;
   journal = sym (append-nil es);
@@ -135,7 +136,7 @@ module _ (es : List Event) (file : List ℕ) (given : ℕ) (waiting : List ℕ) 
     is : take 1048576 all ≡ h.bytes ++ take kept room
     is = kept-is h.bytes room given count kept h.count h.few within k
 
-    piece : Answered es (site s0 file) (h.bytes ++ take kept room) h.replies (waiting ++ take kept room) h.loads
+    piece : Answered (basis es (site s0 file)) (h.bytes ++ take kept room) (waiting ++ take kept room) (outcome h.replies h.loads)
     piece = answered-append es (site s0 file) h.bytes h.replies waiting (take kept room) h.loads h.answered
 
     sound-by : (s2 : ShelfSeen) → s2.faults ≡ s1.faults → IsSound (used s0 s2) (used c0 c2)
@@ -151,7 +152,7 @@ module _ (es : List Event) (file : List ℕ) (given : ℕ) (waiting : List ℕ) 
       replies = h.replies;
       loads = h.loads;
       so = (
-        inl (record { rest = waiting ++ take kept room; answered = subst (λ t. Answered es (site s0 file) t h.replies (waiting ++ take kept room) h.loads) (sym is) piece }),
+        inl (record { rest = waiting ++ take kept room; answered = subst (λ t. Answered (basis es (site s0 file)) t (waiting ++ take kept room) (outcome h.replies h.loads)) (sym is) piece }),
         sound-by s1 refl,
         h.put,
       );
@@ -162,23 +163,23 @@ module _ (es : List Event) (file : List ℕ) (given : ℕ) (waiting : List ℕ) 
       journal-is : (ls : List Event) → after ≡ core ++ ls → after ≡ es ++ (h.loads ++ ls)
       journal-is ls e = e ∙ (ap (λ (js : List Event). js ++ ls) h.journal ∙ append_assoc es h.loads ls)
 
-      first : (replies : List ℕ) (ls : List Event) → AreFirst core (site s1 file) (waiting ++ take kept room) replies ls →
-          AreFirst es (site s0 file) (take 1048576 all) (h.replies ++ replies) (h.loads ++ ls)
+      first : (replies : List ℕ) (ls : List Event) → AreFirst (basis core (site s1 file)) (waiting ++ take kept room) (outcome replies ls) →
+          AreFirst (basis es (site s0 file)) (take 1048576 all) (outcome (h.replies ++ replies) (h.loads ++ ls))
       first replies ls f =
-          subst (λ t. AreFirst es (site s0 file) t (h.replies ++ replies) (h.loads ++ ls)) (sym is)
+          subst (λ t. AreFirst (basis es (site s0 file)) t (outcome (h.replies ++ replies) (h.loads ++ ls))) (sym is)
           (first-then es (site s0 file) (h.bytes ++ take kept room) h.replies (waiting ++ take kept room) replies h.loads ls piece
-          (subst (λ (js : List Event). AreFirst js (site s0 file) (waiting ++ take kept room) replies ls) h.journal
-          (subst (λ x. AreFirst core x (waiting ++ take kept room) replies ls) site-is f)))
+          (subst (λ (js : List Event). AreFirst (basis js (site s0 file)) (waiting ++ take kept room) (outcome replies ls)) h.journal
+          (subst (λ x. AreFirst (basis core x) (waiting ++ take kept room) (outcome replies ls)) site-is f)))
 
-      begun : (replies : List ℕ) (ls : List Event) → IsBegun core (site s1 file) (waiting ++ take kept room) replies ls →
-          IsBegun es (site s0 file) (take 1048576 all) (h.replies ++ replies) (h.loads ++ ls)
+      begun : (replies : List ℕ) (ls : List Event) → IsBegun (basis core (site s1 file)) (waiting ++ take kept room) (outcome replies ls) →
+          IsBegun (basis es (site s0 file)) (take 1048576 all) (outcome (h.replies ++ replies) (h.loads ++ ls))
       begun replies ls f =
-          subst (λ t. IsBegun es (site s0 file) t (h.replies ++ replies) (h.loads ++ ls)) (sym is)
+          subst (λ t. IsBegun (basis es (site s0 file)) t (outcome (h.replies ++ replies) (h.loads ++ ls))) (sym is)
           (begun-then es (site s0 file) (h.bytes ++ take kept room) h.replies (waiting ++ take kept room) replies h.loads ls piece
-          (subst (λ (js : List Event). IsBegun js (site s0 file) (waiting ++ take kept room) replies ls) h.journal
-          (subst (λ x. IsBegun core x (waiting ++ take kept room) replies ls) site-is f)))
+          (subst (λ (js : List Event). IsBegun (basis js (site s0 file)) (waiting ++ take kept room) (outcome replies ls)) h.journal
+          (subst (λ x. IsBegun (basis core x) (waiting ++ take kept room) (outcome replies ls)) site-is f)))
 
-      pub stopped : (stop : Stop) → StopsIn stop core (site s1 file) (waiting ++ take kept room) after (used o1 o2) → ShelfBy stop (used s1 s2) →
+      pub stopped : (stop : Stop) → StopsIn stop (basis core (site s1 file)) (waiting ++ take kept room) after (used o1 o2) → ShelfBy stop (used s1 s2) →
           Serves (end_of stop) es file (touched (used s0 s2) (used c0 c2) (used o0 o2)) after
       stopped stops.ReadFault w b = record {
         bytes = all;
@@ -205,7 +206,7 @@ module _ (es : List Event) (file : List ℕ) (given : ℕ) (waiting : List ℕ) 
         journal = (w.journal.0, w.journal.1 ∙ ap (λ (js : List Event). js ++ w.journal.0) (ap (λ (js : List Event). js ++ w.loads) h.journal ∙ append_assoc es h.loads w.loads));
       }
 
-      pub ended : Ended core (site s1 file) (waiting ++ take kept room) after (used o1 o2) → ShelfStays (used s1 s2) →
+      pub ended : Ended (basis core (site s1 file)) (waiting ++ take kept room) after (used o1 o2) → ShelfStays (used s1 s2) →
           Serves Done es file (touched (used s0 s2) (used c0 c2) (used o0 o2)) after
       ended w b = record {
         bytes = all;
@@ -213,24 +214,24 @@ module _ (es : List Event) (file : List ℕ) (given : ℕ) (waiting : List ℕ) 
         replies = h.replies ++ w.replies;
         loads = h.loads ++ w.loads;
         so = (
-          inl (subst (λ t. IsClosed es (site s0 file) t (h.replies ++ w.replies) (h.loads ++ w.loads)) (sym is)
+          inl (subst (λ t. IsClosed (basis es (site s0 file)) t (outcome (h.replies ++ w.replies) (h.loads ++ w.loads))) (sym is)
               (closed-then es (site s0 file) (h.bytes ++ take kept room) h.replies (waiting ++ take kept room) w.replies h.loads w.loads piece
-              (subst (λ (js : List Event). IsClosed js (site s0 file) (waiting ++ take kept room) w.replies w.loads) h.journal
-              (subst (λ x. IsClosed core x (waiting ++ take kept room) w.replies w.loads) site-is w.closed)))),
+              (subst (λ (js : List Event). IsClosed (basis js (site s0 file)) (waiting ++ take kept room) (outcome w.replies w.loads)) h.journal
+              (subst (λ x. IsClosed (basis core x) (waiting ++ take kept room) (outcome w.replies w.loads)) site-is w.closed)))),
           sound-by s2 b.faults,
           took-then h.replies w.replies o0 o1 o2 h.put w.put,
         );
         journal = journal-is w.loads w.journal;
       }
 
-      more : (len : ℕ) (w : Reached core (site s1 file) (waiting ++ take kept room) len after (used o1 o2)) →
-          Answered es (site s0 file) (h.bytes ++ take kept room) (h.replies ++ w.replies) (drop len (waiting ++ take kept room)) (h.loads ++ w.loads)
+      more : (len : ℕ) (w : Reached (basis core (site s1 file)) (waiting ++ take kept room) len after (used o1 o2)) →
+          Answered (basis es (site s0 file)) (h.bytes ++ take kept room) (drop len (waiting ++ take kept room)) (outcome (h.replies ++ w.replies) (h.loads ++ w.loads))
       more len w =
           answered-then es (site s0 file) (h.bytes ++ take kept room) h.replies (waiting ++ take kept room) w.replies (drop len (waiting ++ take kept room)) h.loads w.loads piece
-          (subst (λ (js : List Event). Answered js (site s0 file) (waiting ++ take kept room) w.replies (drop len (waiting ++ take kept room)) w.loads) h.journal
-          (subst (λ x. Answered core x (waiting ++ take kept room) w.replies (drop len (waiting ++ take kept room)) w.loads) site-is w.answered))
+          (subst (λ (js : List Event). Answered (basis js (site s0 file)) (waiting ++ take kept room) (drop len (waiting ++ take kept room)) (outcome w.replies w.loads)) h.journal
+          (subst (λ x. Answered (basis core x) (waiting ++ take kept room) (drop len (waiting ++ take kept room)) (outcome w.replies w.loads)) site-is w.answered))
 
-      pub long : (len : ℕ) → Reached core (site s1 file) (waiting ++ take kept room) len after (used o1 o2) → ShelfStays (used s1 s2) → kept < count →
+      pub long : (len : ℕ) → Reached (basis core (site s1 file)) (waiting ++ take kept room) len after (used o1 o2) → ShelfStays (used s1 s2) → kept < count →
           Serves TooLong es file (touched (used s0 s2) (used c0 c2) (used o0 o2)) after
       long len w b lt = record {
         bytes = all;
@@ -240,7 +241,7 @@ module _ (es : List Event) (file : List ℕ) (given : ℕ) (waiting : List ℕ) 
         so = (
           record {
             rest = drop len (waiting ++ take kept room);
-            answered = subst (λ t. Answered es (site s0 file) t (h.replies ++ w.replies) (drop len (waiting ++ take kept room)) (h.loads ++ w.loads)) (sym is) (more len w);
+            answered = subst (λ t. Answered (basis es (site s0 file)) t (drop len (waiting ++ take kept room)) (outcome (h.replies ++ w.replies) (h.loads ++ w.loads))) (sym is) (more len w);
             torn = inr w.torn;
           },
           omega (arith, lt, k, h.few, h.count, length-append h.bytes (take count room), length-take-le count room within),
@@ -250,7 +251,7 @@ module _ (es : List Event) (file : List ℕ) (given : ℕ) (waiting : List ℕ) 
         journal = journal-is w.loads w.journal;
       }
 
-      pub goes-on : (len : ℕ) → Reached core (site s1 file) (waiting ++ take kept room) len after (used o1 o2) → ShelfStays (used s1 s2) → count ≤ kept →
+      pub goes-on : (len : ℕ) → Reached (basis core (site s1 file)) (waiting ++ take kept room) len after (used o1 o2) → ShelfStays (used s1 s2) → count ≤ kept →
           Has es file (given + kept) (drop len (waiting ++ take kept room)) after (touched (used s0 s2) (used c0 c2) (used o0 o2))
       goes-on len w b ge =
           let same : kept ≡ count = omega (arith, k, ge) in

@@ -10,9 +10,9 @@ use Rattle.request_heads.specs.declared.fronts.Request.{Request}
 use Rattle.request_heads.specs.declared.pages.Page.{Page}
 use Rattle.request_heads.specs.declared.pages.Page.TheVariants as pages
 use Rattle.status_server.specs.Answers as answers
-use Rattle.status_server.specs.Connections.{Answered, AreFirst, Exchange, IsAnswered, IsClosed}
+use Rattle.status_server.specs.Connections.{Answered, AreFirst, Exchange, IsAnswered, IsClosed, outcome}
 use Rattle.status_server.specs.Federates.{IsFederate}
-use Rattle.status_server.specs.Reloads.{IsReload, Site}
+use Rattle.status_server.specs.Reloads.{IsReload, Site, basis}
 use Rattle.status_server.specs.Steps.{AnsweredBy, CutStep, Ended, IsStep, JournalBy, NoStep, PutStep, Reached, ShelfStays, Stepped, StoppedCut, StoppedWhole, StopsIn, StopsStep, site}
 use Rattle.status_server.specs.declared.connections.Step.{Step}
 use Rattle.status_server.specs.declared.connections.Step.TheVariants.{GoesOn, Ends, Waits}
@@ -23,7 +23,7 @@ use Rattle.status_server.proofs.FlowLemmas.{took-none, took-then, cut-then}
 
 -- a request for a reload, one for federation, and one for another page
 pub answered-reload : (es : List Event) (site : Site) (page : Page) (q : List ℕ) (c : Bool) (text : List ℕ) (loads : List Event) → page ≡ pages.Reload → IsReload es site (answers.ends page c) text loads →
-    IsAnswered es site page q c text loads
+    IsAnswered (basis es site) page q c (outcome text loads)
 answered-reload es site pages.Targets q c text loads e r = absurd cc
 answered-reload es site pages.Federate q c text loads e r = absurd cc
 answered-reload es site pages.Reload q c text loads e r = r
@@ -32,7 +32,7 @@ answered-reload es site pages.OtherPath q c text loads e r = absurd cc
 answered-reload es site pages.Body q c text loads e r = absurd cc
 
 pub answered-federate : (es : List Event) (site : Site) (page : Page) (q : List ℕ) (c : Bool) (text : List ℕ) (loads : List Event) → page ≡ pages.Federate → IsFederate es q (answers.ends page c) text × (loads ≡ []) →
-    IsAnswered es site page q c text loads
+    IsAnswered (basis es site) page q c (outcome text loads)
 answered-federate es site pages.Targets q c text loads e r = absurd cc
 answered-federate es site pages.Federate q c text loads e r = r
 answered-federate es site pages.Reload q c text loads e r = absurd cc
@@ -40,7 +40,7 @@ answered-federate es site pages.OtherMethod q c text loads e r = absurd cc
 answered-federate es site pages.OtherPath q c text loads e r = absurd cc
 answered-federate es site pages.Body q c text loads e r = absurd cc
 
-pub answered-plain : (es : List Event) (site : Site) (page : Page) (q : List ℕ) (c : Bool) (text : List ℕ) → answers.is_plain page ≡ true → text ≡ answers.answer es page c → IsAnswered es site page q c text []
+pub answered-plain : (es : List Event) (site : Site) (page : Page) (q : List ℕ) (c : Bool) (text : List ℕ) → answers.is_plain page ≡ true → text ≡ answers.answer es page c → IsAnswered (basis es site) page q c (outcome text [])
 answered-plain es site pages.Targets q c text e r = (r, refl)
 answered-plain es site pages.Federate q c text e r = absurd (true≢false (sym e))
 answered-plain es site pages.Reload q c text e r = absurd (true≢false (sym e))
@@ -58,21 +58,21 @@ plain-page pages.Body f r = refl
 
 -- a request whose head was read, and that was answered
 pub stepped-whole : (es : List Event) (site : Site) (bytes : List ℕ) (r : Request) (len : ℕ) (reply : List ℕ) (after : List Event) →
-    HasRequest bytes r len → AnsweredBy es site r reply after → Stepped es site bytes (if answers.ends r.page r.closes then Ends else GoesOn len) reply after
+    HasRequest bytes r len → AnsweredBy (basis es site) r reply after → Stepped (basis es site) bytes (if answers.ends r.page r.closes then Ends else GoesOn len) reply after
 stepped-whole es site bytes r len reply after h a = by (answers.ends r.page r.closes) refl
   where
     x : Exchange
     x = record { head = h.head; reply = reply; loads = a.loads }
 
-    is : IsAnswered es site (page_of h.head) (query_of h.head.target) (closes h.head) reply a.loads
+    is : IsAnswered (basis es site) (page_of h.head) (query_of h.head.target) (closes h.head) (outcome reply a.loads)
     is =
-        subst (λ p. IsAnswered es site p (query_of h.head.target) (closes h.head) reply a.loads) h.page_is
-        (subst (λ q. IsAnswered es site r.page q (closes h.head) reply a.loads) h.query_is (subst (λ c. IsAnswered es site r.page r.query.now c reply a.loads) h.closes_is a.is))
+        subst (λ p. IsAnswered (basis es site) p (query_of h.head.target) (closes h.head) (outcome reply a.loads)) h.page_is
+        (subst (λ q. IsAnswered (basis es site) r.page q (closes h.head) (outcome reply a.loads)) h.query_is (subst (λ c. IsAnswered (basis es site) r.page r.query.now c (outcome reply a.loads)) h.closes_is a.is))
 
     end_is : answers.ends (page_of h.head) (closes h.head) ≡ answers.ends r.page r.closes
     end_is = ap (λ p. answers.ends p (closes h.head)) (sym h.page_is) ∙ ap (λ c. answers.ends r.page c) (sym h.closes_is)
 
-    by : (b : Bool) → answers.ends r.page r.closes ≡ b → Stepped es site bytes (if b then Ends else GoesOn len) reply after
+    by : (b : Bool) → answers.ends r.page r.closes ≡ b → Stepped (basis es site) bytes (if b then Ends else GoesOn len) reply after
     by true e = record {
       loads = a.loads;
       is = inl (record { exchange = x; next = drop len bytes; head = h.reads; over = end_is ∙ e; is = is; replies_are = refl; loads_are = refl });
@@ -95,7 +95,7 @@ stays-then a b c f g = record { files = g.files ∙ f.files; faults = g.faults �
 pub record Run (es : List Event) (site : Site) (bytes : List ℕ) (len : ℕ) (after : List Event) (sink : Use SinkSeen) : Type 0 where
   pub replies : List ℕ
   pub loads : List Event
-  pub answered : Answered es site bytes replies (drop len bytes) loads
+  pub answered : Answered (basis es site) bytes (drop len bytes) (outcome replies loads)
   pub within : len ≤ length bytes
   pub put : Took replies sink
   pub journal : after ≡ es ++ loads
@@ -112,17 +112,17 @@ run-none es site bytes s = record {
 
 -- a reply more
 pub run-goes : (es : List Event) (site : Site) (bytes : List ℕ) (len more : ℕ) (mid after : List Event) (a b c : SinkSeen) →
-    Run es site bytes len mid (used a b) → PutStep mid site (drop len bytes) (GoesOn more) after (used b c) → Run es site bytes (len + more) after (used a c)
+    Run es site bytes len mid (used a b) → PutStep (basis mid site) (drop len bytes) (GoesOn more) after (used b c) → Run es site bytes (len + more) after (used a c)
 run-goes es site bytes len more mid after a b c r p =
     let g = p.stepped.is in
-    let one : Answered mid site (drop len bytes) p.reply (drop (len + more) bytes) p.stepped.loads =
-    subst (λ t. Answered mid site (drop len bytes) p.reply t p.stepped.loads) (drop-drop more len bytes)
+    let one : Answered (basis mid site) (drop len bytes) (drop (len + more) bytes) (outcome p.reply p.stepped.loads) =
+    subst (λ t. Answered (basis mid site) (drop len bytes) t (outcome p.reply p.stepped.loads)) (drop-drop more len bytes)
     (answered-one mid site (drop len bytes) (drop more (drop len bytes)) p.reply p.stepped.loads g.exchange g.head g.goes_on g.is g.reply_is g.loads_are) in
     record {
       replies = r.replies ++ p.reply;
       loads = r.loads ++ p.stepped.loads;
       answered = answered-then es site bytes r.replies (drop len bytes) p.reply (drop (len + more) bytes) r.loads p.stepped.loads r.answered
-          (subst (λ (js : List Event). Answered js site (drop len bytes) p.reply (drop (len + more) bytes) p.stepped.loads) r.journal one);
+          (subst (λ (js : List Event). Answered (basis js site) (drop len bytes) (drop (len + more) bytes) (outcome p.reply p.stepped.loads)) r.journal one);
       within = omega (arith, r.within, g.within, length-drop len bytes);
       put = took-then r.replies p.reply a b c r.put p.put;
       journal = p.stepped.journal ∙ (ap (λ (js : List Event). js ++ p.stepped.loads) r.journal ∙ append_assoc es r.loads p.stepped.loads);
@@ -130,12 +130,12 @@ run-goes es site bytes len more mid after a b c r p =
 
 -- the end of the connection
 pub run-ends : (es : List Event) (site : Site) (bytes : List ℕ) (len : ℕ) (mid after : List Event) (a b c : SinkSeen) →
-    Run es site bytes len mid (used a b) → PutStep mid site (drop len bytes) Ends after (used b c) → Ended es site bytes after (used a c)
+    Run es site bytes len mid (used a b) → PutStep (basis mid site) (drop len bytes) Ends after (used b c) → Ended (basis es site) bytes after (used a c)
 run-ends es site bytes len mid after a b c r p = record {
   replies = r.replies ++ p.reply;
   loads = r.loads ++ p.stepped.loads;
   closed = closed-then es site bytes r.replies (drop len bytes) p.reply r.loads p.stepped.loads r.answered
-      (subst (λ (js : List Event). IsClosed js site (drop len bytes) p.reply p.stepped.loads) r.journal
+      (subst (λ (js : List Event). IsClosed (basis js site) (drop len bytes) (outcome p.reply p.stepped.loads)) r.journal
       (closed-last mid site (drop len bytes) p.reply p.stepped.loads p.stepped.is));
   put = took-then r.replies p.reply a b c r.put p.put;
   journal = p.stepped.journal ∙ (ap (λ (js : List Event). js ++ p.stepped.loads) r.journal ∙ append_assoc es r.loads p.stepped.loads);
@@ -143,7 +143,7 @@ run-ends es site bytes len mid after a b c r p = record {
 
 -- nothing more can be answered yet
 pub run-waits : (es : List Event) (site : Site) (bytes : List ℕ) (len : ℕ) (mid after : List Event) (a b c : SinkSeen) →
-    Run es site bytes len mid (used a b) → PutStep mid site (drop len bytes) Waits after (used b c) → Reached es site bytes len after (used a c)
+    Run es site bytes len mid (used a b) → PutStep (basis mid site) (drop len bytes) Waits after (used b c) → Reached (basis es site) bytes len after (used a c)
 run-waits es site bytes len mid after a b c r p =
     let w = p.stepped.is in
     let none : Took [] (used b c) = subst (λ t. Took t (used b c)) w.reply_is p.put in
@@ -159,7 +159,7 @@ run-waits es site bytes len mid after a b c r p =
 
 -- a reply that was cut
 run-cut : (es : List Event) (site : Site) (bytes : List ℕ) (len : ℕ) (mid after : List Event) (a b c : SinkSeen) →
-    Run es site bytes len mid (used a b) → CutStep mid site (drop len bytes) after (used b c) → StoppedCut es site bytes after (used a c)
+    Run es site bytes len mid (used a b) → CutStep (basis mid site) (drop len bytes) after (used b c) → StoppedCut (basis es site) bytes after (used a c)
 run-cut es site bytes len mid after a b c r p = record {
   replies = r.replies ++ p.reply;
   loads = r.loads ++ p.stepped.loads;
@@ -168,11 +168,11 @@ run-cut es site bytes len mid after a b c r p = record {
   journal = p.stepped.journal ∙ (ap (λ (js : List Event). js ++ p.stepped.loads) r.journal ∙ append_assoc es r.loads p.stepped.loads);
 }
   where
-    joined : (f : AreFirst mid site (drop len bytes) p.reply p.stepped.loads) → AreFirst es site bytes (r.replies ++ p.reply) (r.loads ++ p.stepped.loads)
+    joined : (f : AreFirst (basis mid site) (drop len bytes) (outcome p.reply p.stepped.loads)) → AreFirst (basis es site) bytes (outcome (r.replies ++ p.reply) (r.loads ++ p.stepped.loads))
     joined f = first-then es site bytes r.replies (drop len bytes) p.reply r.loads p.stepped.loads r.answered
-        (subst (λ (js : List Event). AreFirst js site (drop len bytes) p.reply p.stepped.loads) r.journal f)
+        (subst (λ (js : List Event). AreFirst (basis js site) (drop len bytes) (outcome p.reply p.stepped.loads)) r.journal f)
 
-    of : (s : Step) → IsStep mid site (drop len bytes) s p.reply p.stepped.loads → AreFirst es site bytes (r.replies ++ p.reply) (r.loads ++ p.stepped.loads)
+    of : (s : Step) → IsStep (basis mid site) (drop len bytes) s (outcome p.reply p.stepped.loads) → AreFirst (basis es site) bytes (outcome (r.replies ++ p.reply) (r.loads ++ p.stepped.loads))
     of (GoesOn more) g = joined (inl (record {
       rest = drop more (drop len bytes);
       answered = answered-one mid site (drop len bytes) (drop more (drop len bytes)) p.reply p.stepped.loads g.exchange g.head g.goes_on g.is g.reply_is g.loads_are;
@@ -180,8 +180,8 @@ run-cut es site bytes len mid after a b c r p = record {
     of Ends g = joined (inr (closed-last mid site (drop len bytes) p.reply p.stepped.loads g))
     of Waits w = joined (inl (record {
       rest = drop len bytes;
-      answered = subst (λ t. Answered mid site (drop len bytes) t (drop len bytes) p.stepped.loads) (sym w.reply_is)
-          (subst (λ (ls : List Event). Answered mid site (drop len bytes) [] (drop len bytes) ls) (sym w.loads_are) (answered-none mid site (drop len bytes)));
+      answered = subst (λ t. Answered (basis mid site) (drop len bytes) (drop len bytes) (outcome t p.stepped.loads)) (sym w.reply_is)
+          (subst (λ (ls : List Event). Answered (basis mid site) (drop len bytes) (drop len bytes) (outcome [] ls)) (sym w.loads_are) (answered-none mid site (drop len bytes)));
     }))
 
 -- no reply
@@ -191,7 +191,7 @@ journal-then ReadFault es loads mid after e j = j ∙ e
 journal-then WriteFault es loads mid after e j = j ∙ e
 
 whole : (stop : Stop) (es : List Event) (site : Site) (bytes : List ℕ) (len : ℕ) (mid after : List Event) (a b c : SinkSeen) →
-    Run es site bytes len mid (used a b) → NoStep stop mid after (used b c) → StoppedWhole stop es site bytes after (used a c)
+    Run es site bytes len mid (used a b) → NoStep stop mid after (used b c) → StoppedWhole stop (basis es site) bytes after (used a c)
 whole stop es site bytes len mid after a b c r n = record {
   replies = r.replies;
   loads = r.loads;
@@ -201,7 +201,7 @@ whole stop es site bytes len mid after a b c r n = record {
 }
 
 pub run-stops : (stop : Stop) (es : List Event) (site : Site) (bytes : List ℕ) (len : ℕ) (mid after : List Event) (a b c : SinkSeen) →
-    Run es site bytes len mid (used a b) → StopsStep stop mid site (drop len bytes) after (used b c) → StopsIn stop es site bytes after (used a c)
+    Run es site bytes len mid (used a b) → StopsStep stop (basis mid site) (drop len bytes) after (used b c) → StopsIn stop (basis es site) bytes after (used a c)
 run-stops WriteFault es site bytes len mid after a b c r s = run-cut es site bytes len mid after a b c r s
 run-stops ReadFault es site bytes len mid after a b c r s = whole ReadFault es site bytes len mid after a b c r s
 run-stops NoMemory es site bytes len mid after a b c r s = whole NoMemory es site bytes len mid after a b c r s

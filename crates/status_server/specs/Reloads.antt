@@ -21,6 +21,14 @@ pub record Site : Type 0 where
   pub files : Option (List StoredFile)
   pub file : List ℕ
 
+-- what a server answers from: a journal, and where it finds its configuration
+pub record Basis : Type 0 where
+  pub journal : List Event
+  pub site : Site
+
+abbrev pub basis : List Event → Site → Basis
+basis journal site = record { journal = journal; site = site }
+
 -- there is no such file; it is longer than a configuration may be; it has this text
 abbrev pub HasNone : Site → Type 0
 HasNone site = IfSome site.files (λ files. file_of site.file files ≡ None)

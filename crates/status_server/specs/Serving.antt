@@ -3,8 +3,8 @@ use Rattle.std.specs.Prelude.{◌≡◌, ◌<◌, ◌≤◌, ◌⊎◌, ℕ, ◌
 use Rattle.journal_text.specs.declared.events.Event.{Event}
 use Rattle.outside.specs.Objects.{ShelfSeen, SinkSeen, Use, Took, Cut, Rose}
 use Rattle.outside.specs.Sources.{SourceSeen, Gives}
-use Rattle.status_server.specs.Connections.{AreFirst, IsBegun, IsClosed, IsOpen, IsServed}
-use Rattle.status_server.specs.Reloads.{Site}
+use Rattle.status_server.specs.Connections.{AreFirst, IsBegun, IsClosed, IsOpen, IsServed, Outcome, outcome}
+use Rattle.status_server.specs.Reloads.{Basis, basis}
 use Rattle.status_server.specs.Steps.{site}
 use Rattle.status_server.specs.declared.connections.Stop.{Stop}
 use Rattle.status_server.specs.declared.connections.Stop.TheVariants as stop
@@ -45,25 +45,24 @@ abbrev pub IsEmptied : Use SourceSeen → Type 0
 IsEmptied u = IfSome u.before.left (λ had. u.after.left ≡ Some [])
 
 -- the connection is over: it ended within its first 1 MiB, or its source is at its end
-abbrev pub IsOver : List Event → Site → List ℕ → List ℕ → List Event → Use SourceSeen → Type 0
-IsOver es site bytes replies loads source =
-    IsClosed es site (take most_bytes bytes) replies loads
-    ⊎ (IsOpen es site bytes replies loads × (length bytes ≤ most_bytes) × IsEmptied source)
+abbrev pub IsOver : Basis → List ℕ → Outcome → Use SourceSeen → Type 0
+IsOver b bytes o source =
+    IsClosed b (take most_bytes bytes) o ⊎ (IsOpen b bytes o × (length bytes ≤ most_bytes) × IsEmptied source)
 
 -- reading failed: that of the source, behind whole replies to all that it gave; or that of the file, at a request for a reload
-abbrev pub FailedRead : List Event → Site → List ℕ → List ℕ → List Event → Use ShelfSeen → Use SourceSeen → Type 0
-FailedRead es site bytes replies loads shelf source =
-    (IsOpen es site bytes replies loads × (length bytes ≤ most_bytes) × Rose source.before.faults source.after.faults)
-    ⊎ (IsBegun es site (take most_bytes bytes) replies loads × Rose shelf.before.faults shelf.after.faults)
+abbrev pub FailedRead : Basis → List ℕ → Outcome → Use ShelfSeen → Use SourceSeen → Type 0
+FailedRead b bytes o shelf source =
+    (IsOpen b bytes o × (length bytes ≤ most_bytes) × Rose source.before.faults source.after.faults)
+    ⊎ (IsBegun b (take most_bytes bytes) o × Rose shelf.before.faults shelf.after.faults)
 
 -- the end of a connection that gave these bytes: its requests have these replies and made these loads
-abbrev pub EndsSo : ServeEnd → List Event → Site → List ℕ → List ℕ → List Event → Touched → Type 0
-EndsSo Done es site bytes replies loads t = IsOver es site bytes replies loads t.source × IsSound t.shelf t.source × Took replies t.sink
-EndsSo ReadFault es site bytes replies loads t = FailedRead es site bytes replies loads t.shelf t.source × Took replies t.sink
-EndsSo TooLong es site bytes replies loads t =
-    IsOpen es site (take most_bytes bytes) replies loads × (most_bytes < length bytes) × IsSound t.shelf t.source × Took replies t.sink
-EndsSo WriteFault es site bytes replies loads t = AreFirst es site (take most_bytes bytes) replies loads × IsSound t.shelf t.source × Cut replies t.sink
-EndsSo NoMemory es site bytes replies loads t = AreFirst es site (take most_bytes bytes) replies loads × IsSound t.shelf t.source × Took replies t.sink
+abbrev pub EndsSo : ServeEnd → Basis → List ℕ → Outcome → Touched → Type 0
+EndsSo Done b bytes o t = IsOver b bytes o t.source × IsSound t.shelf t.source × Took o.replies t.sink
+EndsSo ReadFault b bytes o t = FailedRead b bytes o t.shelf t.source × Took o.replies t.sink
+EndsSo TooLong b bytes o t =
+    IsOpen b (take most_bytes bytes) o × (most_bytes < length bytes) × IsSound t.shelf t.source × Took o.replies t.sink
+EndsSo WriteFault b bytes o t = AreFirst b (take most_bytes bytes) o × IsSound t.shelf t.source × Cut o.replies t.sink
+EndsSo NoMemory b bytes o t = AreFirst b (take most_bytes bytes) o × IsSound t.shelf t.source × Took o.replies t.sink
 
 -- the journal behind it: out of memory, a load may have joined it whose reply was not put
 abbrev pub JournalBehind : ServeEnd → List Event → List Event → Type 0
@@ -76,18 +75,18 @@ pub record Serves (end : ServeEnd) (es : List Event) (file : List ℕ) (t : Touc
   pub given : HasGiven bytes t.source
   pub replies : List ℕ
   pub loads : List Event
-  pub so : EndsSo end es (site t.shelf.before file) bytes replies loads t
+  pub so : EndsSo end (basis es (site t.shelf.before file)) bytes (outcome replies loads) t
   pub journal : JournalBehind end (es ++ loads) after
 
 -- each request of these bytes is answered, behind a journal, with these puts, and this journal behind it
-pub record IsServedWhole (es : List Event) (site : Site) (bytes : List ℕ) (sink : Use SinkSeen) (after : List Event) : Type 0 where
+pub record IsServedWhole (b : Basis) (bytes : List ℕ) (sink : Use SinkSeen) (after : List Event) : Type 0 where
   pub replies : List ℕ
   pub loads : List Event
-  pub served : IsServed es site bytes replies loads
+  pub served : IsServed b bytes (outcome replies loads)
   pub put : Took replies sink
-  pub journal : after ≡ es ++ loads
+  pub journal : after ≡ b.journal ++ loads
 
 -- where it is known what a source has, a connection that was served to its end is answered by all of that
 abbrev pub ServesAll : Type 0
 ServesAll = (es : List Event) (file : List ℕ) (t : Touched) (after : List Event) → Serves Done es file t after →
-    IfSome t.source.before.left (λ had. IsServedWhole es (site t.shelf.before file) had t.sink after)
+    IfSome t.source.before.left (λ had. IsServedWhole (basis es (site t.shelf.before file)) had t.sink after)

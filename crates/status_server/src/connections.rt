@@ -4,6 +4,7 @@ ghost use Rattle.outside.specs.Objects.{used};
 ghost use Rattle.outside.specs.Sizes.{most_text_bytes};
 ghost use Rattle.status_server.specs.Connections.{IsAnswered};
 ghost use Rattle.status_server.specs.Reloads as reloads;
+ghost use Rattle.status_server.specs.Reloads.{basis};
 ghost use Rattle.status_server.specs.Steps as spec;
 
 use crate::answers::{ends, push_answer};
@@ -77,8 +78,8 @@ fn answer_request<L: Ledger, S: Shelf>(
     reply: &mut Vec<u8>,
 ) -> Result<(), Stop>
     requires { reply.old.items ≡ [] }
-    ensures answered { OnOk result (spec.AnsweredBy server.old (spec.site (S.seen shelf.old) file.now) request.now
-        reply.new.items server.new) }
+    ensures answered { OnOk result (spec.AnsweredBy (basis server.old (spec.site (S.seen shelf.old) file.now))
+        request.now reply.new.items server.new) }
     ensures stays { OnOk result (spec.ShelfStays (used (S.seen shelf.old) (S.seen shelf.new))) }
     ensures stopped { IfErr result (λ stop. spec.StopsAnswer stop server.old server.new (used (S.seen shelf.old) (S.seen shelf.new))) }
 {
@@ -114,8 +115,8 @@ fn make_reply<L: Ledger, S: Shelf>(
     reply: &mut Vec<u8>,
 ) -> Result<Step, Stop>
     requires { reply.old.items ≡ [] }
-    ensures stepped { IfOk result (λ step. spec.Stepped server.old (spec.site (S.seen shelf.old) file.now) bytes.now step
-        reply.new.items server.new) }
+    ensures stepped { IfOk result (λ step. spec.Stepped (basis server.old (spec.site (S.seen shelf.old) file.now))
+        bytes.now step reply.new.items server.new) }
     ensures stays { OnOk result (spec.ShelfStays (used (S.seen shelf.old) (S.seen shelf.new))) }
     ensures stopped { IfErr result (λ stop. spec.StopsAnswer stop server.old server.new (used (S.seen shelf.old) (S.seen shelf.new))) }
 {
@@ -140,11 +141,11 @@ fn answer_front<L: Ledger, S: Shelf, O: Sink>(
     bytes: &[u8],
     sink: &mut O,
 ) -> Result<Step, Stop>
-    ensures put { IfOk result (λ step. spec.PutStep server.old (spec.site (S.seen shelf.old) file.now) bytes.now step
-        server.new (used (O.seen sink.old) (O.seen sink.new))) }
+    ensures put { IfOk result (λ step. spec.PutStep (basis server.old (spec.site (S.seen shelf.old) file.now))
+        bytes.now step server.new (used (O.seen sink.old) (O.seen sink.new))) }
     ensures stays { OnOk result (spec.ShelfStays (used (S.seen shelf.old) (S.seen shelf.new))) }
-    ensures stopped { IfErr result (λ stop. spec.StopsStep stop server.old (spec.site (S.seen shelf.old) file.now) bytes.now
-        server.new (used (O.seen sink.old) (O.seen sink.new))) }
+    ensures stopped { IfErr result (λ stop. spec.StopsStep stop (basis server.old (spec.site (S.seen shelf.old) file.now))
+        bytes.now server.new (used (O.seen sink.old) (O.seen sink.new))) }
     ensures shelf { IfErr result (λ stop. spec.ShelfBy stop (used (S.seen shelf.old) (S.seen shelf.new))) }
 {
     let mut reply = Vec::new(server.alloc());
@@ -166,11 +167,11 @@ pub fn answer_all<L: Ledger, S: Shelf, O: Sink>(
     bytes: &[u8],
     sink: &mut O,
 ) -> Result<Option<usize>, Stop>
-    ensures reached { IfOk result (λ reach. spec.Reaches server.old (spec.site (S.seen shelf.old) file.now) bytes.now reach
-        server.new (used (O.seen sink.old) (O.seen sink.new))) }
+    ensures reached { IfOk result (λ reach. spec.Reaches (basis server.old (spec.site (S.seen shelf.old) file.now))
+        bytes.now reach server.new (used (O.seen sink.old) (O.seen sink.new))) }
     ensures stays { OnOk result (spec.ShelfStays (used (S.seen shelf.old) (S.seen shelf.new))) }
-    ensures stopped { IfErr result (λ stop. spec.StopsIn stop server.old (spec.site (S.seen shelf.old) file.now) bytes.now
-        server.new (used (O.seen sink.old) (O.seen sink.new))) }
+    ensures stopped { IfErr result (λ stop. spec.StopsIn stop (basis server.old (spec.site (S.seen shelf.old) file.now))
+        bytes.now server.new (used (O.seen sink.old) (O.seen sink.new))) }
     ensures shelf { IfErr result (λ stop. spec.ShelfBy stop (used (S.seen shelf.old) (S.seen shelf.new))) }
 {
     let mut len = 0;

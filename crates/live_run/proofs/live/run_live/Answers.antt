@@ -3,7 +3,7 @@ use Rattle.std.proofs.lemmas.List.{length-map}
 use Rattle.journal_text.specs.declared.events.Event.{Event}
 use Rattle.journal_text.specs.declared.events.Event.TheVariants.{Load}
 use Rattle.run_lock.specs.Callers.{BeginsWith}
-use Rattle.station.specs.Control.{RecordsCaller}
+use Rattle.station.specs.Control.{RecordsCaller, caller_use}
 use Rattle.std.specs.Prelude.{All, IfSome}
 use Rattle.outside.specs.Clocks.{Reads}
 use Rattle.live_run.specs.declared.asked.LiveEnd.{LiveEnd}
@@ -11,7 +11,7 @@ use mir.Syntax.{w64}
 use mir.Val.{of_z, to_z}
 use Rattle.outside.specs.Objects.{ShelfSeen, used}
 use Rattle.station.specs.Ends.{EndsSo, ShelfWent}
-use Rattle.live_run.specs.Runs.{Ended, IsUnstarted, touched, wanted}
+use Rattle.live_run.specs.Runs.{Ended, IsUnstarted, outputs, touched, wanted}
 use Rattle.live_run.proofs.EndLemmas.{Known, begun, ended, reading_is, unbegun, with_some, with_three}
 use Rattle.live_run.proofs.live.run_live.Goals as goal
 
@@ -34,8 +34,7 @@ returns-clause-ended g c =
     with_some ran.result.clock (λ k sweeps.
     with_three ran.result.control (λ x caller ends went.
     let control = used (g.C.Source.seen c.args.control) (g.C.Source.seen x) in
-    let t = touched (used before after) (used (g.O.Sink.seen c.args.out.now) (g.O.Sink.seen c.finish_run-end.new.out)) err
-    (used (g.R.Sink.seen c.args.trail.now) (g.R.Sink.seen c.finish_run-end.new.trail)) control (used (g.K.Clock.seen c.args.clock) (g.K.Clock.seen k)) (used (map g.F.Fetch.seen c.args.fetchers.items) (map g.F.Fetch.seen ran.result.fetchers.items)) in
+    let t = touched (caller_use (used before after) control err) (outputs (used (g.R.Sink.seen c.args.trail.now) (g.R.Sink.seen c.finish_run-end.new.trail)) (used (g.O.Sink.seen c.args.out.now) (g.O.Sink.seen c.finish_run-end.new.out))) (used (g.K.Clock.seen c.args.clock) (g.K.Clock.seen k)) (used (map g.F.Fetch.seen c.args.fetchers.items) (map g.F.Fetch.seen ran.result.fetchers.items)) in
     let known : Known ran.result.end w t ran.result.core ran.result.seats = record {
       moment = m;
       later = g.K.Clock.seen c.now-moment.new.self;
@@ -46,8 +45,8 @@ returns-clause-ended g c =
       taken = first.3;
       begins = λ h. subst (λ (es : List Event). BeginsWith es ran.result.core) first.4 ran.ensures.begins;
       caller = subst
-          (λ (s : ShelfSeen). RecordsCaller (Load m first.0 ∷ []) ran.result.end (used s after) control ran.result.core ran.result.seats err) same
-          (subst (λ (es : List Event). RecordsCaller es ran.result.end (used (g.S.Shelf.seen c.first_load.new.shelf) after) control ran.result.core ran.result.seats err) first.4 caller);
+          (λ (s : ShelfSeen). RecordsCaller (Load m first.0 ∷ []) ran.result.end (caller_use (used s after) control err) ran.result.core ran.result.seats) same
+          (subst (λ (es : List Event). RecordsCaller es ran.result.end (caller_use (used (g.S.Shelf.seen c.first_load.new.shelf) after) control err) ran.result.core ran.result.seats) first.4 caller);
       whole = ran.ensures.done;
       each = λ h. ran.ensures.seats;
       known = λ h. subst (λ (n : ℕ). All (λ q. q < 2 + n) ran.result.seats) (c.args.fetchers.ok.0 ∙ sym (length-map c.args.fetchers.items g.F.Fetch.seen)) (ran.ensures.known h);
@@ -74,7 +73,7 @@ returns-in-Err-clause-ended g c =
     let clock = g.K.Clock.seen c.args.clock in
     let w = wanted c.args.asked.file.now c.args.asked.turns c.args.asked.kept in
     let calls = used (map g.F.Fetch.seen c.args.fetchers.items) (map g.F.Fetch.seen r.fetchers.items) in
-    let t = touched (used before after) (used out out) (used err err) (used trail trail) (used control control) (used clock (g.K.Clock.seen c.now-moment.new.self)) calls in
-    subst (λ o. IfSome o (λ k. IfSome r.control (λ x. Ended r.end w (touched (used before after) (used out out) (used err err) (used trail trail) (used control (g.C.Source.seen x)) (used clock (g.K.Clock.seen k)) calls)))) (sym c.unstarted.ensures.clock)
-    (subst (λ o. IfSome o (λ x. Ended r.end w (touched (used before after) (used out out) (used err err) (used trail trail) (used control (g.C.Source.seen x)) (used clock (g.K.Clock.seen c.now-moment.new.self)) calls))) (sym c.unstarted.ensures.control)
+    let t = touched (caller_use (used before after) (used control control) (used err err)) (outputs (used trail trail) (used out out)) (used clock (g.K.Clock.seen c.now-moment.new.self)) calls in
+    subst (λ o. IfSome o (λ k. IfSome r.control (λ x. Ended r.end w (touched (caller_use (used before after) (used control (g.C.Source.seen x)) (used err err)) (outputs (used trail trail) (used out out)) (used clock (g.K.Clock.seen k)) calls)))) (sym c.unstarted.ensures.clock)
+    (subst (λ o. IfSome o (λ x. Ended r.end w (touched (caller_use (used before after) (used control (g.C.Source.seen x)) (used err err)) (outputs (used trail trail) (used out out)) (used clock (g.K.Clock.seen c.now-moment.new.self)) calls))) (sym c.unstarted.ensures.control)
     (unbegun r.end w t (subst (λ (e : LiveEnd). IsUnstarted e w.file (used before after)) (sym c.unstarted.ensures.end) c.in-Err.ensures.refused) refl refl refl refl))

@@ -1,7 +1,8 @@
 use Rattle.std.proofs.Common.{◌≡◌, ◌∙◌, [], List, ℕ, ap, map, refl, string_bytes, subst, sym}
 use Rattle.std.specs.Prelude.{Some, IfSome}
 use Rattle.outside.specs.Objects.{used}
-use Rattle.live_run.specs.Runs.{IsReadOnce, touched}
+use Rattle.live_run.specs.Runs.{IsReadOnce, outputs, touched}
+use Rattle.station.specs.Control.{caller_use}
 use Rattle.scrape_commands.specs.Ends.{call}
 use Rattle.scrape_commands.specs.Laws.{EndedStill}
 use Rattle.scrape_commands.proofs.StillLemmas.{still_wanting}
@@ -28,8 +29,7 @@ returns-in-Err-NoMemory-clause-live g c =
     let clock = g.K.Clock.seen c.args.clock in
     let ran = c.handed_back.result in
     let source = g.C.Source.seen c.args.control in
-    let t = λ (k : g.row.K.Denot) (x : g.row.C.Denot). touched (used shelf shelf) (used (g.O.Sink.seen c.args.out.now) (g.O.Sink.seen c.args.out.now)) (used err (g.E.Sink.seen c.tell.new.err)) (used (g.R.Sink.seen c.args.trail.now) (g.R.Sink.seen c.args.trail.now))
-    (used source (g.C.Source.seen x)) (used clock (g.K.Clock.seen k)) (used (map g.F.Fetch.seen c.args.fetchers.items) (map g.F.Fetch.seen ran.fetchers.items)) in
+    let t = λ (k : g.row.K.Denot) (x : g.row.C.Denot). touched (caller_use (used shelf shelf) (used source (g.C.Source.seen x)) (used err (g.E.Sink.seen c.tell.new.err))) (outputs (used (g.R.Sink.seen c.args.trail.now) (g.R.Sink.seen c.args.trail.now)) (used (g.O.Sink.seen c.args.out.now) (g.O.Sink.seen c.args.out.now))) (used clock (g.K.Clock.seen k)) (used (map g.F.Fetch.seen c.args.fetchers.items) (map g.F.Fetch.seen ran.fetchers.items)) in
     let back = λ (k : g.row.K.Denot) (x : g.row.C.Denot). (x ≡ c.args.control) × IsReadOnce (used clock (g.K.Clock.seen k)) × (ran.fetchers ≡ c.args.fetchers) in
     λ r is. subst (λ o. IfSome o (λ k. IfSome ran.control (λ x. EndedLive ran.status r (t k x) (back k x)))) (sym c.handed_back.ensures.clock)
     (subst (λ o. IfSome o (λ x. EndedLive ran.status r (t c.args.clock x) (back c.args.clock x))) (sym c.handed_back.ensures.control)
@@ -99,6 +99,6 @@ returns-in-Ok-Run-clause-live g c =
     let clock = g.K.Clock.seen c.args.clock in
     let calls = used (map g.F.Fetch.seen c.args.fetchers.items) (map g.F.Fetch.seen ran.fetchers.items) in
     λ r is. subst
-    (λ (x : Running). IfSome ran.clock (λ k. IfSome ran.control (λ y. EndedLive ran.status x (touched shelf out err trail (used source (g.C.Source.seen y)) (used clock (g.K.Clock.seen k)) calls)
+    (λ (x : Running). IfSome ran.clock (λ k. IfSome ran.control (λ y. EndedLive ran.status x (touched (caller_use shelf (used source (g.C.Source.seen y)) err) (outputs trail out) (used clock (g.K.Clock.seen k)) calls)
     ((y ≡ c.args.control) × IsReadOnce (used clock (g.K.Clock.seen k)) × (ran.fetchers ≡ c.args.fetchers)))))
     (same_run c.in-Ok-Run.live r (sym (c.in-Ok-Run.ensures.asked ∙ ap Some c.in-Ok-Run.field-0-is) ∙ is)) c.tool_live.ensures.live

@@ -2,7 +2,8 @@ use Rattle.std.proofs.Common.{◌≡◌, ◌∙◌, map, rules, subst}
 use Rattle.std.specs.Prelude.{Some, IfSome}
 use Rattle.outside.specs.Objects.{used}
 use Rattle.live_run.specs.Runs as runs
-use Rattle.live_run.specs.Runs.{IsReadOnce, IsUnbegun, Wanted, touched, wanted}
+use Rattle.live_run.specs.Runs.{IsReadOnce, IsUnbegun, Wanted, outputs, touched, wanted}
+use Rattle.station.specs.Control.{caller_use}
 use Rattle.scrape_commands.specs.Ends.{Speaks, status_at}
 use Rattle.scrape_cli.specs.Lives.{file_said, refusal_of}
 use Rattle.scrape_cli.proofs.DueLemmas.{causes, complete}
@@ -23,13 +24,13 @@ returns-clause-live g c =
     let calls = used (map g.F.Fetch.seen c.args.fetchers.items) (map g.F.Fetch.seen ran.result.fetchers.items) in
     let asked : wanted c.file.result.now c.turns.result c.kept.result ≡ wanted r.file r.turns r.kept = λ i. wanted (c.file.ensures i) (c.turns.ensures.turns i) (c.kept.ensures i) in
     let ended : IfSome ran.result.clock (λ k. IfSome ran.result.control (λ x.
-    runs.Ended end (wanted r.file r.turns r.kept) (touched shelf out (used (g.E.Sink.seen c.args.err.now) between) trail (used source (g.C.Source.seen x)) (used clock (g.K.Clock.seen k)) calls))) =
+    runs.Ended end (wanted r.file r.turns r.kept) (touched (caller_use shelf (used source (g.C.Source.seen x)) (used (g.E.Sink.seen c.args.err.now) between)) (outputs trail out) (used clock (g.K.Clock.seen k)) calls))) =
     subst (λ (w : Wanted). IfSome ran.result.clock (λ k. IfSome ran.result.control (λ x.
-    runs.Ended end w (touched shelf out (used (g.E.Sink.seen c.args.err.now) between) trail (used source (g.C.Source.seen x)) (used clock (g.K.Clock.seen k)) calls)))) asked ran.ensures.ended in
+    runs.Ended end w (touched (caller_use shelf (used source (g.C.Source.seen x)) (used (g.E.Sink.seen c.args.err.now) between)) (outputs trail out) (used clock (g.K.Clock.seen k)) calls)))) asked ran.ensures.ended in
     let unbegun : IsUnbegun end → (ran.result.control ≡ Some c.args.control) × IfSome ran.result.clock (λ k. IsReadOnce (used clock (g.K.Clock.seen k))) × (ran.result.fetchers ≡ c.args.fetchers) = ran.ensures.unbegun in
     both_told ran.result.clock ran.result.control c.args.control
     (λ k x e u.
-    let t = touched shelf out (used (g.E.Sink.seen c.args.err.now) (g.E.Sink.seen c.tell.new.err)) trail (used source (g.C.Source.seen x)) (used clock (g.K.Clock.seen k)) calls in
+    let t = touched (caller_use shelf (used source (g.C.Source.seen x)) (used (g.E.Sink.seen c.args.err.now) (g.E.Sink.seen c.tell.new.err))) (outputs trail out) (used clock (g.K.Clock.seen k)) calls in
     let is : c.status_at.result ≡ status_at (refusal_of end) = c.status_at.ensures ∙ search rules in
     let speaks : Speaks (refusal_of end) (file_said end r.file) (used between (g.E.Sink.seen c.tell.new.err)) = search rules in
     let said = later_said (refusal_of end) (file_said end r.file) (used between (g.E.Sink.seen c.tell.new.err)) speaks in

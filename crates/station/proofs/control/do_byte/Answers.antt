@@ -30,7 +30,7 @@ returns-clause-did g c =
     let u = used (g.E.Sink.seen c.args.err.now) (g.E.Sink.seen c.do_line-done.new.err) in
     let n = c.args.reader.now.before + 1 in
     if_map o (λ files h. feed_did {A = Unit {0}} (Ok tt) files jobs c.args.reader.now c.args.byte v w u (a_feed c.args.byte c.if-byte-ne10.false) h)
-    (subst (λ (line : List ℕ). IfSome o (λ files. HasDone (line_did files jobs n line) v w u)) c.deref.ensures.value (subst (λ (r : Result (Unit {0}) Stop). IfSome o (λ files. DoesSo r (line_did files jobs n c.deref.result.now) v w u)) c.in_default.is c.do_line-done.ensures.did))
+    (subst (λ (line : List ℕ). IfSome o (λ files. HasDone (line_did files jobs n line) (used v w) u)) c.deref.ensures.value (subst (λ (r : Result (Unit {0}) Stop). IfSome o (λ files. DoesSo r (line_did files jobs n c.deref.result.now) (used v w) u)) c.in_default.is c.do_line-done.ensures.did))
 
 pub returns-in-Err-done-clause-did : goal.returns-in-Err-done-clause-did
 returns-in-Err-done-clause-did g c =
@@ -42,5 +42,5 @@ returns-in-Err-done-clause-did g c =
     let n = c.args.reader.now.before + 1 in
     let d : Result (Unit {0}) Stop = Err c.in-Err-done.stop in
     if_map o (λ files h. feed_did d files jobs c.args.reader.now c.args.byte v w u (a_feed c.args.byte c.if-byte-ne10.false) h)
-    (subst (λ (line : List ℕ). IfSome o (λ files. DoesSo d (line_did files jobs n line) v w u)) c.deref.ensures.value
-    (subst (λ (r : Result (Unit {0}) Stop). IfSome o (λ files. DoesSo r (line_did files jobs n c.deref.result.now) v w u)) c.in-Err-done.is c.do_line-done.ensures.did))
+    (subst (λ (line : List ℕ). IfSome o (λ files. DoesSo d (line_did files jobs n line) (used v w) u)) c.deref.ensures.value
+    (subst (λ (r : Result (Unit {0}) Stop). IfSome o (λ files. DoesSo r (line_did files jobs n c.deref.result.now) (used v w) u)) c.in-Err-done.is c.do_line-done.ensures.did))

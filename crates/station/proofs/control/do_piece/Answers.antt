@@ -60,9 +60,9 @@ loop-byte-preserved g c =
       err_calm = (line_sound c.do_byte-done.result _ _ sound c.do_byte-done.ensures.stops).1 ∙ was.err_calm;
       few = omega (arith, was.few, c.do_byte-done.ensures.few);
       read = subst (λ (ys : List ℕ). HasRead ys r t) (sym more) (read_both r s t xs (b ∷ []) was.read (on_ok c.do_byte-done.result sound c.do_byte-done.ensures.read));
-      did = if_both o (λ files one next. subst (λ (ys : List ℕ). HasDone (piece_did files (jobs_known start v) r ys) v u (used e h)) (sym more) (piece_both {A = Unit {0}} (Ok tt) files start r s xs (b ∷ []) v w u e f h was.read one next)) was.did
+      did = if_both o (λ files one next. subst (λ (ys : List ℕ). HasDone (piece_did files (jobs_known start v) r ys) (used v u) (used e h)) (sym more) (piece_both {A = Unit {0}} (Ok tt) files start r s xs (b ∷ []) v w u e f h was.read one next)) was.did
           (if_map o (λ files done. does_ok c.do_byte-done.result sound done)
-          (subst (λ (p : Option (List StoredFile)). IfSome p (λ files. DoesSo c.do_byte-done.result (piece_did files (jobs_known start w) s (b ∷ [])) w u (used f h))) was.shelf.files c.do_byte-done.ensures.did));
+          (subst (λ (p : Option (List StoredFile)). IfSome p (λ files. DoesSo c.do_byte-done.result (piece_did files (jobs_known start w) s (b ∷ [])) (used w u) (used f h))) was.shelf.files c.do_byte-done.ensures.did));
     }
 
 pub returns-then-is_err-clause-err : goal.returns-then-is_err-clause-err
@@ -94,7 +94,7 @@ returns-then-is_err-clause-did g c =
     let more : take (c.loop-byte.byte-index + 1) all ≡ xs ++ b ∷ [] = take_more all c.loop-byte.byte-index 0 c.loop-byte-test.true in
     let whole : (xs ++ b ∷ []) ++ drop (c.loop-byte.byte-index + 1) all ≡ all = ap (λ (ys : List ℕ). ys ++ drop (c.loop-byte.byte-index + 1) all) (sym more) ∙ take-append-drop (c.loop-byte.byte-index + 1) all in
     if_both o
-    (λ files one next. subst (λ (ys : List ℕ). DoesSo d (piece_did files (jobs_known start v) r ys) v u (used e h)) whole
+    (λ files one next. subst (λ (ys : List ℕ). DoesSo d (piece_did files (jobs_known start v) r ys) (used v u) (used e h)) whole
     (piece_longer d files (jobs_known start v) r (xs ++ b ∷ []) (drop (c.loop-byte.byte-index + 1) all) v u (used e h) fails (piece_both d files start r s xs (b ∷ []) v w u e f h was.read one next)))
     was.did
-    (subst (λ (p : Option (List StoredFile)). IfSome p (λ files. DoesSo d (piece_did files (jobs_known start w) s (b ∷ [])) w u (used f h))) was.shelf.files c.do_byte-done.ensures.did)
+    (subst (λ (p : Option (List StoredFile)). IfSome p (λ files. DoesSo d (piece_did files (jobs_known start w) s (b ∷ [])) (used w u) (used f h))) was.shelf.files c.do_byte-done.ensures.did)

@@ -19,5 +19,5 @@ invariant-loop-byte g l = record {
   few : l.reader.before ≤ l.fn.reader.before + l.byte-index;
   read : HasRead (take l.byte-index l.piece) l.fn.reader l.reader;
   did : IfSome (g.S.Shelf.seen l.fn.shelf).files (λ files.
-      HasDone (piece_did files (jobs_known g.B.Asked.start (own_of l.fn.seat.pass)) l.fn.reader (take l.byte-index l.piece)) (own_of l.fn.seat.pass) (own_of l.seat.pass) (used (g.E.Sink.seen l.fn.err) (g.E.Sink.seen l.err)));
+      HasDone (piece_did files (jobs_known g.B.Asked.start (own_of l.fn.seat.pass)) l.fn.reader (take l.byte-index l.piece)) (used (own_of l.fn.seat.pass) (own_of l.seat.pass)) (used (g.E.Sink.seen l.fn.err) (g.E.Sink.seen l.err)));
 }

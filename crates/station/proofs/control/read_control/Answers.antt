@@ -58,7 +58,7 @@ returns-then-count-eq0-clause-did g c =
     let was = c.loop.invariant in
     eaten_done c.do_last.result start c.loop.given c.loop.reader (g.C.Source.seen c.loop.control).left v w u a b e s t (used b e) control was.eaten was.few
     (c.in-Ok-read.ensures.end (ap Ok c.if-count-eq0.true)) was.calm.0 refl c.do_last.ensures.ends
-    (subst (λ (p : Option (List StoredFile)). IfSome p (λ files. LastDoes c.do_last.result (last_did files (jobs_known start w) c.loop.reader) w u (used b e))) was.shelf.files c.do_last.ensures.did)
+    (subst (λ (p : Option (List StoredFile)). IfSome p (λ files. LastDoes c.do_last.result (last_did files (jobs_known start w) c.loop.reader) (used w u) (used b e))) was.shelf.files c.do_last.ensures.did)
 
 pub returns-in-Some-end_after-clause-did : goal.returns-in-Some-end_after-clause-did
 returns-in-Some-end_after-clause-did g c =
@@ -91,7 +91,7 @@ returns-in-Some-end_after-clause-did g c =
       cut_more n k (take k all) (drop k (take n room)) (take n room) all room (length-take k all) (length-take n room) c.in-Ok-read.ensures.within whole long,
     ))
     was.calm.0 refl c.do_piece-done.ensures.stops (sym c.end_after.ensures ∙ c.in-Some-end_after.is)
-    (subst (λ (p : Option (List StoredFile)). IfSome p (λ files. DoesSo d (piece_did files (jobs_known start w) c.loop.reader (take k all)) w u (used b e))) was.shelf.files c.do_piece-done.ensures.did)
+    (subst (λ (p : Option (List StoredFile)). IfSome p (λ files. DoesSo d (piece_did files (jobs_known start w) c.loop.reader (take k all)) (used w u) (used b e))) was.shelf.files c.do_piece-done.ensures.did)
 
 pub returns-then-count-eq0-clause-err : goal.returns-then-count-eq0-clause-err
 returns-then-count-eq0-clause-err g c = sink_then (g.E.Sink.seen c.args.err.now) (g.E.Sink.seen c.loop.err) (g.E.Sink.seen c.do_last.new.err) c.loop.invariant.err c.do_last.ensures.err
@@ -188,5 +188,5 @@ loop-preserved g c =
           (done_ok c.do_piece-done.result ok c.do_piece-done.ensures.read)
           (cut_whole n c.loop.given c.min-kept.result (length c.deref.result.now) _ c.min-kept.ensures within (length-take c.min-kept.result c.deref.result.now))
           (if_map o (λ files h. does_ok c.do_piece-done.result (err_none c.do_piece-done.result ok) h)
-          (subst (λ (p : Option (List StoredFile)). IfSome p (λ files. DoesSo c.do_piece-done.result (piece_did files (jobs_known start m) c.loop.reader (take c.min-kept.result c.deref.result.now)) m u (used b e))) c.loop.invariant.shelf.files c.do_piece-done.ensures.did));
+          (subst (λ (p : Option (List StoredFile)). IfSome p (λ files. DoesSo c.do_piece-done.result (piece_did files (jobs_known start m) c.loop.reader (take c.min-kept.result c.deref.result.now)) (used m u) (used b e))) c.loop.invariant.shelf.files c.do_piece-done.ensures.did));
     }

@@ -6,7 +6,7 @@ use Rattle.outside.specs.Objects.{used}
 use Rattle.run_lock.specs.Callers.{BeginsWith}
 use Rattle.run_lock.specs.Entries.{begun_with, seats_in}
 use Rattle.turn_lock.specs.Passes.{own_of}
-use Rattle.station.specs.Control.{RecordsCaller}
+use Rattle.station.specs.Control.{RecordsCaller, caller_use}
 use Rattle.station.proofs.CloseLemmas.{all_recorded, finished_first, ticker_records, whole_end}
 use Rattle.station.proofs.CrewLemmas.{and_parts}
 use Rattle.station.proofs.EndLemmas.{ends_over}
@@ -82,7 +82,7 @@ returns-clause-caller g c =
     let closed = c.close_run-whole.result in
     let control = used (g.C.Source.seen c.args.control) (g.C.Source.seen r.2.control) in
     subst
-    (λ (es : List Event). RecordsCaller es c.end_of.result (used (g.S.Shelf.seen c.args.shelf.now) (g.S.Shelf.seen c.shelf-1.given.0)) control closed.core (seats_in closed.marks.items) (used (g.E.Sink.seen c.args.err.now) (g.E.Sink.seen c.err-1.given.0)))
+    (λ (es : List Event). RecordsCaller es c.end_of.result (caller_use (used (g.S.Shelf.seen c.args.shelf.now) (g.S.Shelf.seen c.shelf-1.given.0)) control (used (g.E.Sink.seen c.args.err.now) (g.E.Sink.seen c.err-1.given.0))) closed.core (seats_in closed.marks.items))
     (sym c.requires.start)
     (tells_over g.S.Shelf.seen g.E.Sink.seen closed.whole r.2.end c.end_of.result (g.S.Shelf.seen c.args.shelf.now) (g.E.Sink.seen c.args.err.now) r.0.now _ r.1.now _ control g.B.Asked.start closed.core (seats_in closed.marks.items)
     (own_of c.in-Ok.opened.caller) (own_of r.2.pass) c.end_of.ensures (search rules) (search rules)

@@ -1,6 +1,7 @@
 use Rattle.std.proofs.Common.{drop, refl, subst}
 use Rattle.std.proofs.lemmas.List.{take_rest}
 use Rattle.outside.specs.Objects.{used}
+use Rattle.status_server.specs.Reloads.{basis}
 use Rattle.status_server.specs.Steps.{PutStep, StopsStep, site}
 use Rattle.status_server.specs.declared.connections.Step.TheVariants.{GoesOn, Ends}
 use Rattle.status_server.proofs.StepLemmas.{run-ends, run-goes, run-none, run-stops, site-stays, stays-then}
@@ -22,8 +23,8 @@ returns-in-Err-clause-stopped g c =
     let left = drop c.loop-stop.len c.args.bytes.now in
     run-stops c.in-Err.stop c.args.server.now (site s0 c.args.file.now) c.args.bytes.now c.loop-stop.len c.loop-stop.server c.answer_front.new.server o0 o1 o2
     c.loop-stop.invariant.run
-    (subst (λ x. StopsStep c.in-Err.stop c.loop-stop.server x left c.answer_front.new.server (used o1 o2)) (site-stays s0 s1 c.args.file.now c.loop-stop.invariant.stays)
-    (subst (λ t. StopsStep c.in-Err.stop c.loop-stop.server (site s1 c.args.file.now) t c.answer_front.new.server (used o1 o2)) (take_rest c.args.bytes.now c.loop-stop.len) c.in-Err.ensures.stopped))
+    (subst (λ x. StopsStep c.in-Err.stop (basis c.loop-stop.server x) left c.answer_front.new.server (used o1 o2)) (site-stays s0 s1 c.args.file.now c.loop-stop.invariant.stays)
+    (subst (λ t. StopsStep c.in-Err.stop (basis c.loop-stop.server (site s1 c.args.file.now)) t c.answer_front.new.server (used o1 o2)) (take_rest c.args.bytes.now c.loop-stop.len) c.in-Err.ensures.stopped))
 
 pub loop-stop-preserved : goal.loop-stop-preserved
 loop-stop-preserved g c =
@@ -36,10 +37,10 @@ loop-stop-preserved g c =
     record {
       run = run-goes c.args.server.now (site s0 c.args.file.now) c.args.bytes.now c.loop-stop.len c.in-Ok-GoesOn.more c.loop-stop.server c.answer_front.new.server o0 o1 o2
           c.loop-stop.invariant.run
-          (subst (λ x. PutStep c.loop-stop.server x left (GoesOn c.in-Ok-GoesOn.more) c.answer_front.new.server (used o1 o2))
+          (subst (λ x. PutStep (basis c.loop-stop.server x) left (GoesOn c.in-Ok-GoesOn.more) c.answer_front.new.server (used o1 o2))
           (site-stays s0 s1 c.args.file.now c.loop-stop.invariant.stays)
-          (subst (λ step. PutStep c.loop-stop.server (site s1 c.args.file.now) left step c.answer_front.new.server (used o1 o2)) c.in-Ok-GoesOn.field-0-is
-          (subst (λ t. PutStep c.loop-stop.server (site s1 c.args.file.now) t c.in-Ok-GoesOn.field-0 c.answer_front.new.server (used o1 o2)) (take_rest c.args.bytes.now c.loop-stop.len) c.in-Ok-GoesOn.ensures.put)));
+          (subst (λ step. PutStep (basis c.loop-stop.server (site s1 c.args.file.now)) left step c.answer_front.new.server (used o1 o2)) c.in-Ok-GoesOn.field-0-is
+          (subst (λ t. PutStep (basis c.loop-stop.server (site s1 c.args.file.now)) t c.in-Ok-GoesOn.field-0 c.answer_front.new.server (used o1 o2)) (take_rest c.args.bytes.now c.loop-stop.len) c.in-Ok-GoesOn.ensures.put)));
       stays = stays-then s0 s1 (g.S.Shelf.seen c.answer_front.new.shelf) c.loop-stop.invariant.stays c.in-Ok-GoesOn.ensures.stays;
     }
 
@@ -53,7 +54,7 @@ returns-in-Ok-Ends-clause-reached g c =
     let left = drop c.loop-stop.len c.args.bytes.now in
     run-ends c.args.server.now (site s0 c.args.file.now) c.args.bytes.now c.loop-stop.len c.loop-stop.server c.answer_front.new.server o0 o1 o2
     c.loop-stop.invariant.run
-    (subst (λ x. PutStep c.loop-stop.server x left Ends c.answer_front.new.server (used o1 o2))
+    (subst (λ x. PutStep (basis c.loop-stop.server x) left Ends c.answer_front.new.server (used o1 o2))
     (site-stays s0 s1 c.args.file.now c.loop-stop.invariant.stays)
-    (subst (λ step. PutStep c.loop-stop.server (site s1 c.args.file.now) left step c.answer_front.new.server (used o1 o2)) c.in-Ok-Ends.field-0-is
-    (subst (λ t. PutStep c.loop-stop.server (site s1 c.args.file.now) t c.in-Ok-Ends.field-0 c.answer_front.new.server (used o1 o2)) (take_rest c.args.bytes.now c.loop-stop.len) c.in-Ok-Ends.ensures.put)))
+    (subst (λ step. PutStep (basis c.loop-stop.server (site s1 c.args.file.now)) left step c.answer_front.new.server (used o1 o2)) c.in-Ok-Ends.field-0-is
+    (subst (λ t. PutStep (basis c.loop-stop.server (site s1 c.args.file.now)) t c.in-Ok-Ends.field-0 c.answer_front.new.server (used o1 o2)) (take_rest c.args.bytes.now c.loop-stop.len) c.in-Ok-Ends.ensures.put)))

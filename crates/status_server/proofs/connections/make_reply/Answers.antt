@@ -1,6 +1,7 @@
 use Rattle.std.proofs.Common.{◌∙◌, ap, append-nil, inr, refl, subst, sym}
 use Rattle.std.specs.Prelude.{[], ◌++◌}
 use Rattle.status_server.proofs.StepLemmas.{stepped-whole}
+use Rattle.status_server.specs.Reloads.{basis}
 use Rattle.status_server.specs.Replies.{reply}
 use Rattle.status_server.specs.Steps.{Stepped, site}
 use Rattle.status_server.specs.declared.replies.Status.TheVariants.{BadRequest}
@@ -21,6 +22,6 @@ returns-in_ok-push_reply-in-Never-clause-stepped g c = record {
 
 pub returns-in_ok-answer_request-in-Whole-clause-stepped : goal.returns-in_ok-answer_request-in-Whole-clause-stepped
 returns-in_ok-answer_request-in-Whole-clause-stepped g c =
-    subst (λ step. Stepped c.args.server.now (site (g.S.Shelf.seen c.args.shelf.now) c.args.file.now) c.args.bytes.now step c.answer_request.new.reply.items c.answer_request.new.server)
+    subst (λ step. Stepped (basis c.args.server.now (site (g.S.Shelf.seen c.args.shelf.now) c.args.file.now)) c.args.bytes.now step c.answer_request.new.reply.items c.answer_request.new.server)
     (sym c.behind.ensures)
-    (stepped-whole _ _ c.args.bytes.now c.in-Whole.request c.in-Whole.len _ _ (subst (IsFront c.args.bytes.now) c.in-Whole.is c.front_at.ensures) c.in_ok-answer_request-in-Whole.ensures.answered)
+    (stepped-whole c.args.server.now (site (g.S.Shelf.seen c.args.shelf.now) c.args.file.now) c.args.bytes.now c.in-Whole.request c.in-Whole.len _ _ (subst (IsFront c.args.bytes.now) c.in-Whole.is c.front_at.ensures) c.in_ok-answer_request-in-Whole.ensures.answered)

@@ -1,5 +1,6 @@
 use Rattle.std.proofs.Common.{◌≡◌, ◌∙◌, ◌+◌, ◌++◌, Ok, ap, arith, drop, subst, sym, take}
 use Rattle.outside.specs.Objects.{used}
+use Rattle.status_server.specs.Reloads.{basis}
 use Rattle.status_server.specs.Serving.{Serves, touched}
 use Rattle.status_server.specs.Steps.{Ended, Reached, Reaches, StopsIn, site}
 use Rattle.status_server.proofs.ServeLemmas.{Has, at-end, ended, goes-on, has-none, long, no-room, none-served, room-is, stopped}
@@ -57,7 +58,7 @@ returns-in-Err g c =
     c.deref-in-loop.ensures.value ∙ (c.in-Ok-extend_from_slice.ensures.items ∙ ap (λ t. c.loop.waiting.items ++ take kept t) whole) in
     subst (λ end. Serves end c.args.server.now c.args.file.now (touched (used s0 s2) (used c0 c2) (used o0 o2)) after) (sym c.end_of.ensures)
     (stopped c.args.server.now c.args.file.now c.loop.given c.loop.waiting.items c.loop.server s0 s1 c0 c1 c2 o0 o1 c.loop.invariant.has room n kept c.in-Ok-read.ensures.within c.min-kept.ensures c.in-Ok-read.ensures.gave after s2 o2 c.in-Err.stop
-    (subst (λ t. StopsIn c.in-Err.stop c.loop.server (site s1 c.args.file.now) t after (used o1 o2)) bytes c.in-Err.ensures.stopped)
+    (subst (λ t. StopsIn c.in-Err.stop (basis c.loop.server (site s1 c.args.file.now)) t after (used o1 o2)) bytes c.in-Err.ensures.stopped)
     c.in-Err.ensures.shelf)
 
 pub returns-in-Ok-None : goal.returns-in-Ok-None
@@ -79,8 +80,8 @@ returns-in-Ok-None g c =
     let bytes : c.deref-in-loop.result.now ≡ c.loop.waiting.items ++ take kept room =
     c.deref-in-loop.ensures.value ∙ (c.in-Ok-extend_from_slice.ensures.items ∙ ap (λ t. c.loop.waiting.items ++ take kept t) whole) in
     ended c.args.server.now c.args.file.now c.loop.given c.loop.waiting.items c.loop.server s0 s1 c0 c1 c2 o0 o1 c.loop.invariant.has room n kept c.in-Ok-read.ensures.within c.min-kept.ensures c.in-Ok-read.ensures.gave after s2 o2
-    (subst (λ t. Ended c.loop.server (site s1 c.args.file.now) t after (used o1 o2)) bytes
-    (subst (λ r. Reaches c.loop.server (site s1 c.args.file.now) c.deref-in-loop.result.now r after (used o1 o2)) c.in-Ok-None.field-0-is c.in-Ok-None.ensures.reached))
+    (subst (λ t. Ended (basis c.loop.server (site s1 c.args.file.now)) t after (used o1 o2)) bytes
+    (subst (λ r. Reaches (basis c.loop.server (site s1 c.args.file.now)) c.deref-in-loop.result.now r after (used o1 o2)) c.in-Ok-None.field-0-is c.in-Ok-None.ensures.reached))
     c.in-Ok-None.ensures.stays
 
 pub returns-then-kept-count : goal.returns-then-kept-count
@@ -102,8 +103,8 @@ returns-then-kept-count g c =
     let bytes : c.deref-in-loop.result.now ≡ c.loop.waiting.items ++ take kept room =
     c.deref-in-loop.ensures.value ∙ (c.in-Ok-extend_from_slice.ensures.items ∙ ap (λ t. c.loop.waiting.items ++ take kept t) whole) in
     long c.args.server.now c.args.file.now c.loop.given c.loop.waiting.items c.loop.server s0 s1 c0 c1 c2 o0 o1 c.loop.invariant.has room n kept c.in-Ok-read.ensures.within c.min-kept.ensures c.in-Ok-read.ensures.gave after s2 o2 c.in-Ok-Some.len
-    (subst (λ t. Reached c.loop.server (site s1 c.args.file.now) t c.in-Ok-Some.len after (used o1 o2)) bytes
-    (subst (λ r. Reaches c.loop.server (site s1 c.args.file.now) c.deref-in-loop.result.now r after (used o1 o2)) c.in-Ok-Some.field-0-is c.in-Ok-Some.ensures.reached))
+    (subst (λ t. Reached (basis c.loop.server (site s1 c.args.file.now)) t c.in-Ok-Some.len after (used o1 o2)) bytes
+    (subst (λ r. Reaches (basis c.loop.server (site s1 c.args.file.now)) c.deref-in-loop.result.now r after (used o1 o2)) c.in-Ok-Some.field-0-is c.in-Ok-Some.ensures.reached))
     c.in-Ok-Some.ensures.stays (omega (arith, c.if-kept-count.true))
 
 pub loop-preserved : goal.loop-preserved
@@ -125,8 +126,8 @@ loop-preserved g c =
     let bytes : c.deref-in-loop.result.now ≡ c.loop.waiting.items ++ take kept room =
     c.deref-in-loop.ensures.value ∙ (c.in-Ok-extend_from_slice.ensures.items ∙ ap (λ t. c.loop.waiting.items ++ take kept t) whole) in
     let next = goes-on c.args.server.now c.args.file.now c.loop.given c.loop.waiting.items c.loop.server s0 s1 c0 c1 c2 o0 o1 c.loop.invariant.has room n kept c.in-Ok-read.ensures.within c.min-kept.ensures c.in-Ok-read.ensures.gave after s2 o2 c.in-Ok-Some.len
-    (subst (λ t. Reached c.loop.server (site s1 c.args.file.now) t c.in-Ok-Some.len after (used o1 o2)) bytes
-    (subst (λ r. Reaches c.loop.server (site s1 c.args.file.now) c.deref-in-loop.result.now r after (used o1 o2)) c.in-Ok-Some.field-0-is c.in-Ok-Some.ensures.reached))
+    (subst (λ t. Reached (basis c.loop.server (site s1 c.args.file.now)) t c.in-Ok-Some.len after (used o1 o2)) bytes
+    (subst (λ r. Reaches (basis c.loop.server (site s1 c.args.file.now)) c.deref-in-loop.result.now r after (used o1 o2)) c.in-Ok-Some.field-0-is c.in-Ok-Some.ensures.reached))
     c.in-Ok-Some.ensures.stays (omega (arith, c.if-kept-count.false)) in
     let items : c.drop_front.new.waiting.items ≡ drop c.in-Ok-Some.len (c.loop.waiting.items ++ take kept room) =
     c.drop_front.ensures ∙ ap (λ t. drop c.in-Ok-Some.len t) (c.in-Ok-extend_from_slice.ensures.items ∙ ap (λ t. c.loop.waiting.items ++ take kept t) whole) in
