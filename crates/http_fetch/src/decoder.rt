@@ -79,7 +79,8 @@ fn count_of(body: &Vec<u8>) -> u64
 /// Goes over the bytes as far as they reach.
 fn run<'a>(place: Place, limit: u64, body: &mut Vec<u8>, text: &'a [u8]) -> Left<'a>
     requires { vec_len body.old + length text.now ≤ vec_capacity body.old }
-    ensures leads { Fits place.stage limit body.old.items → Leads limit (decoding place.stage body.old.items text.now) (decoding result.stage body.new.items result.rest.now) }
+    ensures leads { Fits place.stage limit body.old.items →
+        Leads limit (decoding place.stage body.old.items text.now) (decoding result.stage body.new.items result.rest.now) }
     ensures waits { Fits place.stage limit body.old.items → Waits result.stage result.rest.now }
     ensures short { Fits place.stage limit body.old.items → is_done result.stage ≡ false → IsShort result.rest.now }
     ensures rest { LeavesOff text.now result.rest.now }
