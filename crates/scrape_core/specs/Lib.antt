@@ -1,4 +1,5 @@
 pub mod Kept
+pub mod Laws
 pub mod OpenLives
 pub mod ReadEvents
 pub mod Readers

@@ -1,26 +1,16 @@
 //! The calls that take an event and say, beside what `take` says of it, what that means for a dashboard.
 //!
-//! The clauses that these calls add are laws of `scrape_laws`, which hold of every journal: each closed run of a tracked series in a life has exactly
-//! one stale marker, after it, and no marker stands elsewhere (`markers`, `closed_runs`); the report markers are those of endings (`report_markers`);
-//! a finish that doesn't count adds nothing, at each front of the journal (`late`); what a life keeps from scrape to scrape is what its scrapes that
-//! counted say (`past`); an event that is nothing to a life, an idle scan and a refused event leave the life as it is
-//! (`nothing`, `undisturbed`, `idle`, `refused`); lives that meet the same go alike (`apart`, `runs`), so that a reload doesn't tear the lives that
-//! it leaves alone (`reload`). Each relabelling run takes one step (`steps`).
+//! What these calls add is one record of the laws of `scrape_laws`, which hold of every journal (`laws`: `specs/Laws.antt`). Each relabelling run
+//! takes one step (`steps`).
 //!
 //! Who calls one of them pays for reading all that in its proof, so the crates above call `take` and `take_read`.
 ghost use Rattle.std.specs.Prelude.{◌≡◌, ◌+◌, ◌≤◌, ℕ, List, ◌++◌, [], ◌∷◌, IfOk, OnOk, OnErr};
-ghost use Rattle.label_set.specs.declared.texts.Pair.{Pair};
 ghost use Rattle.journal_text.specs.declared.events.Event.{Event};
 ghost use Rattle.journal_text.specs.Events.{IsInLimits, MayFollow, now_of};
 ghost use Rattle.scrape_machine.specs.Machine as spec;
 ghost use Rattle.scrape_machine.specs.Runs as relabelling;
+ghost use Rattle.scrape_core.specs.Laws.{StepLaws};
 ghost use Rattle.scrape_core.specs.ReadEvents.{finish_with};
-ghost use Rattle.scrape_laws.specs.Markers.{MarkerLaw, ReportMarkerLaw};
-ghost use Rattle.scrape_laws.specs.Runs.{ClosedRunsLaw};
-ghost use Rattle.scrape_laws.specs.Late.{LateFronts};
-ghost use Rattle.scrape_laws.specs.Past.{PastLaw};
-ghost use Rattle.scrape_laws.specs.Undisturbed.{NothingLaw, UndisturbedLaw, IdleLaw, RefusedLaw};
-ghost use Rattle.scrape_laws.specs.Apart.{ApartLaw, ApartRunsLaw, ReloadLaw};
 
 use super::Core;
 use expo_reader::ReadBody;
@@ -33,6 +23,21 @@ use scrape_loop::ReadReply;
 use scrape_machine::Answer;
 use std::alloc::Global;
 use std::sync::ledger::Ledger;
+
+/// What the laws say of each step.
+fn step_laws()
+    ensures { (before : List Event) (e : Event) (after : List Event) → StepLaws before e after }
+{
+    markers();
+    closed_runs();
+    report_markers();
+    late();
+    past();
+    nothing();
+    undisturbed();
+    lives_apart();
+    reloads();
+}
 
 impl Core {
     /// Takes an event: the answer is the defined one after the journal, which then ends with the event, and the book is that of the new journal.
@@ -49,31 +54,12 @@ impl Core {
         ensures answer { IfOk result (λ a. a ≡ spec.answer (spec.world_of self.old) event) }
         ensures joined { OnOk result (self.new ≡ self.old ++ event ∷ []) }
         ensures err { OnErr result (self.new ≡ self.old) }
-        ensures markers { MarkerLaw self.new }
-        ensures closed_runs { (n : ℕ) (x : List Pair) → ClosedRunsLaw self.new n x }
-        ensures report_markers { ReportMarkerLaw self.new }
-        ensures late { LateFronts self.new }
-        ensures past { PastLaw self.new }
-        ensures nothing { NothingLaw (spec.world_of self.old) event }
-        ensures undisturbed { UndisturbedLaw self.old event }
-        ensures idle { IdleLaw self.old event }
-        ensures refused { RefusedLaw self.old event }
-        ensures apart { ApartLaw self.old event }
-        ensures runs { (other : List Event) → ApartRunsLaw self.new other }
-        ensures reload { ReloadLaw self.old event }
+        ensures laws { StepLaws self.old event self.new }
         ensures steps { OnOk result (steps.new ≡ steps.old + relabelling.runs (spec.world_of self.old) event) }
         ensures at_least { steps.old ≤ steps.new }
         ensures at_most { steps.new ≤ steps.old + relabelling.runs (spec.world_of self.old) event }
     {
-        markers();
-        closed_runs();
-        report_markers();
-        late();
-        past();
-        nothing();
-        undisturbed();
-        lives_apart();
-        reloads();
+        step_laws();
         self.take(alloc, event, steps)
     }
 
@@ -94,32 +80,13 @@ impl Core {
         ensures answer { IfOk result (λ a. a ≡ spec.answer (spec.world_of self.old) (finish_with ticket took body.form status body.bytes)) }
         ensures joined { OnOk result (self.new ≡ self.old ++ finish_with ticket took body.form status body.bytes ∷ []) }
         ensures err { OnErr result (self.new ≡ self.old) }
-        ensures markers { MarkerLaw self.new }
-        ensures closed_runs { (n : ℕ) (x : List Pair) → ClosedRunsLaw self.new n x }
-        ensures report_markers { ReportMarkerLaw self.new }
-        ensures late { LateFronts self.new }
-        ensures past { PastLaw self.new }
-        ensures nothing { NothingLaw (spec.world_of self.old) (finish_with ticket took body.form status body.bytes) }
-        ensures undisturbed { UndisturbedLaw self.old (finish_with ticket took body.form status body.bytes) }
-        ensures idle { IdleLaw self.old (finish_with ticket took body.form status body.bytes) }
-        ensures refused { RefusedLaw self.old (finish_with ticket took body.form status body.bytes) }
-        ensures apart { ApartLaw self.old (finish_with ticket took body.form status body.bytes) }
-        ensures runs { (other : List Event) → ApartRunsLaw self.new other }
-        ensures reload { ReloadLaw self.old (finish_with ticket took body.form status body.bytes) }
+        ensures laws { StepLaws self.old (finish_with ticket took body.form status body.bytes) self.new }
         ensures steps { OnOk result (steps.new ≡
             steps.old + relabelling.runs (spec.world_of self.old) (finish_with ticket took body.form status body.bytes)) }
         ensures at_least { steps.old ≤ steps.new }
         ensures at_most { steps.new ≤ steps.old + relabelling.runs (spec.world_of self.old) (finish_with ticket took body.form status body.bytes) }
     {
-        markers();
-        closed_runs();
-        report_markers();
-        late();
-        past();
-        nothing();
-        undisturbed();
-        lives_apart();
-        reloads();
+        step_laws();
         self.take_read(
             alloc,
             ticket,
